@@ -1,0 +1,47 @@
+-- What holds of every answer that is no refusal.
+use mathlib.Core.Path.{_≡_, refl}
+use mathlib.Core.Bool.{Bool, true, false}
+use Rattle.spec.specs.Bytes.{if_then_else_, _>>=_, _>>_, require_or_}
+use Rattle.spec.specs.Numbers.{Answer, refuse, good}
+use Rattle.spec.specs.declared.Refusal.{Refusal}
+
+abbrev pub Always : {A : Type 0} → (A → Type 0) → Answer A → Type 0
+Always Q (refuse n) = Unit {0}
+Always Q (good a) = Q a
+
+pub always-bind : {A B : Type 0} (R : A → Type 0) (Q : B → Type 0) (m : Answer A) (f : A → Answer B)
+    → Always R m → ((a : A) → R a → Always Q (f a)) → Always Q (m >>= f)
+unfolding _>>=_
+always-bind R Q (refuse n) f h k = tt
+always-bind R Q (good a) f h k = k a h
+
+pub always-any : {A B : Type 0} (Q : B → Type 0) (m : Answer A) (f : A → Answer B) → ((a : A) → Always Q (f a)) → Always Q (m >>= f)
+unfolding _>>=_
+always-any Q (refuse n) f k = tt
+always-any Q (good a) f k = k a
+
+pub always-then : {A B : Type 0} (R : A → Type 0) (Q : B → Type 0) (m : Answer A) (k : Answer B)
+    → Always R m → ((a : A) → R a → Always Q k) → Always Q (m >> k)
+unfolding _>>_
+always-then R Q (refuse n) k h f = tt
+always-then R Q (good a) k h f = f a h
+
+pub always-after : {A B : Type 0} (Q : B → Type 0) (m : Answer A) (k : Answer B) → Always Q k → Always Q (m >> k)
+unfolding _>>_
+always-after Q (refuse n) k f = tt
+always-after Q (good a) k f = f
+
+pub always-test : (Q : Unit {0} → Type 0) (b : Bool) (n : Refusal) → (b ≡ true → Q tt) → Always Q (require b or n)
+unfolding require_or_
+always-test Q true n k = k refl
+always-test Q false n k = tt
+
+pub always-require : {B : Type 0} (Q : B → Type 0) (b : Bool) (n : Refusal) (m : Answer B) → (b ≡ true → Always Q m) → Always Q ((require b or n) >> m)
+unfolding _>>_ require_or_
+always-require Q true n m k = k refl
+always-require Q false n m k = tt
+
+pub always-if : {B : Type 0} (Q : B → Type 0) (b : Bool) (m k : Answer B) → (b ≡ true → Always Q m) → (b ≡ false → Always Q k) → Always Q (if b then m else k)
+unfolding if_then_else_
+always-if Q true m k h g = h refl
+always-if Q false m k h g = g refl

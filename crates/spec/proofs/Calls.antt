@@ -1,0 +1,175 @@
+-- From calls to events: what a call reports, by document 01's table, and that the bytes that a document's steps wrote are the lines
+-- of its accepted events.
+use mathlib.Core.Path.{_≡_, refl, sym, _∙_, ap}
+use mathlib.Core.Logic.{_⊎_, inl, inr}
+use mathlib.Core.Bool.{Bool, true, false}
+use mathlib.Core.Option.{Option, none, some}
+use mathlib.Core.List.{List, [], _∷_, _++_, append-assoc, append-nil}
+use Prim.Native.Nat.{ℕ}
+use lib.Dec.{leb}
+use lib.ListN.{length}
+use Rattle.spec.specs.Bytes.{Bytes, _>>=_, _>>_, require_or_}
+use Rattle.spec.specs.Numbers.{Effect, stays-open, unchanged, becomes-closed, effect, closes, Answer, refuse, good}
+use Rattle.spec.specs.declared.Refusal.{Refusal}
+use Rattle.spec.specs.declared.Refusal.the-variants.{NoRoom, BadState, Closed}
+use Rattle.spec.specs.Pyx.{Event, readEvent}
+use Rattle.spec.specs.PyxCut.{Cut, cut}
+use Rattle.spec.specs.NTriples.{Triple, write, line}
+use Rattle.spec.specs.Document.{Doc, fresh}
+use Rattle.spec.specs.RdfXml.{next, finish}
+use Rattle.spec.specs.Lists.{After, here, event}
+use Rattle.spec.specs.Calls.{State, isOpen, isClosed, unlawful, Report, markClosed, markedBy, refused, refusedIn, mayStart, started, callStart, firstEvent, Accepted, accept, stepped, callStep, finished, callFinish}
+use Rattle.spec.proofs.PyxCut.{cut-final}
+
+-- ---- a step on an open document
+
+-- an event done, or a refusal by the table
+pub data Reported (d : Doc) : Report → Type 0 where
+  did : (bytes : Bytes) (e : Event) (us : List Triple) (d′ : Doc) → readEvent bytes ≡ good e → next e d ≡ good (us, d′)
+      → Reported d (record { answer = 0; consumed = length bytes; output = write us; behind = isOpen d′ })
+  gave : (r : Refusal) → Reported d (refusedIn (isOpen d) r)
+
+accept-reported : (bytes : Bytes) (room : ℕ) (d : Doc) → Reported d (stepped d (accept bytes room d))
+unfolding accept stepped _>>=_ _>>_ require_or_
+accept-reported bytes room d = on-read (readEvent bytes) refl
+  where
+    on-room : (e : Event) (s : List Triple × Doc) → readEvent bytes ≡ good e → next e d ≡ good s → (b : Bool)
+        → Reported d (stepped d ((require b or NoRoom) >> good (record { size = length bytes; lines = write (s .0); behind = s .1 })))
+    on-room e s p q true = did bytes e (s .0) (s .1) p q
+    on-room e s p q false = gave NoRoom
+
+    on-next : (e : Event) (a : Answer (List Triple × Doc)) → readEvent bytes ≡ good e → next e d ≡ a
+        → Reported d (stepped d (a >>= λ s. (require leb (length (write (s .0))) room or NoRoom) >> good (record { size = length bytes; lines = write (s .0); behind = s .1 })))
+    on-next e (refuse r) p q = gave r
+    on-next e (good s) p q = on-room e s p q (leb (length (write (s .0))) room)
+
+    on-read : (a : Answer Event) → readEvent bytes ≡ a
+        → Reported d (stepped d (a >>= λ e. next e d >>= λ s. (require leb (length (write (s .0))) room or NoRoom) >> good (record { size = length bytes; lines = write (s .0); behind = s .1 })))
+    on-read (refuse r) p = gave r
+    on-read (good e) p = on-next e (next e d) p refl
+
+pub reported : (last : Bool) (s : Bytes) (room : ℕ) (d : Doc) → Reported d (callStep last s room (isOpen d))
+unfolding callStep stepped _>>=_
+reported last s room d = go (firstEvent (cut last s))
+  where
+    go : (a : Answer Bytes) → Reported d (stepped d (a >>= λ bytes. accept bytes room d))
+    go (refuse r) = gave r
+    go (good bytes) = accept-reported bytes room d
+
+-- ---- every call, by the table
+
+-- done, or a refusal that consumes 0, writes 0, and leaves the state as the column "Document" says
+abbrev pub ByTable : State → Report → Type 0
+ByTable t r = (r .answer ≡ 0) ⊎ ((x : Refusal) × (r ≡ refusedIn t x))
+
+pub step-by-table : (last : Bool) (s : Bytes) (room : ℕ) (t : State) → ByTable t (callStep last s room t)
+unfolding callStep
+step-by-table last s room unlawful = inr (BadState, refl)
+step-by-table last s room (isClosed d) = inr (Closed, refl)
+step-by-table last s room (isOpen d) = go (callStep last s room (isOpen d)) (reported last s room d)
+  where
+    go : (r : Report) → Reported d r → ByTable (isOpen d) r
+    go r (did bytes e us d′ p q) = inl refl
+    go r (gave x) = inr (x, refl)
+
+pub finish-by-table : (t : State) → ByTable t (callFinish t)
+unfolding callFinish finished
+finish-by-table unlawful = inr (BadState, refl)
+finish-by-table (isClosed d) = inr (Closed, refl)
+finish-by-table (isOpen d) = go (finish d)
+  where
+    go : (a : Answer (Unit {0})) → ByTable (isOpen d) (finished d a)
+    go (refuse x) = inr (x, refl)
+    go (good u) = inl refl
+
+-- start, refused, changes nothing, whatever the number
+pub start-by-table : (lengths : Bool) (b : Option Bytes) (t : State) → (callStart lengths b t .answer ≡ 0) ⊎ ((x : Refusal) × (callStart lengths b t ≡ refused x t))
+unfolding callStart started
+start-by-table lengths b t = go (mayStart lengths b)
+  where
+    go : (a : Answer (Unit {0})) → (started b t a .answer ≡ 0) ⊎ ((x : Refusal) × (started b t a ≡ refused x t))
+    go (refuse x) = inr (x, refl)
+    go (good u) = inl refl
+
+-- every non-zero answer consumes 0 and writes 0
+pub zero-counts : (t : State) (r : Report) → ByTable t r → (r .answer ≡ 0 → ⊥) → (r .consumed ≡ 0) × (r .output ≡ [])
+unfolding refusedIn refused
+zero-counts t r (inl e) h = absurd (h e)
+zero-counts t r (inr (x, e)) h = (ap (λ (q : Report). q .consumed) e, ap (λ (q : Report). q .output) e)
+
+-- 3 and 4 change nothing
+pub three-changes-nothing : (t : State) → refusedIn t BadState .behind ≡ t
+unfolding refusedIn refused markedBy
+three-changes-nothing t = refl
+
+pub four-changes-nothing : (t : State) → refusedIn t Closed .behind ≡ t
+unfolding refusedIn refused markedBy
+four-changes-nothing t = refl
+
+-- the mark is all that a closing refusal changes, and the others leave an open document open and as it was
+pub only-the-mark : (t : State) (x : Refusal) → ((closes x ≡ true) × (refusedIn t x .behind ≡ markClosed t)) ⊎ ((closes x ≡ false) × (refusedIn t x .behind ≡ t))
+unfolding refusedIn refused markedBy
+only-the-mark t x = go (effect x) refl
+  where
+    go : (m : Effect) → effect x ≡ m → ((closes x ≡ true) × (markedBy (effect x) t ≡ markClosed t)) ⊎ ((closes x ≡ false) × (markedBy (effect x) t ≡ t))
+    go stays-open e = inr (rw e, rw e)
+    go unchanged e = inr (rw e, rw e)
+    go becomes-closed e = inl (rw e, rw e)
+
+-- ---- what a document's steps write
+
+-- the steps of a document, whatever bytes and room each was given: the state behind them, and all bytes written
+pub data Steps (b : Option Bytes) : State → Bytes → Type 0 where
+  at-start : Steps b (isOpen (fresh b)) []
+  and-step : {t : State} {w : Bytes} → Steps b t w → (last : Bool) (s : Bytes) (room : ℕ)
+      → Steps b (callStep last s room t .behind) (w ++ callStep last s room t .output)
+
+write-append : (ts us : List Triple) → write (ts ++ us) ≡ write ts ++ write us
+unfolding write
+write-append [] us = refl
+write-append (t ∷ ts) us = ap (λ (x : Bytes). line t ++ x) (write-append ts us) ∙ sym (append-assoc (line t) (write ts) (write us))
+
+abbrev WrittenIn : Option Bytes → Doc → Bytes → Type 0
+WrittenIn b d w = (ts : List Triple) × After (fresh b) d ts × (w ≡ write ts)
+
+-- the lines of accepted events lead to the document; no document's steps lead to a state that the rules do not allow
+abbrev pub Written : Option Bytes → State → Bytes → Type 0
+Written b (isOpen d) w = WrittenIn b d w
+Written b (isClosed d) w = WrittenIn b d w
+Written b unlawful w = ⊥
+
+written-marked : (b : Option Bytes) (m : Effect) (d : Doc) (w : Bytes) → WrittenIn b d w → Written b (markedBy m (isOpen d)) w
+unfolding markedBy markClosed
+written-marked b stays-open d w h = h
+written-marked b unchanged d w h = h
+written-marked b becomes-closed d w h = h
+
+written-step : (b : Option Bytes) (d : Doc) (w : Bytes) (r : Report) → Reported d r → WrittenIn b d w → Written b (r .behind) (w ++ r .output)
+unfolding refusedIn refused
+written-step b d w r (did bytes e us d′ p q) h = (h .0 ++ us, event (h .1) e d′ us q, rw (h .2) (sym (write-append (h .0) us)))
+written-step b d w r (gave x) h = written-marked b (effect x) d (w ++ []) (h .0, h .1, append-nil w ∙ h .2)
+
+-- all bytes that a document's steps wrote are the lines of its accepted events
+pub written : (b : Option Bytes) (t : State) (w : Bytes) → Steps b t w → Written b t w
+unfolding write callStep refusedIn refused markedBy
+written b t w at-start = ([], here, refl)
+written b t w (and-step {t = isOpen d} {w = w₀} h last s room) = written-step b d w₀ _ (reported last s room d) (written b (isOpen d) w₀ h)
+written b t w (and-step {t = isClosed d} {w = w₀} h last s room) =
+    let k : WrittenIn b d w₀ = written b (isClosed d) w₀ h in
+    (k .0, k .1, append-nil w₀ ∙ k .2)
+written b t w (and-step {t = unlawful} {w = w₀} h last s room) = absurd (written b unlawful w₀ h)
+
+-- no state that a document's steps reach is against the rules
+pub always-lawful : (b : Option Bytes) (w : Bytes) → Steps b unlawful w → ⊥
+always-lawful b w h = written b unlawful w h
+
+-- ---- later bytes
+
+-- an answer other than 1 stays as it is, whatever bytes follow
+pub step-final : (last : Bool) (s t : Bytes) (room : ℕ) (q : State) → (callStep false s room q .answer ≡ 1 → ⊥) → callStep last (s ++ t) room q ≡ callStep false s room q
+unfolding callStep stepped firstEvent refusedIn refused _>>=_
+step-final last s t room unlawful h = refl
+step-final last s t room (isClosed d) h = refl
+step-final last s t room (isOpen d) h =
+    let step : Cut → Report = λ c. stepped d (firstEvent c >>= λ bytes. accept bytes room d) in
+    ap step (cut-final last s t λ e. h (ap (λ (c : Cut). step c .answer) e))

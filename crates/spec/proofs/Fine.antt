@@ -1,0 +1,230 @@
+-- Demand 3: the reader's triples have no space in a label or a tag, so different sequences of them have different bytes; and no
+-- cell is in two lists.
+use mathlib.Core.Path.{_≡_, refl, sym, _∙_, ap, subst}
+use mathlib.Core.Logic.{inl, inr}
+use mathlib.Core.Bool.{Bool, true, false, _&&_, _||_, not, false≢true, true≢false}
+use mathlib.Core.Option.{Option, none, some, Option·none-ne-some, Option·some-injective}
+use mathlib.Core.List.{List, [], _∷_, map}
+use Prim.Native.Nat.{ℕ, suc, _+_}
+use native.Mathlib.Omega.{arith}
+use lib.Dec.{eqb, leb}
+use lib.ListN.{length}
+use borrow.Author.Tests.{ne-eqb, not-true, leb-true}
+use Rattle.spec.specs.Bytes.{Bytes, byte, every, if_then_else_, between, onto}
+use Rattle.spec.specs.Bytes as B
+use Rattle.spec.specs.Grammar.{Grammar, nothing, empty, one, _or_, _then_, many, Describes, Many, stop, more}
+use Rattle.spec.proofs.Booleans.{and-left, and-right, and-both}
+use Rattle.spec.proofs.Grammar.{accepts-sound}
+use Rattle.spec.specs.Abnf.{lower}
+use Rattle.spec.specs.Abnf as A
+use Rattle.spec.specs.Rfc5646.{isLanguageTag, language-tag}
+use Rattle.spec.specs.Rfc5646 as L
+use Rattle.spec.specs.Utf8 as U
+use Rattle.spec.specs.Utf8.{goesOn, beginsWithOne, sequences, fits, character, charactersOf, characters, inFront, holdsOf, asCharacters}
+use Rattle.spec.specs.XmlNames.{isNCName, isName, isNameChar, isNameStart, noColon}
+use Rattle.spec.specs.XmlNames as N
+use Rattle.spec.specs.NTriples.{Triple, digits, label, write}
+use Rattle.spec.specs.Document.{Doc, fresh}
+use Rattle.spec.specs.Lists.{After}
+use Rattle.spec.proofs.Labels.{every-append, all-digits}
+use Rattle.spec.proofs.Subjects.{Rule, OfLines, no-line, with-line}
+use Rattle.spec.proofs.Lists.{Family, kept}
+use Rattle.spec.proofs.Written.{notSpace, FineSubject, FineTerm, FineTriples, write-injective}
+
+-- a test that fails at the space, and passes at c, tells that c is no space
+not-space : (p : ℕ → Bool) → p 32 ≡ false → (c : ℕ) → p c ≡ true → notSpace c ≡ true
+unfolding notSpace
+not-space p h c k = rw (ne-eqb c 32 λ e. true≢false (sym k ∙ (ap p e ∙ h)))
+
+every-map : (p q : ℕ → Bool) → ((c : ℕ) → p c ≡ true → q c ≡ true) → (s : Bytes) → every p s ≡ true → every q s ≡ true
+unfolding every
+every-map p q f [] h = refl
+every-map p q f (c ∷ s) h = and-both (q c) (every q s) (f c (and-left (p c) (every p s) h)) (every-map p q f s (and-right (p c) (every p s) h))
+
+-- ---- names: a space byte is a character by itself, and no name has it
+
+-- no sequence begins with a space
+abbrev Heads : List Bytes → Type 0
+Heads [] = Unit {0}
+Heads ([] ∷ ls) = Heads ls
+Heads ((b ∷ l) ∷ ls) = (notSpace b ≡ true) × Heads ls
+
+goes-on-fine : (b : ℕ) → goesOn b ≡ true → notSpace b ≡ true
+unfolding goesOn U.all
+goes-on-fine b h = not-space goesOn refl b h
+
+heads-onto : (b : ℕ) (ls : List Bytes) → Heads (onto b ls) → notSpace b ≡ true
+unfolding onto
+heads-onto b [] h = h .0
+heads-onto b (l ∷ ls) h = h .0
+
+-- the first sequence begins with the first byte
+pub first-byte : (b : ℕ) (s : Bytes) → (l : Bytes) × (ls : List Bytes) × (sequences (b ∷ s) ≡ (b ∷ l) ∷ ls)
+unfolding sequences onto if_then_else_
+first-byte b s = go (beginsWithOne s) (sequences s)
+  where
+    go : (g : Bool) (ls : List Bytes) → (l : Bytes) × (ks : List Bytes) × ((if g then onto b ls else ((b ∷ []) ∷ ls)) ≡ (b ∷ l) ∷ ks)
+    go true [] = ([], [], refl)
+    go true (l ∷ ls) = (l, ls, refl)
+    go false ls = ([], ls, refl)
+
+-- what is behind a byte that goes on begins fine
+heads-behind : (b : ℕ) (s : Bytes) → beginsWithOne s ≡ true → Heads (onto b (sequences s)) → Heads (sequences s)
+unfolding beginsWithOne onto
+heads-behind b [] g h = absurd (false≢true g)
+heads-behind b (c ∷ s) g h =
+    let f = first-byte c s in
+    rw (f .2) (goes-on-fine c g, (rw (f .2) at h) .1)
+
+heads-fine : (s : Bytes) → Heads (sequences s) → every notSpace s ≡ true
+unfolding every sequences if_then_else_
+heads-fine [] h = refl
+heads-fine (b ∷ s) h = go (beginsWithOne s) refl (heads-fine s) h
+  where
+    go : (g : Bool) → beginsWithOne s ≡ g → (Heads (sequences s) → every notSpace s ≡ true)
+        → Heads (if g then onto b (sequences s) else ((b ∷ []) ∷ sequences s)) → every notSpace (b ∷ s) ≡ true
+    go true e ih h = and-both (notSpace b) (every notSpace s) (heads-onto b (sequences s) h) (ih (heads-behind b s e h))
+    go false e ih h = and-both (notSpace b) (every notSpace s) (h .0) (ih (h .1))
+
+-- no sequence of several bytes begins with a space
+no-fit : (k : ℕ) → fits 32 (suc (suc k)) ≡ false
+unfolding U.all
+no-fit k = go (eqb (suc (suc k)) 1) (between 2 4 (suc (suc k))) (eqb 0 (suc (suc k))) (ne-eqb (suc (suc k)) 1 λ e. omega arith) (ne-eqb 0 (suc (suc k)) λ e. omega arith)
+  where
+    go : (p q r : Bool) → p ≡ false → r ≡ false → ((p && true) || (q && r)) ≡ false
+    go true q r h g = absurd (true≢false h)
+    go false true r h g = g
+    go false false r h g = refl
+
+space-alone : (l : Bytes) (c : ℕ) → character (32 ∷ l) ≡ some c → 32 ≡ c
+unfolding character U.all
+space-alone [] c h = Option·some-injective 32 c h
+space-alone (x ∷ l) c h = absurd (Option·none-ne-some c (rw (no-fit (length l), character) at h))
+
+character-fine : (b : ℕ) (l : Bytes) (c : ℕ) → character (b ∷ l) ≡ some c → isNameChar c ≡ true → notSpace b ≡ true
+unfolding notSpace N.all
+character-fine b l c h k = rw (ne-eqb b 32 λ e. false≢true (ap isNameChar (space-alone l c (rw e at h)) ∙ k))
+
+heads-of : (ls : List Bytes) (cs : List ℕ) → charactersOf ls ≡ some cs → every isNameChar cs ≡ true → Heads ls
+unfolding charactersOf inFront every
+heads-of [] cs h k = tt
+heads-of (l ∷ ls) cs h k = go (character l) (charactersOf ls) refl refl h (heads-of ls)
+  where
+    part : (l : Bytes) (c : ℕ) → character l ≡ some c → isNameChar c ≡ true → Heads ls → Heads (l ∷ ls)
+    part [] c e f g = g
+    part (b ∷ l) c e f g = (character-fine b l c e f, g)
+
+    go : (x : Option ℕ) (y : Option (List ℕ)) → character l ≡ x → charactersOf ls ≡ y → inFront x y ≡ some cs
+        → ((cs : List ℕ) → charactersOf ls ≡ some cs → every isNameChar cs ≡ true → Heads ls) → Heads (l ∷ ls)
+    go none y e f h ih = absurd (Option·none-ne-some cs h)
+    go (some c) none e f h ih = absurd (Option·none-ne-some cs h)
+    go (some c) (some ds) e f h ih =
+        let j : every isNameChar (c ∷ ds) ≡ true = subst (λ (x : List ℕ). every isNameChar x ≡ true) (sym (Option·some-injective (c ∷ ds) cs h)) k in
+        part l c e (and-left (isNameChar c) (every isNameChar ds) j) (ih ds f (and-right (isNameChar c) (every isNameChar ds) j))
+
+pub name-chars : (cs : List ℕ) → isName cs ≡ true → every isNameChar cs ≡ true
+unfolding isName isNameChar every
+name-chars [] h = absurd (false≢true h)
+name-chars (c ∷ cs) h = go (isNameStart c) refl h
+  where
+    go : (b : Bool) → isNameStart c ≡ b → (b && every isNameChar cs) ≡ true → every isNameChar (c ∷ cs) ≡ true
+    go true e h = rw e h
+    go false e h = absurd (false≢true h)
+
+ncname-fine : (l : Bytes) → isNCName l ≡ true → every notSpace l ≡ true
+unfolding isNCName asCharacters characters holdsOf
+ncname-fine l h = go (charactersOf (sequences l)) refl (and-left (asCharacters isName l) (noColon l) h)
+  where
+    go : (x : Option (List ℕ)) → charactersOf (sequences l) ≡ x → holdsOf isName x ≡ true → every notSpace l ≡ true
+    go none e h = absurd (false≢true h)
+    go (some cs) e h = heads-fine l (heads-of (sequences l) cs e (name-chars cs h))
+
+label-fine : (n : ℕ) → every notSpace (label n) ≡ true
+unfolding label every B.all notSpace
+label-fine n = every-map (between 48 57) notSpace (not-space (between 48 57) refl) (digits 8 n) (all-digits 8 n)
+
+-- ---- a grammar none of whose classes takes a byte
+
+unfoldable pub avoids : ℕ → Grammar ℕ → Bool
+avoids b nothing = true
+avoids b empty = true
+avoids b (one q) = not (q b)
+avoids b (g or h) = avoids b g && avoids b h
+avoids b (g then h) = avoids b g && avoids b h
+avoids b (many g) = avoids b g
+
+without : (g : Grammar ℕ) (s : List ℕ) → avoids 32 g ≡ true → Describes g s → every notSpace s ≡ true
+unfolding every avoids
+without nothing s w d = absurd d
+without empty s w d = rw d
+without (one q) s w d = rw (d .1) (and-both (notSpace (d .0)) true (not-space q (not-true (q 32) w) (d .0) (d .2)) refl)
+without (g or h) s w (inl d) = without g s (and-left (avoids 32 g) (avoids 32 h) w) d
+without (g or h) s w (inr d) = without h s (and-right (avoids 32 g) (avoids 32 h) w) d
+without (g then h) s w d =
+    rw (d .2) (every-append notSpace (d .0) (d .1) (without g (d .0) (and-left (avoids 32 g) (avoids 32 h) w) (d .3)) (without h (d .1) (and-right (avoids 32 g) (avoids 32 h) w) (d .4)))
+without (many g) s w d = go s d (λ u x. without g u w x)
+  where
+    go : (s : List ℕ) → Many (Describes g) s → ((u : List ℕ) → Describes g u → every notSpace u ≡ true) → every notSpace s ≡ true
+    go s (stop e) f = rw e
+    go s (more u v e x y) f = rw e (every-append notSpace u v (f u x) (go v y f))
+
+no-space-in-tags : avoids 32 language-tag ≡ true
+unfolding avoids L.all
+no-space-in-tags = refl
+
+lower-fine : (c : ℕ) → notSpace c ≡ true → notSpace (lower c) ≡ true
+unfolding notSpace lower B.all
+lower-fine c h = go (between (byte "A") (byte "Z") c) refl
+  where
+    go : (b : Bool) → between (byte "A") (byte "Z") c ≡ b → notSpace (lower c) ≡ true
+    go true e = simp e (rw (ne-eqb (32 + c) 32 λ z. omega (arith, leb-true 65 c (and-left (leb 65 c) (leb c 90) e))))
+    go false e = simp e h
+
+map-lower-fine : (s : Bytes) → every notSpace s ≡ true → every notSpace (map lower s) ≡ true
+unfolding every
+map-lower-fine [] h = refl
+map-lower-fine (c ∷ s) h = and-both (notSpace (lower c)) (every notSpace (map lower s)) (lower-fine c (and-left (notSpace c) (every notSpace s) h)) (map-lower-fine s (and-right (notSpace c) (every notSpace s) h))
+
+tag-fine : (v : Bytes) → isLanguageTag v ≡ true → every notSpace (map lower v) ≡ true
+unfolding isLanguageTag
+tag-fine v h = map-lower-fine v (without language-tag v no-space-in-tags (accepts-sound language-tag v h))
+
+-- ---- the reader's triples
+
+FineRule : Rule
+FineRule = record {
+  subj = FineSubject;
+  obj = FineTerm;
+  lang = λ l. every notSpace l ≡ true;
+  name = λ i. tt;
+  other-label = λ l h g. ncname-fine l h;
+  node-of = λ s h. h;
+  plain-of = λ v. tt;
+  typed-of = λ v d. tt;
+  tagged-of = λ v l h. h;
+  tag-of = tag-fine;
+}
+
+fine : Family
+unfolding FineRule
+fine = record {
+  lo = 0;
+  at = λ n. FineRule;
+  up-subj = λ n n′ up s h. h;
+  up-obj = λ n n′ up o h. h;
+  up-lang = λ n n′ up l h. h;
+  fresh = λ n n′ lo le k p q. label-fine k;
+}
+
+fine-lines : {ts : List Triple} → OfLines FineRule ts → FineTriples ts
+unfolding FineRule
+fine-lines no-line = tt
+fine-lines (with-line h g t) = (h, g, fine-lines t)
+
+-- two different sequences of this reader's triples never have the same bytes
+pub same-bytes-same-triples : (b b′ : Option Bytes) (d d′ : Doc) (ts us : List Triple) → After (fresh b) d ts → After (fresh b′) d′ us → write ts ≡ write us → ts ≡ us
+unfolding fine fresh
+same-bytes-same-triples b b′ d d′ ts us h k e =
+    write-injective ts us
+    (fine-lines (kept fine (fresh b) d ts (omega arith) (omega arith) tt h .lines))
+    (fine-lines (kept fine (fresh b′) d′ us (omega arith) (omega arith) tt k .lines)) e

@@ -1,0 +1,17 @@
+-- The theorems about the definitions, in reading order.
+-- ---- tools
+pub mod Booleans
+pub mod Always
+-- ---- grammars
+pub mod Grammar
+-- ---- events and calls
+pub mod PyxCut
+pub mod Calls
+-- ---- labels, subjects, lists
+pub mod Labels
+pub mod Subjects
+pub mod Lists
+-- ---- lines
+pub mod Written
+pub mod Fine
+pub mod NodeLabels

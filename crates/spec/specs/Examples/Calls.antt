@@ -1,0 +1,76 @@
+-- Document 01, "Numbers returned": answers that pyx2nt does not meet, by the calls themselves.
+use mathlib.Core.Path.{_≡_, refl}
+use mathlib.Core.Bool.{true, false}
+use mathlib.Core.Option.{none, some}
+use mathlib.Core.List.{List, [], _∷_, _++_, map}
+use Prim.Native.Nat.{ℕ, zero, suc}
+use Rattle.spec.specs.Bytes.{Bytes, ascii, byte}
+use Rattle.spec.specs.Limits.{mostLabels}
+use Rattle.spec.specs.NTriples.{named}
+use Rattle.spec.specs.Document.{nodeElement, fresh}
+use Rattle.spec.specs.Calls.{State, isOpen, unlawful, noDocument, callStart, callStep, callFinish}
+use Rattle.spec.specs.Examples.{page}
+use Rattle.spec.specs.Examples as E
+
+unfoldable pub new : State
+new = isOpen (fresh none)
+
+-- a document that has generated every label
+unfoldable pub spent : State
+spent = isOpen (record { startBase = none; frames = []; rooted = false; labels = mostLabels; ids = [] })
+
+-- a document in a node element that has had n rdf:li
+unfoldable pub inNode : ℕ → State
+inNode n = isOpen (record {
+  startBase = none;
+  frames = record { name = ascii "rdf:Bag"; bindings = []; ownBase = none; ownTag = none; kind = nodeElement (named (ascii "a:b")) n } ∷ [];
+  rooted = true;
+  labels = 1;
+  ids = [];
+})
+
+unfoldable pub li : Bytes
+li = page ("(rdf:li" ∷ "Axmlns:rdf http://www.w3.org/1999/02/22-rdf-syntax-ns#" ∷ [])
+
+unfoldable pub manyOf : ℕ → ℕ → Bytes
+manyOf zero b = []
+manyOf (suc n) b = b ∷ manyOf n b
+
+unfoldable pub description : Bytes
+description = page ("(rdf:Description" ∷ "Axmlns:rdf http://www.w3.org/1999/02/22-rdf-syntax-ns#" ∷ [])
+
+-- the answer of a step, with "no more" and without
+unfoldable pub whole : Bytes → State → ℕ
+whole s d = callStep true s 1_000 d .answer
+
+unfoldable pub part : Bytes → State → ℕ
+part s d = callStep false s 1_000 d .answer
+
+-- what is asked, and the answer
+unfoldable pub answers : List (ℕ × ℕ)
+answers =
+    -- 1: no complete event yet; with "no more", only for an empty rest
+    (part [] new, 1) ∷ (part (ascii "-a\n") new, 1) ∷ (part (ascii "?a") new, 1) ∷ (part (ascii "?a\n") new, 0) ∷ (part (ascii "- \n)") new, 0) ∷
+    (whole [] new, 1) ∷ (whole (ascii "- \n") new, 0) ∷ (whole (ascii "- ") new, 5) ∷
+    -- 2: the lines exceed the output room
+    (callStep true (description ++ page ("Ardf:about a:b" ∷ "Aa:b c" ∷ "Axmlns:a a:" ∷ [])) 17 new .answer, 2) ∷
+    (callStep true (description ++ page ("Ardf:about a:b" ∷ "Aa:b c" ∷ "Axmlns:a a:" ∷ [])) 18 new .answer, 0) ∷
+    -- 3: not by the rules; at start, store lengths only, and before 11
+    (whole (ascii "?a\n") unlawful, 3) ∷ (callFinish unlawful .answer, 3) ∷ (callStart true none unlawful .answer, 0) ∷
+    (callStart false none new .answer, 3) ∷ (callStart false (some (ascii "a")) new .answer, 3) ∷
+    -- 4: closed
+    (whole [] noDocument, 4) ∷ (callFinish noDocument .answer, 4) ∷
+    -- 6 at finish
+    (callFinish new .answer, 6) ∷
+    -- 11, 7 at start
+    (callStart true (some (ascii "a")) new .answer, 11) ∷ (callStart true (some (0xFF ∷ [])) new .answer, 11) ∷
+    (callStart true (some (ascii "a:" ++ manyOf 1_022 (byte "b"))) new .answer, 0) ∷ (callStart true (some (ascii "a:" ++ manyOf 1_023 (byte "b"))) new .answer, 7) ∷
+    -- 18: a 100,000,000th label
+    (whole description new, 0) ∷ (whole description spent, 18) ∷
+    -- 18: a 100,000,000th rdf:li in one node; 15 comes first
+    (whole li (inNode 99_999_998), 0) ∷ (whole li (inNode 99_999_999), 18) ∷
+    (whole (li ++ page ("Ardf:resource a:b" ∷ "Ardf:nodeID a" ∷ [])) (inNode 99_999_999), 15) ∷ []
+
+pub each-answer : map (λ r. r .0) answers ≡ map (λ r. r .1) answers
+unfolding E.all new spent inNode li manyOf description whole part answers
+each-answer = refl

@@ -1,0 +1,36 @@
+-- The definitions of document 01, in reading order.
+-- ---- numbers, limits, texts
+pub mod Numbers
+pub mod Limits
+pub mod Bytes
+pub mod Utf8
+-- ---- grammars of the public documents
+pub mod Grammar
+pub mod Abnf
+pub mod Rfc3986
+pub mod Rfc3987
+pub mod Rfc5646
+pub mod XmlNames
+-- ---- events
+pub mod Pyx
+pub mod PyxCut
+pub mod Namespaces
+-- ---- triples and lines
+pub mod NTriples
+pub mod NTriplesGrammar
+-- ---- from events to triples
+pub mod Rdf
+pub mod Document
+pub mod StartTag
+pub mod Productions
+pub mod XmlLiteral
+pub mod Opening
+pub mod EndTag
+pub mod RdfXml
+-- ---- the calls and the program
+pub mod Calls
+pub mod Pyx2nt
+-- ---- worked examples
+pub mod Examples
+-- ---- demand 3
+pub mod Lists

@@ -1,0 +1,23 @@
+// Document 01 as definitions (specs/) and the theorems about them (proofs/); here, the refusals, which code and definitions share.
+
+// Why a call was refused: document 01, "Numbers returned", 1 to 18 in this order.
+pub enum Refusal {
+    Incomplete,
+    NoRoom,
+    BadState,
+    Closed,
+    NotPyx,
+    NotWellFormed,
+    OverLimit,
+    NoNamespace,
+    NotNcName,
+    BadLanguage,
+    BadIri,
+    RepeatedId,
+    BadLabel,
+    Reserved,
+    TwoNames,
+    StrayText,
+    EmptyLiteral,
+    LabelsSpent,
+}
