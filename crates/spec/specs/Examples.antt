@@ -16,6 +16,7 @@ pub mod Proved
 pub mod Productions
 pub mod Refusals
 pub mod Calls
+pub mod Order
 pub mod Rfc3986
 
 -- the lines of a text
@@ -52,6 +53,11 @@ unfoldable pub failing : ℕ → List Example → List ℕ
 failing n [] = []
 failing n (e ∷ l) = if holds e then failing (suc n) l else (n ∷ failing (suc n) l)
 
+-- are these answers, each with the one that is expected?
+unfoldable pub agree : List (ℕ × ℕ) → Bool
+agree [] = true
+agree (r ∷ rs) = eqb (r .0) (r .1) && agree rs
+
 -- what the examples print is N-Triples; a refusal's line is a comment there
 unfoldable pub areNTriples : List Example → Bool
 areNTriples [] = true
@@ -61,5 +67,5 @@ areNTriples (goodTag t ∷ l) = areNTriples l
 areNTriples (badTag t ∷ l) = areNTriples l
 
 unfoldable pub all : Unit {0}
-unfolding M.all G.all page printed holds failing areNTriples
+unfolding M.all G.all page printed holds failing agree areNTriples
 all = tt

@@ -2,14 +2,14 @@
 use mathlib.Core.Path.{_≡_, refl}
 use mathlib.Core.Bool.{true, false}
 use mathlib.Core.Option.{none, some}
-use mathlib.Core.List.{List, [], _∷_, _++_, map}
+use mathlib.Core.List.{List, [], _∷_, _++_}
 use Prim.Native.Nat.{ℕ, zero, suc}
 use Rattle.spec.specs.Bytes.{Bytes, ascii, byte}
 use Rattle.spec.specs.Limits.{mostLabels}
 use Rattle.spec.specs.NTriples.{named}
 use Rattle.spec.specs.Document.{nodeElement, fresh}
 use Rattle.spec.specs.Calls.{State, isOpen, unlawful, noDocument, callStart, callStep, callFinish}
-use Rattle.spec.specs.Examples.{page}
+use Rattle.spec.specs.Examples.{page, agree}
 use Rattle.spec.specs.Examples as E
 
 unfoldable pub new : State
@@ -39,6 +39,10 @@ manyOf (suc n) b = b ∷ manyOf n b
 unfoldable pub description : Bytes
 description = page ("(rdf:Description" ∷ "Axmlns:rdf http://www.w3.org/1999/02/22-rdf-syntax-ns#" ∷ [])
 
+-- a start tag with an rdf:ID and a line
+unfoldable pub withId : Bytes
+withId = page ("(a:P" ∷ "Axmlns:rdf http://www.w3.org/1999/02/22-rdf-syntax-ns#" ∷ "Axmlns:a a:" ∷ "Axml:base a:b" ∷ "Ardf:ID i" ∷ [])
+
 -- the answer of a step, with "no more" and without
 unfoldable pub whole : Bytes → State → ℕ
 whole s d = callStep true s 1_000 d .answer
@@ -55,6 +59,8 @@ answers =
     -- 2: the lines exceed the output room
     (callStep true (description ++ page ("Ardf:about a:b" ∷ "Aa:b c" ∷ "Axmlns:a a:" ∷ [])) 17 new .answer, 2) ∷
     (callStep true (description ++ page ("Ardf:about a:b" ∷ "Aa:b c" ∷ "Axmlns:a a:" ∷ [])) 18 new .answer, 0) ∷
+    -- 2 leaves no rdf:ID behind: with room the same event is accepted
+    (callStep true withId 0 new .answer, 2) ∷ (whole withId (callStep true withId 0 new .behind), 0) ∷
     -- 3: not by the rules; at start, store lengths only, and before 11
     (whole (ascii "?a\n") unlawful, 3) ∷ (callFinish unlawful .answer, 3) ∷ (callStart true none unlawful .answer, 0) ∷
     (callStart false none new .answer, 3) ∷ (callStart false (some (ascii "a")) new .answer, 3) ∷
@@ -71,6 +77,10 @@ answers =
     (whole li (inNode 99_999_998), 0) ∷ (whole li (inNode 99_999_999), 18) ∷
     (whole (li ++ page ("Ardf:resource a:b" ∷ "Ardf:nodeID a" ∷ [])) (inNode 99_999_999), 15) ∷ []
 
-pub each-answer : map (λ r. r .0) answers ≡ map (λ r. r .1) answers
-unfolding E.all new spent inNode li manyOf description whole part answers
+unfoldable pub all : Unit {0}
+unfolding E.all new spent inNode li manyOf description withId whole part answers
+all = tt
+
+pub each-answer : agree answers ≡ true
+unfolding all
 each-answer = refl

@@ -84,6 +84,47 @@ table =
     "<http://e/p> <R_1> _:riog00000002 ." ∷
     "_:riog00000002 <R_1> \"a\" ." ∷
     "<http://e/p> <R_2> \"b\" ." ∷ []) ∷
+    -- reified: parseType Resource at its start tag, text at its end tag
+    prints (
+    "(e:P" ∷
+    "Axmlns:rdf http://www.w3.org/1999/02/22-rdf-syntax-ns#" ∷
+    "Axmlns:e http://e/" ∷
+    "Ardf:about http://e/p" ∷
+    "Axml:base http://e/d" ∷
+    "(e:q" ∷
+    "Ardf:ID s" ∷
+    "Ardf:parseType Resource" ∷
+    "(e:r" ∷
+    "Ardf:ID t" ∷
+    "-v" ∷
+    ")e:r" ∷
+    ")e:q" ∷
+    ")e:P" ∷ []) (
+    "<http://e/p> <Rtype> <http://e/P> ." ∷
+    "<http://e/d#s> <Rtype> <RStatement> ." ∷
+    "<http://e/d#s> <Rsubject> <http://e/p> ." ∷
+    "<http://e/d#s> <Rpredicate> <http://e/q> ." ∷
+    "<http://e/d#s> <Robject> _:riog00000002 ." ∷
+    "<http://e/p> <http://e/q> _:riog00000002 ." ∷
+    "<http://e/d#t> <Rtype> <RStatement> ." ∷
+    "<http://e/d#t> <Rsubject> _:riog00000002 ." ∷
+    "<http://e/d#t> <Rpredicate> <http://e/r> ." ∷
+    "<http://e/d#t> <Robject> \"v\" ." ∷
+    "_:riog00000002 <http://e/r> \"v\" ." ∷ []) ∷
+    -- a node's lines: property attributes in order, its rdf:type attribute, then its element type
+    prints (
+    "(e:P" ∷
+    "Ardf:type http://e/T" ∷
+    "Ae:b w" ∷
+    "Ae:a v" ∷
+    "Axmlns:rdf http://www.w3.org/1999/02/22-rdf-syntax-ns#" ∷
+    "Axmlns:e http://e/" ∷
+    "Ardf:about http://e/p" ∷
+    ")e:P" ∷ []) (
+    "<http://e/p> <http://e/b> \"w\" ." ∷
+    "<http://e/p> <http://e/a> \"v\" ." ∷
+    "<http://e/p> <Rtype> <http://e/T> ." ∷
+    "<http://e/p> <Rtype> <http://e/P> ." ∷ []) ∷
     -- a default property with property attributes: its node's lines, rdf:type last, then at the end tag the reified statement
     prints (
     "(e:P" ∷
