@@ -1,9 +1,15 @@
--- What holds of every answer that is no refusal.
+-- What holds of every answer that is no refusal. The theorems about accepted events begin here, behind the tables of worked examples:
+-- a definition that breaks a table is refused by the table first.
 use mathlib.Core.Path.{_≡_, refl}
 use mathlib.Core.Bool.{Bool, true, false}
 use Rattle.spec.specs.Bytes.{if_then_else_, _>>=_, _>>_, require_or_}
 use Rattle.spec.specs.Numbers.{Answer, refuse, good}
 use Rattle.spec.specs.declared.Refusal.{Refusal}
+use Rattle.spec.specs.Examples.Proved
+use Rattle.spec.specs.Examples.Productions
+use Rattle.spec.specs.Examples.Refusals
+use Rattle.spec.specs.Examples.Calls
+use Rattle.spec.specs.Examples.Order
 
 abbrev pub Always : {A : Type 0} → (A → Type 0) → Answer A → Type 0
 Always Q (refuse n) = Unit {0}
