@@ -9,8 +9,11 @@ pub mod PyxCut
 pub mod Calls
 -- ---- labels, subjects, lists
 pub mod Labels
+pub mod Frames
+pub mod Inside
 pub mod Subjects
 pub mod Lists
+pub mod Children
 -- ---- lines
 pub mod Written
 pub mod Fine

@@ -303,16 +303,16 @@ reads-cells lo hi n rest (c ∷ cs) rs A B low high le a b h =
 -- a document whose innermost open element f is a Collection with these children
 module _ (f : Frame) (p : Property) (cs : List Subject) (is : f .kind ≡ propertyElement p (collection cs))
     (fs : List Frame) (b : Option Bytes) (r : Bool) (n : ℕ) (ids : List Bytes) where
-  abbrev inCollection : Doc
+  abbrev pub inCollection : Doc
   inCollection = record { startBase = b; frames = f ∷ fs; rooted = r; labels = n; ids = ids }
 
-  abbrev behind : Doc
+  abbrev pub behind : Doc
   behind = record { startBase = b; frames = fs; rooted = r; labels = n + length cs; ids = ids }
 
   abbrev nil : Subject
   nil = named (rdf "nil")
 
-  abbrev Closed : Step → Type 0
+  abbrev pub Closed : Step → Type 0
   Closed o = (o .0 ≡ cells n nil cs ++ statement p (node (headCell n nil cs))) × (o .1 ≡ behind) × (n + length cs < 100_000_000)
 
   ends : (k : Kind) (m : Bytes) (l : Option Bytes) → k ≡ propertyElement p (collection cs) → Always Closed (C.endKind k m l (withFrames fs inCollection))
@@ -320,7 +320,7 @@ module _ (f : Frame) (p : Property) (cs : List Subject) (is : f .kind ≡ proper
   ends k m l e = rw e (always-require Closed _ _ _ λ g.
       (refl, refl, (let le : n + length cs ≤ 99_999_999 = leb-true (n + length cs) 99_999_999 g in omega arith)))
 
-  closes : (m : Bytes) → Always Closed (next (closing m) inCollection)
+  pub closes : (m : Bytes) → Always Closed (next (closing m) inCollection)
   unfolding next X.onEvent C.closeElement X.within
   closes m =
       always-bind Closed Closed _ _ (always-require Closed _ _ _ λ e. ends (f .kind) m _ is) λ s k. always-require Closed _ _ _ λ g. k
