@@ -14,6 +14,7 @@ pub mod Inside
 pub mod Subjects
 pub mod Lists
 pub mod Children
+pub mod NewLabels
 -- ---- lines
 pub mod Written
 pub mod Fine

@@ -55,7 +55,7 @@ same-false u v f = go (same u v) refl
 
 -- ---- subjects that are not a given label
 
-abbrev Not : ℕ → Subject → Type 0
+abbrev pub Not : ℕ → Subject → Type 0
 Not k s = sameSubject (blank (label k)) s ≡ false
 
 not-named : (k : ℕ) (i : Bytes) → Not k (named i)
@@ -72,18 +72,18 @@ not-label k m p q f = same-false (label k) (label m) λ e. f (label-inj k m p q 
 
 -- ---- subjects known when n labels have been generated
 
-abbrev Known : ℕ → Subject → Type 0
+abbrev pub Known : ℕ → Subject → Type 0
 Known n (named i) = Unit {0}
 Known n (blank l) = (isGenerated l ≡ false) ⊎ ((k : ℕ) × (k ≤ n) × (l ≡ label k))
 
-known-not : (n k : ℕ) (s : Subject) → n < k → k < 100_000_000 → Known n s → Not k s
+pub known-not : (n k : ℕ) (s : Subject) → n < k → k < 100_000_000 → Known n s → Not k s
 known-not n k (named i) p q h = not-named k i
 known-not n k (blank l) p q (inl g) = not-other k l g
 known-not n k (blank l) p q (inr h) =
     let le : h .0 ≤ n = h .1 in
     rw (h .2) (not-label k (h .0) q (omega arith) λ z. omega arith)
 
-known-more : (n n′ : ℕ) (s : Subject) → n ≤ n′ → Known n s → Known n′ s
+pub known-more : (n n′ : ℕ) (s : Subject) → n ≤ n′ → Known n s → Known n′ s
 known-more n n′ (named i) p h = tt
 known-more n n′ (blank l) p (inl g) = inl g
 known-more n n′ (blank l) p (inr h) = let le : h .0 ≤ n = h .1 in inr (h .0, omega arith, h .2)
@@ -260,7 +260,7 @@ lines-split x (triple s p o ∷ ts) us = go (sameSubject x s) (lines-split x ts 
 
 -- ---- the cells of a list
 
-same-self : (k : ℕ) → sameSubject (blank (label k)) (blank (label k)) ≡ true
+pub same-self : (k : ℕ) → sameSubject (blank (label k)) (blank (label k)) ≡ true
 unfolding sameSubject
 same-self k = same-refl (label k)
 
