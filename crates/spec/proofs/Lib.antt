@@ -15,6 +15,9 @@ pub mod Subjects
 pub mod Lists
 pub mod Children
 pub mod NewLabels
+-- ---- what is inherited
+pub mod Inherited
+pub mod Languages
 -- ---- lines
 pub mod Written
 pub mod Fine

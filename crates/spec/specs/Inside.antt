@@ -3,14 +3,14 @@
 use mathlib.Core.Path.{_≡_}
 use mathlib.Core.Bool.{Bool, false, _&&_}
 use mathlib.Core.Option.{Option, none, some}
-use mathlib.Core.List.{List, [], _∷_, _++_}
+use mathlib.Core.List.{List, [], _∷_, _++_, map}
 use Prim.Native.Nat.{ℕ, suc, _+_, _<_}
 use lib.Dec.{eqb}
 use lib.ListN.{length}
 use Rattle.spec.specs.Bytes.{Bytes, if_then_else_}
 use Rattle.spec.specs.Numbers.{Answer, refuse, good}
 use Rattle.spec.specs.Pyx.{Attribute, Event, opening, closing, text, instruction}
-use Rattle.spec.specs.Namespaces.{declared, expandElement}
+use Rattle.spec.specs.Namespaces.{Binding, declared, expandElement}
 use Rattle.spec.specs.NTriples.{Subject, Triple}
 use Rattle.spec.specs.Document.{Kind, rdfRDF, nodeElement, propertyElement, xmlElement, Frame, Doc, inScope}
 use Rattle.spec.specs.Productions.{isLi}
@@ -23,6 +23,16 @@ use Rattle.spec.specs.Lists.{After, here, event}
 unfoldable pub innermost : List Frame → Option Kind
 innermost [] = none
 innermost (f ∷ fs) = some (f .kind)
+
+-- what a start tag says that holds as long as its element is open: name, bindings, own xml:base and xml:lang
+abbrev pub Said : Type 0
+Said = Bytes × List Binding × Option Bytes × Option Bytes
+
+abbrev pub saidOf : Frame → Said
+saidOf f = (f .name, f .bindings, f .ownBase, f .ownTag)
+
+unfoldable pub said : List Frame → List Said
+said fs = map saidOf fs
 
 -- it stays open all the while
 abbrev pub StaysOpen : {d₀ d : Doc} {ts : List Triple} → ℕ → After d₀ d ts → Type 0

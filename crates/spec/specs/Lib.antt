@@ -35,3 +35,4 @@ pub mod Examples
 -- ---- demand 3
 pub mod Lists
 pub mod Inside
+pub mod Languages

@@ -1,0 +1,175 @@
+-- Every literal without datatype that an event writes has the language in force where it stands, which is that of the nearest
+-- xml:lang around it.
+use mathlib.Core.Path.{_≡_, refl, sym, _∙_, ap}
+use mathlib.Core.Bool.{Bool, true, false}
+use mathlib.Core.Option.{Option, none, some}
+use mathlib.Core.List.{List, [], _∷_, _++_}
+use Prim.Native.Nat.{ℕ}
+use Rattle.spec.specs.Bytes.{Bytes, ascii, if_then_else_, orElse}
+use Rattle.spec.specs.Numbers.{Answer, good}
+use Rattle.spec.specs.Pyx.{Attribute, attribute, Event, opening, closing, text, instruction}
+use Rattle.spec.specs.NTriples.{Subject, Term, node, Triple, triple}
+use Rattle.spec.specs.Document.{Object, noObject, nodeObject, textObject, Value, default, collection, literal, other, Property, Kind, rdfRDF, nodeElement, propertyElement, xmlElement, Frame, Doc, withFrames, Place, outside, nodes, nodesOrText, xml, properties, placeIn, languageInForce}
+use Rattle.spec.specs.StartTag.{Tag}
+use Rattle.spec.specs.Productions as O
+use Rattle.spec.specs.Productions.{Opened, literalOf, statement, typeLine, attributeLines, tagLines, openNode, openProperty, openRoot, ParseType, noParseType, asCollection, asResource, asLiteral, asOther}
+use Rattle.spec.specs.Opening.{Step, countLi}
+use Rattle.spec.specs.Opening as G
+use Rattle.spec.specs.EndTag.{cells, objectTerm}
+use Rattle.spec.specs.EndTag as C
+use Rattle.spec.specs.RdfXml.{next}
+use Rattle.spec.specs.RdfXml as X
+use Rattle.spec.specs.Languages.{InLanguage, AllInLanguage, openAt}
+use Rattle.spec.proofs.Always.{Always, always-bind, always-any, always-after, always-require, always-if, always-good}
+use Rattle.spec.proofs.Frames.{Read, tag-read}
+use Rattle.spec.proofs.Inherited.{said-count, languageSaid, language-said}
+
+-- ---- lines
+
+all-append : (l : Option Bytes) (ts us : List Triple) → AllInLanguage l ts → AllInLanguage l us → AllInLanguage l (ts ++ us)
+all-append l [] us h k = k
+all-append l (triple s p o ∷ ts) us h k = (h .0, all-append l ts us (h .1) k)
+
+literal-in : (d l : Option Bytes) (v : Bytes) → InLanguage l (literalOf d l v)
+unfolding literalOf
+literal-in (some d) l v = tt
+literal-in none (some l) v = refl
+literal-in none none v = refl
+
+attributes-in : (s : Subject) (l : Option Bytes) (as′ : List (Bytes × Bytes)) → AllInLanguage l (attributeLines s l as′)
+unfolding attributeLines
+attributes-in s l [] = tt
+attributes-in s l (a ∷ as′) = (literal-in none l (a .1), attributes-in s l as′)
+
+type-in : (s : Subject) (l i : Option Bytes) → AllInLanguage l (typeLine s i)
+unfolding typeLine
+type-in s l none = tt
+type-in s l (some i) = (tt, tt)
+
+tag-in : (s : Subject) (t : Tag) → AllInLanguage (t .language) (tagLines s t)
+unfolding tagLines
+tag-in s t = all-append (t .language) (attributeLines s (t .language) (t .attributes)) _ (attributes-in s (t .language) (t .attributes)) (type-in s (t .language) (t .type))
+
+reification-in : (l i : Option Bytes) (s : Subject) (p : Bytes) (o : Term) → InLanguage l o → AllInLanguage l (O.reification i s p o)
+unfolding O.reification
+reification-in l none s p o h = tt
+reification-in l (some i) s p o h = (tt, (tt, (tt, (h, tt))))
+
+statement-in : (l : Option Bytes) (p : Property) (o : Term) → InLanguage l o → AllInLanguage l (statement p o)
+unfolding statement
+statement-in l p o h = all-append l (O.reification (p .id) (p .subject) (p .iri) o) _ (reification-in l (p .id) (p .subject) (p .iri) o h) (h, tt)
+
+cells-in : (l : Option Bytes) (n : ℕ) (rest : Subject) (cs : List Subject) → AllInLanguage l (cells n rest cs)
+unfolding cells
+cells-in l n rest [] = tt
+cells-in l n rest (c ∷ cs) = (tt, (tt, cells-in l _ _ cs))
+
+-- ---- start tags
+
+module _ (t : Tag) where
+  abbrev Fits : Opened → Type 0
+  Fits o = AllInLanguage (t .language) (o .lines)
+
+  node-fits : (n : ℕ) → Always Fits (openNode t n)
+  unfolding openNode
+  node-fits n =
+      always-require Fits _ _ _ λ e₁. always-require Fits _ _ _ λ e₂. always-after Fits _ _
+      (all-append (t .language) (tagLines _ t) _ (tag-in _ t) (type-in _ (t .language) _))
+
+  as-fits : (a : ParseType) (p : Property) (n : ℕ) → Always Fits (O.openAs a t p n)
+  unfolding O.openAs O.openWith O.openDefault O.openWithNode O.openResource
+  as-fits noParseType p n = always-if Fits _ _ _ (λ e. always-any Fits _ _ λ o. tag-in (o .0) t) λ e. tt
+  as-fits asCollection p n = tt
+  as-fits asResource p n = always-after Fits _ _ (statement-in (t .language) p (node _) tt)
+  as-fits asLiteral p n = tt
+  as-fits asOther p n = tt
+
+  property-fits : (s : Subject) (li n : ℕ) → Always Fits (openProperty t s li n)
+  unfolding openProperty
+  property-fits s li n = always-require Fits _ _ _ λ e₁. always-require Fits _ _ _ λ e₂. always-after Fits _ _ (as-fits _ _ n)
+
+  root-fits : (n : ℕ) → Always Fits (openRoot t n)
+  unfolding openRoot
+  root-fits n = always-if Fits _ _ _ (λ e. tt) λ e. node-fits n
+
+abbrev Started : Step → Type 0
+Started s = AllInLanguage (languageInForce (s .1 .frames)) (s .0)
+
+-- counting an rdf:li changes no language
+language-count : (i : Bytes) (fs : List Frame) → languageInForce (countLi i fs) ≡ languageInForce fs
+language-count i fs = language-said (countLi i fs) ∙ (ap languageSaid (said-count i fs) ∙ sym (language-said fs))
+
+open-element : (production : Tag → ℕ → Answer Opened) (n : Bytes) (as′ : List Attribute) (d : Doc) → ((t : Tag) → Always (Fits t) (production t (d .labels)))
+    → Always Started (G.openElement production n as′ d)
+unfolding G.openElement G.opened languageInForce
+open-element production n as′ d h =
+    always-bind (Read n as′ d) Started _ _ (tag-read n as′ d) λ t r.
+    always-bind (Fits t) Started _ _ (h t) λ o k.
+    always-require Started _ _ _ λ e. rw (language-count (t .iri) (d .frames), ← r .1) k
+
+open-in : (p : Place) (n : Bytes) (as′ : List Attribute) (d : Doc) → Always Started (G.openIn p n as′ d)
+unfolding G.openIn G.copyElement
+open-in outside n as′ d = open-element openRoot n as′ d λ t. root-fits t (d .labels)
+open-in nodes n as′ d = open-element openNode n as′ d λ t. node-fits t (d .labels)
+open-in nodesOrText n as′ d = open-element openNode n as′ d λ t. node-fits t (d .labels)
+open-in (properties s li) n as′ d = open-element (λ t. openProperty t s li) n as′ d λ t. property-fits t s li (d .labels)
+open-in xml n as′ d = always-require Started _ _ _ λ e. always-after Started _ _ tt
+
+-- ---- end tags
+
+abbrev Ended : Option Bytes → Step → Type 0
+Ended l s = AllInLanguage l (s .0)
+
+object-in : (d l : Option Bytes) (o : Object) → InLanguage l (objectTerm d l o)
+unfolding objectTerm
+object-in d l noObject = literal-in d l []
+object-in d l (nodeObject s) = tt
+object-in d l (textObject t) = literal-in d l t
+
+end-value : (p : Property) (v : Value) (l : Option Bytes) (d : Doc) → Always (Ended l) (C.endValue p v l d)
+unfolding C.endValue
+end-value p (default t o) l d = statement-in l p (objectTerm t l o) (object-in t l o)
+end-value p (collection cs) l d =
+    always-after (Ended l) _ _ (all-append l (cells (d .labels) _ cs) _ (cells-in l (d .labels) _ cs) (statement-in l p (node _) tt))
+end-value p (literal x) l d = always-after (Ended l) _ _ (statement-in l p _ tt)
+end-value p other l d = tt
+
+end-kind : (k : Kind) (n : Bytes) (l : Option Bytes) (d : Doc) → Always (Ended l) (C.endKind k n l d)
+unfolding C.endKind
+end-kind rdfRDF n l d = tt
+end-kind (nodeElement s li) n l d = tt
+end-kind (propertyElement p v) n l d = end-value p v l d
+end-kind xmlElement n l d = tt
+
+close-element : (n : Bytes) (fs : List Frame) (d : Doc) → Always (Ended (languageInForce fs)) (C.closeElement n fs d)
+unfolding C.closeElement
+close-element n [] d = tt
+close-element n (f ∷ fs) d = always-after (Ended (languageInForce (f ∷ fs))) _ _ (end-kind (f .kind) n (languageInForce (f ∷ fs)) (withFrames fs d))
+
+-- ---- all events
+
+on-text : (l : Option Bytes) (p : Place) (s : Bytes) (d : Doc) → Always (Ended l) (X.onText p s d)
+unfolding X.onText
+on-text l outside s d = always-after (Ended l) _ _ tt
+on-text l nodes s d = always-after (Ended l) _ _ tt
+on-text l (properties u li) s d = always-after (Ended l) _ _ tt
+on-text l nodesOrText s d = tt
+on-text l xml s d = tt
+
+abbrev Written : Event → Doc → Step → Type 0
+Written e d s = AllInLanguage (languageInForce (openAt e d (s .1))) (s .0)
+
+on-event : (e : Event) (d : Doc) → Always (Written e d) (X.onEvent e d)
+unfolding X.onEvent G.onOpening
+on-event (opening n as′) d =
+    always-require (Written (opening n as′) d) _ _ _ λ e₁. always-require (Written (opening n as′) d) _ _ _ λ e₂. open-in (placeIn (d .frames)) n as′ d
+on-event (closing n) d = close-element n (d .frames) d
+on-event (text s) d = on-text (languageInForce (d .frames)) (placeIn (d .frames)) s d
+on-event instruction d = tt
+
+-- Every literal without datatype among the lines of an accepted event has the language in force in the element that the event
+-- opens or closes: property attributes at a start tag, the object at an end tag. Where none is in force it has none.
+pub literals-in-language : (e : Event) (d d′ : Doc) (us : List Triple) → next e d ≡ good (us, d′) → AllInLanguage (languageInForce (openAt e d d′)) us
+unfolding next X.within
+literals-in-language e d d′ us q =
+    always-good (Written e d) (always-bind (Written e d) (Written e d) _ _ (on-event e d) λ s h. always-require (Written e d) _ _ _ λ g. h) q
