@@ -5,13 +5,13 @@ use mathlib.Core.Bool.{Bool, true, false}
 use mathlib.Core.Option.{Option}
 use mathlib.Core.List.{List, [], _∷_, _++_}
 use Prim.Native.Nat.{ℕ}
-use Rattle.spec.specs.Bytes.{Bytes, if_then_else_, orElse}
+use Rattle.spec.specs.Bytes.{Bytes, each, if_then_else_, orElse}
 use Rattle.spec.specs.Numbers.{Answer, good}
 use Rattle.spec.specs.Pyx.{Attribute, Event, opening, closing, text, instruction}
-use Rattle.spec.specs.Namespaces.{declared, expandElement}
+use Rattle.spec.specs.Namespaces.{Binding, declared, expandElement}
 use Rattle.spec.specs.NTriples.{Subject}
 use Rattle.spec.specs.Document.{Value, default, collection, literal, other, Property, Kind, rdfRDF, nodeElement, propertyElement, xmlElement, Frame, Doc, withFrames, withLabels, inScope, languageInForce, Place, outside, nodes, nodesOrText, xml, properties, placeIn, changeValue, isXmlElement}
-use Rattle.spec.specs.StartTag.{Tag, readTag}
+use Rattle.spec.specs.StartTag.{Meaning, xml-lang, meaning, first, lowercased, Tag, readTag}
 use Rattle.spec.specs.Productions as O
 use Rattle.spec.specs.Productions.{Opened, openNode, openProperty, openRoot, ParseType, noParseType, asCollection, asResource, asLiteral, asOther}
 use Rattle.spec.specs.XmlLiteral.{takesXml, addXml, endTagXml}
@@ -51,21 +51,27 @@ Moved d e s = Move e (d .frames) (s .1 .frames) × (s .1 .startBase ≡ d .start
 
 -- ---- start tags
 
--- a start tag, read: its expanded name, and the language in force in it
+-- a start tag, read: its expanded name, its own xml:lang among its attributes, and the language in force in it
+abbrev pub scopeOf : List Attribute → Doc → List Binding
+scopeOf as′ d = declared as′ ++ inScope (d .frames)
+
 abbrev pub Read : Bytes → List Attribute → Doc → Tag → Type 0
-Read n as′ d t = (expandElement (declared as′ ++ inScope (d .frames)) n ≡ good (t .iri)) × (t .language ≡ orElse (t .ownTag) (languageInForce (d .frames)))
+Read n as′ d t =
+    (expandElement (scopeOf as′ d) n ≡ good (t .iri))
+    × ((ms : List Meaning) × (each (meaning (scopeOf as′ d)) as′ ≡ good ms) × (t .ownTag ≡ lowercased (first xml-lang ms)))
+    × (t .language ≡ orElse (t .ownTag) (languageInForce (d .frames)))
 
 pub tag-read : (n : Bytes) (as′ : List Attribute) (d : Doc) → Always (Read n as′ d) (readTag n as′ d)
 unfolding readTag
 tag-read n as′ d =
-    always-bind (λ i. expandElement (declared as′ ++ inScope (d .frames)) n ≡ good i) (Read n as′ d) _ _ (always-self (expandElement (declared as′ ++ inScope (d .frames)) n)) λ i e.
-    always-any (Read n as′ d) _ _ λ ms.
+    always-bind (λ i. expandElement (scopeOf as′ d) n ≡ good i) (Read n as′ d) _ _ (always-self (expandElement (scopeOf as′ d) n)) λ i e.
+    always-bind (λ ms. each (meaning (scopeOf as′ d)) as′ ≡ good ms) (Read n as′ d) _ _ (always-self (each (meaning (scopeOf as′ d)) as′)) λ ms g.
     always-any (Read n as′ d) _ _ λ id′.
-    always-require (Read n as′ d) _ _ _ λ g.
+    always-require (Read n as′ d) _ _ _ λ u.
     always-any (Read n as′ d) _ _ λ about′.
     always-any (Read n as′ d) _ _ λ resource′.
     always-any (Read n as′ d) _ _ λ datatype′.
-    always-any (Read n as′ d) _ _ λ type′. (e, refl)
+    always-any (Read n as′ d) _ _ λ type′. (e, (ms, g, refl), refl)
 
 -- outside Literal content no element is one inside it
 abbrev Outside : Opened → Type 0
@@ -165,7 +171,11 @@ on-event (closing n) d = close-element n (d .frames) d
 on-event (text s) d = on-text s d (placeIn (d .frames))
 on-event instruction d = (instructs, refl)
 
+-- what always holds behind an event, before the limits on what is kept
+pub always-next : (Q : Step → Type 0) (e : Event) (d : Doc) → Always Q (X.onEvent e d) → Always Q (next e d)
+unfolding next X.within
+always-next Q e d h = always-bind Q Q _ _ h λ s k. always-require Q _ _ _ λ g. k
+
 -- every accepted event is such a move, and leaves the start base
 pub moves : (e : Event) (d : Doc) → Always (Moved d e) (next e d)
-unfolding next X.within
-moves e d = always-bind (Moved d e) (Moved d e) _ _ (on-event e d) λ s h. always-require (Moved d e) _ _ _ λ g. h
+moves e d = always-next (Moved d e) e d (on-event e d)

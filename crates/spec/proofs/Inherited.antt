@@ -1,8 +1,8 @@
 -- What is inherited comes from the elements around and from no other: when an element has closed, the language, the base and the
 -- namespaces in force are those before it opened.
-use mathlib.Core.Path.{_≡_, refl, sym, _∙_, ap, subst}
+use mathlib.Core.Path.{_≡_, refl, sym, _∙_, ap}
 use mathlib.Core.Bool.{Bool, true, false}
-use mathlib.Core.Option.{Option, none, some}
+use mathlib.Core.Option.{Option, none}
 use mathlib.Core.List.{List, [], _∷_, _++_, tail-eq-of-cons-eq}
 use Prim.Native.Nat.{ℕ, suc, _<_}
 use native.Mathlib.Omega.{arith}
@@ -22,7 +22,7 @@ use Rattle.spec.proofs.Frames.{left, Move, instructs, leaves, adds, ope
 
 -- ---- what the start tags said
 
-said-value : (h : Value → Value) (fs : List Frame) → said (changeValue h fs) ≡ said fs
+pub said-value : (h : Value → Value) (fs : List Frame) → said (changeValue h fs) ≡ said fs
 unfolding said changeValue withKind if_then_else_
 said-value h [] = refl
 said-value h (f ∷ fs) = go (isXmlElement (f .kind)) (said-value h fs)
@@ -88,12 +88,13 @@ stays-on k x S l o (event {d = d} before e d′ us q) s =
     let more : length S < length (said (d′ .frames)) = let m : k < length (d′ .frames) = s .1 in omega (arith, said-length (d′ .frames)) in
     (on-turn e x S _ _ (h .0) (t .0) more, t .1 ∙ h .1)
 
--- as long as an element is open, the start tags of the elements around it say what they said
-pub around-kept : {d d₂ : Doc} (b : Begun d d₂) → (x : Said) × On x (said (d .frames)) (said (d₂ .frames)) × (d₂ .startBase ≡ d .startBase)
+-- as long as an element is open, its start tag and those around it say what they said
+pub around-kept : {d d₂ : Doc} (b : Begun d d₂)
+    → (x : Said) × (said (b .first .frames) ≡ x ∷ said (d .frames)) × On x (said (d .frames)) (said (d₂ .frames)) × (d₂ .startBase ≡ d .startBase)
 around-kept {d} {d₂} b =
     let t = turn (opening (b .name) (b .attributes)) d (b .first) (b .starts) in
     let h = stays-on (length (d .frames)) (t .0 .0) (said (d .frames)) (said-length (d .frames)) ([], t .0 .1) (b .inside) (b .stays) in
-    (t .0 .0, h .0, h .1 ∙ t .1)
+    (t .0 .0, t .0 .1, h .0, h .1 ∙ t .1)
 
 last-off : (x y : Said) (S T T′ : List Said) → On x S T → T ≡ y ∷ T′ → length T′ ≡ length S → T′ ≡ S
 last-off x y S T T′ ([], o) e l = tail-eq-of-cons-eq (sym e ∙ o)
@@ -105,7 +106,7 @@ said-again : {d d′ : Doc} → Element d d′ → (said (d′ .frames) ≡ said
 said-again {d} {d′} c =
     let h = around-kept (c .begun) in
     let t = turn (closing (c .name)) (c .last) d′ (c .ends) in
-    (last-off (h .0) (t .0 .0) _ _ _ (h .1) (t .0 .1) (said-length (d′ .frames) ∙ (c .closes ∙ sym (said-length (d .frames)))), t .1 ∙ h .2)
+    (last-off (h .0) (t .0 .0) _ _ _ (h .2) (t .0 .1) (said-length (d′ .frames) ∙ (c .closes ∙ sym (said-length (d .frames)))), t .1 ∙ h .3)
 
 -- ---- what is in force was said
 
@@ -135,6 +136,18 @@ scope-said : (fs : List Frame) → inScope fs ≡ scopeSaid (said fs)
 unfolding inScope scopeSaid said
 scope-said [] = refl
 scope-said (f ∷ fs) = rw (scope-said fs) refl
+
+said-innermost : (x : Said) (S T : List Said) → On x S T → length T ≡ suc (length S) → T ≡ x ∷ S
+said-innermost x S T ([], o) l = o
+said-innermost x S T (y ∷ Y, o) l = absurd (omega (arith, ap length o, length-append Y (x ∷ S)))
+
+-- Whenever an element is innermost again, the language in force is that behind its start tag.
+pub own-language : {d d₂ : Doc} (b : Begun d d₂) → length (d₂ .frames) ≡ suc (length (d .frames)) → languageInForce (d₂ .frames) ≡ languageInForce (b .first .frames)
+own-language {d} {d₂} b l =
+    let h = around-kept b in
+    let e : said (d₂ .frames) ≡ said (b .first .frames) =
+    said-innermost (h .0) _ _ (h .2) (said-length (d₂ .frames) ∙ (l ∙ ap suc (sym (said-length (d .frames))))) ∙ sym (h .1) in
+    language-said (d₂ .frames) ∙ (ap languageSaid e ∙ sym (language-said (b .first .frames)))
 
 -- When an element has closed, the language, the base and the namespaces in force are those before it opened: nothing of it, and
 -- nothing inside it, reaches what stands after it.

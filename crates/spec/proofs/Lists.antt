@@ -31,7 +31,7 @@ use Rattle.spec.proofs.Subjects.{Rule, Of?, OfChildren, OfObject, OfVal
 
 -- ---- equality of texts
 
-same-true : (u v : Bytes) → same u v ≡ true → u ≡ v
+pub same-true : (u v : Bytes) → same u v ≡ true → u ≡ v
 unfolding same
 same-true [] [] h = refl
 same-true [] (b ∷ v) h = absurd (false≢true h)

@@ -1,11 +1,13 @@
 -- Demand 3: the language of literals.
 use mathlib.Core.Path.{_≡_}
+use mathlib.Core.Bool.{Bool, true, false}
 use mathlib.Core.Option.{Option, none, some}
 use mathlib.Core.List.{List, [], _∷_}
-use Rattle.spec.specs.Bytes.{Bytes, if_then_else_, same}
+use Rattle.spec.specs.Bytes.{Bytes, ascii, if_then_else_, same, orElse}
 use Rattle.spec.specs.Pyx.{Attribute, attribute, Event, opening, closing, text, instruction}
 use Rattle.spec.specs.NTriples.{Term, node, plain, tagged, typed, Triple, triple}
-use Rattle.spec.specs.Document.{Frame, Doc}
+use Rattle.spec.specs.Document.{Frame, Doc, languageInForce}
+use Rattle.spec.specs.StartTag.{lowercased}
 
 -- is it a literal without datatype, then it has this language, or none where there is none
 abbrev pub InLanguage : Option Bytes → Term → Type 0
@@ -30,3 +32,9 @@ openAt instruction d d′ = d .frames
 unfoldable pub valueNamed : Bytes → List Attribute → Option Bytes
 valueNamed m [] = none
 valueNamed m (attribute n v ∷ as′) = if same n m then some v else valueNamed m as′
+
+-- the language in force behind a start tag, in Literal content or not: its own xml:lang, lowercased, or else the one around; in
+-- Literal content it means nothing
+abbrev pub languageBehind : Bool → List Attribute → List Frame → Option Bytes
+languageBehind true as′ fs = languageInForce fs
+languageBehind false as′ fs = orElse (lowercased (valueNamed (ascii "xml:lang") as′)) (languageInForce fs)
