@@ -48,27 +48,28 @@ closed-list b₀ f p cs fs d d′ d″ ts us vs m is e before q after =
     (r .0, cells n (named (rdf "nil")) cs, r .1, subst (λ (h : ℕ). Reads n h (ts ++ (us ++ vs)) (r .0) (reverse cs)) (sym up) (r .2))
 
 -- what stood before the end tag of a Collection
-last-frames : {d d′ : Doc} (p : Property) (c : Element d d′) → innermost (c .begun .first .frames) ≡ some (propertyElement p (collection []))
+last-frames : {d d′ : Doc} {p : Property} {cs : List Subject} (c : Element d d′) → innermost (c .begun .first .frames) ≡ some (propertyElement p (collection cs))
     → (f : Frame) × (fs : List Frame) × (c .last .frames ≡ f ∷ fs) × (f .kind ≡ propertyElement p (collection (reverse (children (c .begun)))))
-last-frames {d} {d′} p c is = go (holds (c .begun) a-collection is)
+last-frames {d} {d′} {p} {cs} c is = go (holds (c .begun) a-collection is)
   where
-    K : Kind
-    K = grown (propertyElement p (collection [])) (children (c .begun)) (lis (c .begun))
+    K : List Subject → Kind
+    K cs = grown (propertyElement p (collection cs)) (children (c .begun)) (lis (c .begun))
 
-    go : (fs : List Frame) × (length fs ≡ length (d .frames)) × Open fs K (c .last .frames) → (f : Frame) × (fs : List Frame) × (c .last .frames ≡ f ∷ fs) × (f .kind ≡ K)
-    go (fs, e, o) =
+    go : (cs ≡ []) × ((fs : List Frame) × (length fs ≡ length (d .frames)) × Open fs (K cs) (c .last .frames))
+        → (f : Frame) × (fs : List Frame) × (c .last .frames ≡ f ∷ fs) × (f .kind ≡ K [])
+    go (new, (fs, e, o)) =
         let r = end-open o (always-good (Moved (c .last) (closing (c .name))) (moves (closing (c .name)) (c .last)) (c .ends) .0) (c .closes ∙ sym e) in
-        (r .0, fs, r .1, r .2)
+        (r .0, fs, r .1, r .2 ∙ ap K new)
 
 -- A Collection between any events of a document, before, inside and after it: its end tag ends in its statement, whose object
 -- is a list; and in all lines of the document that list has exactly the children, the subjects of the node elements that closed
 -- directly inside the Collection, in order. Its cells are the labels that its end tag generated.
-pub collections-read-back : (b₀ : Option Bytes) (d d′ d″ : Doc) (ts vs : List Triple) (p : Property) (c : Element d d′)
-    → After (fresh b₀) d ts → innermost (c .begun .first .frames) ≡ some (propertyElement p (collection [])) → After d′ d″ vs
+pub collections-read-back : (b₀ : Option Bytes) (d d′ d″ : Doc) (ts vs : List Triple) (p : Property) (cs : List Subject) (c : Element d d′)
+    → After (fresh b₀) d ts → innermost (c .begun .first .frames) ≡ some (propertyElement p (collection cs)) → After d′ d″ vs
     → (x : Subject) × (us : List Triple) × (c .endLines ≡ us ++ statement p (node x))
     × Reads (c .last .labels) (d′ .labels) (ts ++ (linesIn c ++ vs)) x (children (c .begun))
 unfolding linesIn
-collections-read-back b₀ d d′ d″ ts vs p c before is after = go (last-frames p c is)
+collections-read-back b₀ d d′ d″ ts vs p cs c before is after = go (last-frames c is)
   where
     b : Begun d (c .last)
     b = c .begun

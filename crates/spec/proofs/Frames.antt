@@ -35,15 +35,35 @@ left (nodeElement s li) n fs = changeValue (takesNode s) fs
 left (propertyElement p v) n fs = fs
 left xmlElement n fs = changeValue (takesXml (endTagXml n)) fs
 
+-- what a start tag outside Literal content opens: it has had no rdf:li, no child, no text
+abbrev NewValue : Value → Type 0
+NewValue (default d o) = Unit {0}
+NewValue (collection cs) = cs ≡ []
+NewValue (literal x) = x ≡ []
+NewValue other = Unit {0}
+
+abbrev pub New : Kind → Type 0
+New rdfRDF = Unit {0}
+New (nodeElement s li) = li ≡ 0
+New (propertyElement p v) = NewValue v
+New xmlElement = ⊥
+
+pub new-outside : (k : Kind) → New k → isXmlElement k ≡ false
+unfolding isXmlElement
+new-outside rdfRDF h = refl
+new-outside (nodeElement s li) h = refl
+new-outside (propertyElement p v) h = refl
+new-outside xmlElement h = absurd h
+
 -- the open elements before and behind an event
 pub data Move : Event → List Frame → List Frame → Type 0 where
   instructs : {fs : List Frame} → Move instruction fs fs
   leaves : {s : Bytes} {fs : List Frame} → Move (text s) fs fs
   adds : {s : Bytes} {g : Value → Value} {fs : List Frame} → Gentle g → Move (text s) fs (changeValue g fs)
   opens : {n : Bytes} {as′ : List Attribute} {f : Frame} {fs : List Frame} (i : Bytes)
-      → expandElement (declared as′ ++ inScope fs) n ≡ good i → isXmlElement (f .kind) ≡ false → Move (opening n as′) fs (f ∷ countLi i fs)
+      → expandElement (declared as′ ++ inScope fs) n ≡ good i → New (f .kind) → Move (opening n as′) fs (f ∷ countLi i fs)
   copies : {n : Bytes} {as′ : List Attribute} {f : Frame} {fs : List Frame} (x : Bytes)
-      → isXml (placeIn fs) ≡ true → Move (opening n as′) fs (f ∷ changeValue (takesXml x) fs)
+      → isXml (placeIn fs) ≡ true → f .kind ≡ xmlElement → Move (opening n as′) fs (f ∷ changeValue (takesXml x) fs)
   closes : {n : Bytes} {f : Frame} {fs : List Frame} → Move (closing n) (f ∷ fs) (left (f .kind) n fs)
 
 abbrev pub Moved : Doc → Event → Step → Type 0
@@ -73,49 +93,48 @@ tag-read n as′ d =
     always-any (Read n as′ d) _ _ λ datatype′.
     always-any (Read n as′ d) _ _ λ type′. (e, (ms, g, refl), refl)
 
--- outside Literal content no element is one inside it
-abbrev Outside : Opened → Type 0
-Outside o = isXmlElement (o .kind) ≡ false
+abbrev Begins : Opened → Type 0
+Begins o = New (o .kind)
 
-node-outside : (t : Tag) (n : ℕ) → Always Outside (openNode t n)
-unfolding openNode isXmlElement
-node-outside t n = always-require Outside _ _ _ λ e₁. always-require Outside _ _ _ λ e₂. always-after Outside _ _ refl
+node-begins : (t : Tag) (n : ℕ) → Always Begins (openNode t n)
+unfolding openNode
+node-begins t n = always-require Begins _ _ _ λ e₁. always-require Begins _ _ _ λ e₂. always-after Begins _ _ refl
 
-as-outside : (a : ParseType) (t : Tag) (p : Property) (n : ℕ) → Always Outside (O.openAs a t p n)
-unfolding O.openAs O.openWith O.openDefault O.openWithNode O.openResource isXmlElement
-as-outside noParseType t p n = always-if Outside _ _ _ (λ e. always-any Outside _ _ λ o. refl) λ e. refl
-as-outside asCollection t p n = refl
-as-outside asResource t p n = always-after Outside _ _ refl
-as-outside asLiteral t p n = refl
-as-outside asOther t p n = refl
+as-begins : (a : ParseType) (t : Tag) (p : Property) (n : ℕ) → Always Begins (O.openAs a t p n)
+unfolding O.openAs O.openWith O.openDefault O.openWithNode O.openResource
+as-begins noParseType t p n = always-if Begins _ _ _ (λ e. always-any Begins _ _ λ o. tt) λ e. tt
+as-begins asCollection t p n = refl
+as-begins asResource t p n = always-after Begins _ _ refl
+as-begins asLiteral t p n = refl
+as-begins asOther t p n = tt
 
-property-outside : (t : Tag) (s : Subject) (li n : ℕ) → Always Outside (openProperty t s li n)
+property-begins : (t : Tag) (s : Subject) (li n : ℕ) → Always Begins (openProperty t s li n)
 unfolding openProperty
-property-outside t s li n =
-    always-require Outside _ _ _ λ e₁. always-require Outside _ _ _ λ e₂. always-after Outside _ _ (as-outside _ t _ n)
+property-begins t s li n =
+    always-require Begins _ _ _ λ e₁. always-require Begins _ _ _ λ e₂. always-after Begins _ _ (as-begins _ t _ n)
 
-root-outside : (t : Tag) (n : ℕ) → Always Outside (openRoot t n)
-unfolding openRoot isXmlElement
-root-outside t n = always-if Outside _ _ _ (λ e. refl) λ e. node-outside t n
+root-begins : (t : Tag) (n : ℕ) → Always Begins (openRoot t n)
+unfolding openRoot
+root-begins t n = always-if Begins _ _ _ (λ e. tt) λ e. node-begins t n
 
 module _ (n : Bytes) (as′ : List Attribute) (d : Doc) where
   abbrev Opens : Step → Type 0
   Opens = Moved d (opening n as′)
 
-  open-element : (production : Tag → ℕ → Answer Opened) → ((t : Tag) → Always Outside (production t (d .labels))) → Always Opens (G.openElement production n as′ d)
+  open-element : (production : Tag → ℕ → Answer Opened) → ((t : Tag) → Always Begins (production t (d .labels))) → Always Opens (G.openElement production n as′ d)
   unfolding G.openElement G.opened
   open-element production h =
       always-bind (Read n as′ d) Opens _ _ (tag-read n as′ d) λ t r.
-      always-bind Outside Opens _ _ (h t) λ o k.
+      always-bind Begins Opens _ _ (h t) λ o k.
       always-require Opens _ _ _ λ e. (opens (t .iri) (r .0) k, refl)
 
   open-in : (p : Place) → placeIn (d .frames) ≡ p → Always Opens (G.openIn p n as′ d)
   unfolding G.openIn G.copyElement addXml withFrames isXml
-  open-in outside e = open-element openRoot λ t. root-outside t (d .labels)
-  open-in nodes e = open-element openNode λ t. node-outside t (d .labels)
-  open-in nodesOrText e = open-element openNode λ t. node-outside t (d .labels)
-  open-in (properties s li) e = open-element (λ t. openProperty t s li) λ t. property-outside t s li (d .labels)
-  open-in xml e = always-require Opens _ _ _ λ g. always-after Opens _ _ (copies _ (rw e refl), refl)
+  open-in outside e = open-element openRoot λ t. root-begins t (d .labels)
+  open-in nodes e = open-element openNode λ t. node-begins t (d .labels)
+  open-in nodesOrText e = open-element openNode λ t. node-begins t (d .labels)
+  open-in (properties s li) e = open-element (λ t. openProperty t s li) λ t. property-begins t s li (d .labels)
+  open-in xml e = always-require Opens _ _ _ λ g. always-after Opens _ _ (copies _ (rw e refl) refl, refl)
 
 -- ---- end tags and text
 

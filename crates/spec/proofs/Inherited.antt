@@ -60,7 +60,7 @@ turns instructs = refl
 turns leaves = refl
 turns (adds {fs = fs} m) = said-value _ fs
 turns (opens {f = f} {fs = fs} i e c) = (saidOf f, ap (saidOf f ∷_) (said-count i fs))
-turns (copies {f = f} {fs = fs} x c) = (saidOf f, ap (saidOf f ∷_) (said-value _ fs))
+turns (copies {f = f} {fs = fs} x c k) = (saidOf f, ap (saidOf f ∷_) (said-value _ fs))
 turns (closes {n = n} {f = f} {fs = fs}) = (saidOf f, ap (saidOf f ∷_) (sym (said-left (f .kind) n fs)))
 
 pub turn : (e : Event) (d d′ : Doc) {us : List Triple} → next e d ≡ good (us, d′) → Turn e (said (d .frames)) (said (d′ .frames)) × (d′ .startBase ≡ d .startBase)

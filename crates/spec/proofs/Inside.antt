@@ -23,7 +23,7 @@ use Rattle.spec.specs.RdfXml.{takesText}
 use Rattle.spec.specs.Lists.{After, here, event}
 use Rattle.spec.specs.Inside.{StaysOpen, nodeSubject, childOf, innermost, Begun, childrenOver, children, namesLi, isLiTag, liOf, lisOver, lis}
 use Rattle.spec.proofs.Always.{always-good}
-use Rattle.spec.proofs.Frames.{Gentle, by-text, by-xml, left, Move, instructs, leaves, adds, opens, copies, closes, Moved, moves}
+use Rattle.spec.proofs.Frames.{Gentle, by-text, by-xml, left, New, new-outside, Move, instructs, leaves, adds, opens, copies, closes, Moved, moves}
 
 -- ---- node elements and Collections
 
@@ -186,11 +186,11 @@ on-start : {n : Bytes} {as′ : List Attribute} {fs frames : List Frame} {K : Ki
     → Move (opening n as′) (gs ++ (g ∷ fs)) frames → Open fs (grown K [] (liOf (length fs) (opening n as′) (gs ++ (g ∷ fs)))) frames
 unfolding countLi withKind placeIn
 on-start {n} {as′} {fs} {frames} {K} [] g h is b (opens {f = f} i e c) =
-    rw (li-direct n i as′ g fs e) (open-at (f ∷ []) (withKind (counted i (g .kind)) g) (ap (counted i) is ∙ li-counted i h) c)
-on-start {n} {as′} {fs} {frames} {K} [] g h is b (copies x c) = absurd (false≢true (sym (ap (λ (k : Kind). isXml (inKind k)) is ∙ no-xml-inside h) ∙ c))
+    rw (li-direct n i as′ g fs e) (open-at (f ∷ []) (withKind (counted i (g .kind)) g) (ap (counted i) is ∙ li-counted i h) (new-outside (f .kind) c))
+on-start {n} {as′} {fs} {frames} {K} [] g h is b (copies x c k) = absurd (false≢true (sym (ap (λ (k : Kind). isXml (inKind k)) is ∙ no-xml-inside h) ∙ c))
 on-start {n} {as′} {fs} {frames} {K} (z ∷ gs) g h is b (opens {f = f} i e c) =
     rw (li-deeper n as′ z g gs fs) (open-above f (is ∙ sym (grown-none h)) (count-above i z gs (g ∷ fs) b))
-on-start {n} {as′} {fs} {frames} {K} (z ∷ gs) g h is b (copies {f = f} x c) =
+on-start {n} {as′} {fs} {frames} {K} (z ∷ gs) g h is b (copies {f = f} x c k) =
     rw (li-deeper n as′ z g gs fs) (open-above f (is ∙ sym (grown-none h)) (value-above (takesXml x) z gs (g ∷ fs) b))
 
 -- a child closes only directly inside
@@ -236,29 +236,38 @@ inside {fs = fs} h o (event {d = d} before e d′ us q) s =
     (step (grown-holds _ _ h) (inside h o before (s .0)) (always-good (Moved d e) (moves e d) q .0) (s .1))
 
 -- behind a start tag
-start-open : {n : Bytes} {as′ : List Attribute} {fs frames : List Frame} {K : Kind} → Move (opening n as′) fs frames → innermost frames ≡ some K
-    → (gs : List Frame) × (length gs ≡ length fs) × Open gs K frames
-unfolding innermost countLi
-start-open {fs = []} (opens {f = f} i e c) is = ([], refl, open-at [] f (Option·some-injective _ _ is) tt)
-start-open {fs = g ∷ fs} (opens {f = f} i e c) is = (withKind (counted i (g .kind)) g ∷ fs, refl, open-at [] f (Option·some-injective _ _ is) tt)
-start-open {fs = fs} (copies {f = f} x c) is = (changeValue (takesXml x) fs, value-length _ fs, open-at [] f (Option·some-injective _ _ is) tt)
+start-open : {n : Bytes} {as′ : List Attribute} {fs frames : List Frame} {K : Kind} → Holder K → Move (opening n as′) fs frames → innermost frames ≡ some K
+    → New K × ((gs : List Frame) × (length gs ≡ length fs) × Open gs K frames)
+unfolding innermost countLi isXmlElement
+start-open {fs = []} h (opens {f = f} i e c) is = let k = Option·some-injective _ _ is in (rw k at c, ([], refl, open-at [] f k tt))
+start-open {fs = g ∷ fs} h (opens {f = f} i e c) is =
+    let k = Option·some-injective _ _ is in (rw k at c, (withKind (counted i (g .kind)) g ∷ fs, refl, open-at [] f k tt))
+start-open h (copies x c k) is = absurd (true≢false (ap isXmlElement (sym k ∙ Option·some-injective _ _ is) ∙ not-xml h))
 
--- from its start tag on it holds what happened directly inside it
+-- it is new behind its start tag, and from there on it holds what happened directly inside it
 pub holds : {d d₂ : Doc} {K : Kind} (b : Begun d d₂) → Holder K → innermost (b .first .frames) ≡ some K
-    → (fs : List Frame) × (length fs ≡ length (d .frames)) × Open fs (grown K (children b) (lis b)) (d₂ .frames)
+    → New K × ((fs : List Frame) × (length fs ≡ length (d .frames)) × Open fs (grown K (children b) (lis b)) (d₂ .frames))
 unfolding children lis
-holds {d} {d₂} {K} b h is = go (start-open (always-good (Moved d start) (moves start d) (b .starts) .0) is)
+holds {d} {d₂} {K} b h is =
+    let o = start-open h (always-good (Moved d start) (moves start d) (b .starts) .0) is in (o .0, go (o .1))
   where
     start : Event
     start = opening (b .name) (b .attributes)
 
     go : (fs : List Frame) × (length fs ≡ length (d .frames)) × Open fs K (b .first .frames)
         → (fs : List Frame) × (length fs ≡ length (d .frames)) × Open fs (grown K (children b) (lis b)) (d₂ .frames)
-    go (fs, e, o) = (fs, e, subst (λ (k : ℕ). (s : StaysOpen k (b .inside)) → Open fs (grown K (childrenOver k (b .inside)) (lisOver k (b .inside))) (d₂ .frames)) e (inside h o (b .inside)) (b .stays))
+    go (fs, e, o) = (
+      fs,
+      e,
+      subst (λ (k : ℕ). (s : StaysOpen k (b .inside)) → Open fs (grown K (childrenOver k (b .inside)) (lisOver k (b .inside))) (d₂ .frames)) e (inside h o (b .inside)) (b .stays),
+    )
 
--- before its end tag
+-- where it is innermost
+pub innermost-open : {fs frames : List Frame} {K : Kind} → Open fs K frames → length frames ≡ suc (length fs) → (g : Frame) × (frames ≡ g ∷ fs) × (g .kind ≡ K)
+innermost-open (open-at [] g is b) e = (g, refl, is)
+innermost-open {fs} (open-at (x ∷ gs) g is b) e = absurd (omega (arith, length-append gs (g ∷ fs)))
+
+-- before its end tag it is
 pub end-open : {n : Bytes} {fs frames frames′ : List Frame} {K : Kind} → Open fs K frames → Move (closing n) frames frames′ → length frames′ ≡ length fs
     → (g : Frame) × (frames ≡ g ∷ fs) × (g .kind ≡ K)
-end-open (open-at [] g is b) m e = (g, refl, is)
-end-open {n} {fs} (open-at (x ∷ gs) g is b) closes e =
-    absurd (let l : length (left (x .kind) n (gs ++ (g ∷ fs))) ≡ length (gs ++ (g ∷ fs)) = left-length (x .kind) n (gs ++ (g ∷ fs)) in omega (arith, length-append gs (g ∷ fs)))
+end-open {n} o (closes {f = f} {fs = gs}) e = innermost-open o (let l : length (left (f .kind) n gs) ≡ length gs = left-length (f .kind) n gs in omega arith)
