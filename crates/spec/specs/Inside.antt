@@ -11,9 +11,9 @@ use Rattle.spec.specs.Bytes.{Bytes, if_then_else_}
 use Rattle.spec.specs.Numbers.{Answer, refuse, good}
 use Rattle.spec.specs.Pyx.{Attribute, Event, opening, closing, text, instruction}
 use Rattle.spec.specs.Namespaces.{Binding, declared, expandElement}
-use Rattle.spec.specs.NTriples.{Subject, Triple}
-use Rattle.spec.specs.Document.{Kind, rdfRDF, nodeElement, propertyElement, xmlElement, Frame, Doc, inScope}
-use Rattle.spec.specs.Productions.{isLi}
+use Rattle.spec.specs.NTriples.{Subject, node, Triple}
+use Rattle.spec.specs.Document.{Value, Property, Kind, rdfRDF, nodeElement, propertyElement, xmlElement, Frame, Doc, inScope}
+use Rattle.spec.specs.Productions.{statement, isLi}
 use Rattle.spec.specs.RdfXml.{next}
 use Rattle.spec.specs.Lists.{After, here, event}
 
@@ -113,3 +113,9 @@ lisOver k (event {d = d} before e d′ us q) = lisOver k before + liOf k e (d .f
 -- how many rdf:li opened directly inside it
 unfoldable pub lis : {d d₂ : Doc} → Begun d d₂ → ℕ
 lis {d} b = lisOver (length (d .frames)) (b .inside)
+
+-- a start tag, by its lines and the document behind it, began this property: it is the innermost open element, or, with parseType
+-- Resource, its statement is written and its object's node is
+pub data Begins (p : Property) (us : List Triple) (d : Doc) : Type 0 where
+  is-open : (v : Value) → innermost (d .frames) ≡ some (propertyElement p v) → Begins p us d
+  is-written : (x : Subject) → us ≡ statement p (node x) → innermost (d .frames) ≡ some (nodeElement x 0) → Begins p us d
