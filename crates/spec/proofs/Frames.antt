@@ -1,16 +1,18 @@
 -- What an accepted event does to the open elements: a start tag puts one on top, an end tag takes the top one away, and those
 -- below keep all but what they hold.
-use mathlib.Core.Path.{_≡_, refl}
+use mathlib.Core.Path.{_≡_, refl, ap}
+use mathlib.Core.Logic.{_⊎_, inl, inr}
 use mathlib.Core.Bool.{Bool, true, false}
 use mathlib.Core.Option.{Option}
 use mathlib.Core.List.{List, [], _∷_, _++_}
-use Prim.Native.Nat.{ℕ}
+use Prim.Native.Nat.{ℕ, suc}
+use lib.ListN.{length}
 use Rattle.spec.specs.Bytes.{Bytes, each, if_then_else_, orElse}
 use Rattle.spec.specs.Numbers.{Answer, good}
 use Rattle.spec.specs.Pyx.{Attribute, Event, opening, closing, text, instruction}
 use Rattle.spec.specs.Namespaces.{Binding, declared, expandElement}
 use Rattle.spec.specs.NTriples.{Subject}
-use Rattle.spec.specs.Document.{Value, default, collection, literal, other, Property, Kind, rdfRDF, nodeElement, propertyElement, xmlElement, Frame, Doc, withFrames, withLabels, inScope, languageInForce, Place, outside, nodes, nodesOrText, xml, properties, placeIn, changeValue, isXmlElement}
+use Rattle.spec.specs.Document.{Value, default, collection, literal, other, Property, Kind, rdfRDF, nodeElement, propertyElement, xmlElement, Frame, Doc, withFrames, withLabels, inScope, languageInForce, Place, outside, nodes, nodesOrText, xml, properties, placeIn, changeValue, isXmlElement, onValue, withKind}
 use Rattle.spec.specs.StartTag.{Meaning, xml-lang, meaning, first, lowercased, Tag, readTag}
 use Rattle.spec.specs.Productions as O
 use Rattle.spec.specs.Productions.{Opened, openNode, openProperty, openRoot, ParseType, noParseType, asCollection, asResource, asLiteral, asOther}
@@ -34,6 +36,26 @@ left rdfRDF n fs = fs
 left (nodeElement s li) n fs = changeValue (takesNode s) fs
 left (propertyElement p v) n fs = fs
 left xmlElement n fs = changeValue (takesXml (endTagXml n)) fs
+
+pub value-length : (h : Value → Value) (fs : List Frame) → length (changeValue h fs) ≡ length fs
+unfolding changeValue if_then_else_
+value-length h [] = refl
+value-length h (f ∷ fs) = go (isXmlElement (f .kind)) (value-length h fs)
+  where
+    go : (t : Bool) → length (changeValue h fs) ≡ length fs → length (if t then f ∷ changeValue h fs else withKind (onValue h (f .kind)) f ∷ fs) ≡ suc (length fs)
+    go true e = ap suc e
+    go false e = refl
+
+count-length : (i : Bytes) (fs : List Frame) → length (countLi i fs) ≡ length fs
+unfolding countLi
+count-length i [] = refl
+count-length i (f ∷ fs) = refl
+
+pub left-length : (k : Kind) (n : Bytes) (fs : List Frame) → length (left k n fs) ≡ length fs
+left-length rdfRDF n fs = refl
+left-length (nodeElement s li) n fs = value-length _ fs
+left-length (propertyElement p v) n fs = refl
+left-length xmlElement n fs = value-length _ fs
 
 -- what a start tag outside Literal content opens: it has had no rdf:li, no child, no text
 abbrev NewValue : Value → Type 0
@@ -65,6 +87,14 @@ pub data Move : Event → List Frame → List Frame → Type 0 where
   copies : {n : Bytes} {as′ : List Attribute} {f : Frame} {fs : List Frame} (x : Bytes)
       → isXml (placeIn fs) ≡ true → f .kind ≡ xmlElement → Move (opening n as′) fs (f ∷ changeValue (takesXml x) fs)
   closes : {n : Bytes} {f : Frame} {fs : List Frame} → Move (closing n) (f ∷ fs) (left (f .kind) n fs)
+
+-- the element that a start tag opens, above as many as before
+abbrev pub OnTop : List Frame → List Frame → Type 0
+OnTop fs frames = (f : Frame) × (gs : List Frame) × (frames ≡ f ∷ gs) × (length gs ≡ length fs) × (New (f .kind) ⊎ (f .kind ≡ xmlElement))
+
+pub on-top : {n : Bytes} {as′ : List Attribute} {fs frames : List Frame} → Move (opening n as′) fs frames → OnTop fs frames
+on-top (opens {f = f} {fs = fs} i e c) = (f, countLi i fs, refl, count-length i fs, inl c)
+on-top (copies {f = f} {fs = fs} x c k) = (f, changeValue (takesXml x) fs, refl, value-length _ fs, inr k)
 
 abbrev pub Moved : Doc → Event → Step → Type 0
 Moved d e s = Move e (d .frames) (s .1 .frames) × (s .1 .startBase ≡ d .startBase)

@@ -1,6 +1,7 @@
 -- A node element or a Collection, as long as it stays open, holds exactly what happened directly inside it: nothing deeper inside,
 -- no text and nothing around it changes it.
 use mathlib.Core.Path.{_≡_, refl, sym, _∙_, ap, subst}
+use mathlib.Core.Logic.{_⊎_, inl, inr}
 use mathlib.Core.Bool.{Bool, true, false, true≢false, false≢true}
 use mathlib.Core.Option.{some, Option·some-injective}
 use mathlib.Core.List.{List, [], _∷_, _++_, reverseAux, reverseAux-append}
@@ -23,7 +24,7 @@ use Rattle.spec.specs.RdfXml.{takesText}
 use Rattle.spec.specs.Lists.{After, here, event}
 use Rattle.spec.specs.Inside.{StaysOpen, nodeSubject, childOf, innermost, Begun, childrenOver, children, namesLi, isLiTag, liOf, lisOver, lis}
 use Rattle.spec.proofs.Always.{always-good}
-use Rattle.spec.proofs.Frames.{Gentle, by-text, by-xml, left, New, new-outside, Move, instructs, leaves, adds, opens, copies, closes, Moved, moves}
+use Rattle.spec.proofs.Frames.{Gentle, by-text, by-xml, left, left-length, New, new-outside, OnTop, on-top, Move, instructs, leaves, adds, opens, copies, closes, Moved, moves}
 
 -- ---- node elements and Collections
 
@@ -152,21 +153,6 @@ change-innermost h g fs {K} {K′} holder is e =
     let no : isXmlElement (g .kind) ≡ false = ap isXmlElement is ∙ not-xml holder in
     rw no (open-at [] (withKind (onValue h (g .kind)) g) (ap (onValue h) is ∙ e) tt)
 
-value-length : (h : Value → Value) (fs : List Frame) → length (changeValue h fs) ≡ length fs
-unfolding changeValue if_then_else_
-value-length h [] = refl
-value-length h (f ∷ fs) = go (isXmlElement (f .kind)) (value-length h fs)
-  where
-    go : (t : Bool) → length (changeValue h fs) ≡ length fs → length (if t then f ∷ changeValue h fs else withKind (onValue h (f .kind)) f ∷ fs) ≡ suc (length fs)
-    go true e = ap suc e
-    go false e = refl
-
-left-length : (k : Kind) (n : Bytes) (fs : List Frame) → length (left k n fs) ≡ length fs
-left-length rdfRDF n fs = refl
-left-length (nodeElement s li) n fs = value-length _ fs
-left-length (propertyElement p v) n fs = refl
-left-length xmlElement n fs = value-length _ fs
-
 on-text : {g₀ : Value → Value} {fs : List Frame} {K : Kind} (gs : List Frame) (g : Frame) → Gentle g₀ → Holder K → g .kind ≡ K → Based gs
     → Open fs K (changeValue g₀ (gs ++ (g ∷ fs)))
 on-text [] g m h is b = change-innermost _ g _ h is (text-nothing m h)
@@ -236,20 +222,24 @@ inside {fs = fs} h o (event {d = d} before e d′ us q) s =
     (step (grown-holds _ _ h) (inside h o before (s .0)) (always-good (Moved d e) (moves e d) q .0) (s .1))
 
 -- behind a start tag
-start-open : {n : Bytes} {as′ : List Attribute} {fs frames : List Frame} {K : Kind} → Holder K → Move (opening n as′) fs frames → innermost frames ≡ some K
+start-open : (fs : List Frame) {frames : List Frame} {K : Kind} → Holder K → OnTop fs frames → innermost frames ≡ some K
     → New K × ((gs : List Frame) × (length gs ≡ length fs) × Open gs K frames)
-unfolding innermost countLi isXmlElement
-start-open {fs = []} h (opens {f = f} i e c) is = let k = Option·some-injective _ _ is in (rw k at c, ([], refl, open-at [] f k tt))
-start-open {fs = g ∷ fs} h (opens {f = f} i e c) is =
-    let k = Option·some-injective _ _ is in (rw k at c, (withKind (counted i (g .kind)) g ∷ fs, refl, open-at [] f k tt))
-start-open h (copies x c k) is = absurd (true≢false (ap isXmlElement (sym k ∙ Option·some-injective _ _ is) ∙ not-xml h))
+unfolding innermost isXmlElement
+start-open fs {K = K} h (f, gs, e, l, n) is = (new n, (gs, l, rw e (open-at [] f k tt)))
+  where
+    k : f .kind ≡ K
+    k = Option·some-injective (f .kind) K (sym (ap innermost e) ∙ is)
+
+    new : New (f .kind) ⊎ (f .kind ≡ xmlElement) → New K
+    new (inl c) = rw k at c
+    new (inr x) = absurd (true≢false (ap isXmlElement (sym x ∙ k) ∙ not-xml h))
 
 -- it is new behind its start tag, and from there on it holds what happened directly inside it
 pub holds : {d d₂ : Doc} {K : Kind} (b : Begun d d₂) → Holder K → innermost (b .first .frames) ≡ some K
     → New K × ((fs : List Frame) × (length fs ≡ length (d .frames)) × Open fs (grown K (children b) (lis b)) (d₂ .frames))
 unfolding children lis
 holds {d} {d₂} {K} b h is =
-    let o = start-open h (always-good (Moved d start) (moves start d) (b .starts) .0) is in (o .0, go (o .1))
+    let o = start-open (d .frames) h (on-top (always-good (Moved d start) (moves start d) (b .starts) .0)) is in (o .0, go (o .1))
   where
     start : Event
     start = opening (b .name) (b .attributes)

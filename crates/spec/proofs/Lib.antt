@@ -14,6 +14,7 @@ pub mod Inside
 pub mod Subjects
 pub mod Lists
 pub mod Children
+pub mod Statements
 pub mod Numbering
 pub mod NewLabels
 -- ---- what is inherited

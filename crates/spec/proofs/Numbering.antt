@@ -19,9 +19,10 @@ use Rattle.spec.specs.Opening.{Step}
 use Rattle.spec.specs.Opening as G
 use Rattle.spec.specs.RdfXml.{next}
 use Rattle.spec.specs.RdfXml as X
-use Rattle.spec.specs.Inside.{Begun, innermost, isLiTag, namesLi, lis, Begins, is-open, is-written}
+use Rattle.spec.specs.Inside.{Begun, Element, innermost, isLiTag, namesLi, lis, Begins, is-open, is-written, Writes}
 use Rattle.spec.proofs.Always.{Always, always-bind, always-any, always-after, always-require, always-if, always-map, always-good}
 use Rattle.spec.proofs.Frames.{Read, tag-read, always-next}
+use Rattle.spec.proofs.Statements.{property-written}
 use Rattle.spec.proofs.Inside.{a-node, Open, holds, innermost-open}
 
 -- what a property's start tag opens, and writes
@@ -87,3 +88,11 @@ li-numbered {d} {d₂} b s li is l n as′ us d₃ it q = always-good (Numbered 
         let f : d₂ .frames ≡ r .0 ∷ fs = r .1 in
         let k : r .0 .kind ≡ nodeElement s (li + lis b) = r .2 in
         ap placeIn f ∙ (ap inKind k ∙ ap (properties s) (omega arith))
+
+-- So with its lines: the element writes its statement, whose subject is the node and whose predicate is rdf:_n.
+pub li-written : {d d₂ d₃ : Doc} (b : Begun d d₂) (s : Subject) (li : ℕ) → innermost (b .first .frames) ≡ some (nodeElement s li)
+    → length (d₂ .frames) ≡ suc (length (d .frames)) → (c : Element d₂ d₃) → isLiTag (c .begun .name) (c .begun .attributes) (d₂ .frames) ≡ true
+    → (p : Property) × (p .subject ≡ s) × (p .iri ≡ rdf "_" ++ decimal (suc (lis b))) × Writes p c
+li-written b s li is l c it =
+    let r = li-numbered b s li is l (c .begun .name) (c .begun .attributes) (c .begun .startLines) (c .begun .first) it (c .begun .starts) in
+    (r .0, r .1, r .2, property-written c (r .0) (r .3))
