@@ -2,7 +2,8 @@
 use mathlib.Core.Path.{_≡_, sym, _∙_, ap, subst}
 use mathlib.Core.Option.{Option, some}
 use mathlib.Core.List.{List, [], _∷_, _++_, append-nil, append-assoc, reverse, reverse-reverse}
-use Prim.Native.Nat.{ℕ, _+_}
+use Prim.Native.Nat.{ℕ, _+_, _-_, _≤_, _<_}
+use native.Mathlib.Omega.{arith}
 use lib.ListN.{length}
 use Rattle.spec.specs.Bytes.{Bytes}
 use Rattle.spec.specs.Numbers.{good}
@@ -13,16 +14,23 @@ use Rattle.spec.specs.Document.{collection, Property, Kind, propertyElem
 use Rattle.spec.specs.Productions.{statement}
 use Rattle.spec.specs.EndTag.{cells}
 use Rattle.spec.specs.RdfXml.{next}
-use Rattle.spec.specs.Lists.{After, here, event, Reads}
+use Rattle.spec.specs.Lists.{After, here, event, Cell, Reads}
 use Rattle.spec.specs.Inside.{Begun, Element, innermost, children, linesIn, lis}
 use Rattle.spec.proofs.Always.{always-good}
 use Rattle.spec.proofs.Frames.{Moved, moves}
 use Rattle.spec.proofs.Inside.{a-collection, Open, grown, holds, end-open}
-use Rattle.spec.proofs.Lists.{inCollection, Closed, closes, lists-read-back}
+use Rattle.spec.proofs.Lists.{inCollection, Closed, closes, lists-read-back, grows-after, bound-after, no-cell-in-two-lists}
 
 after-append : {d₀ d d′ : Doc} {ts us : List Triple} → After d₀ d ts → After d d′ us → After d₀ d′ (ts ++ us)
 after-append {d₀} {d} {ts = ts} a here = rw append-nil a
 after-append {d₀} {ts = ts} a (event {ts = vs} b e d′ us q) = rw (← append-assoc ts vs us) (event (after-append a b) e d′ us q)
+
+-- an element is a run of events
+after-element : {d₀ d d′ : Doc} {ts : List Triple} (c : Element d d′) → After d₀ d ts → After d₀ d′ (ts ++ linesIn c)
+unfolding linesIn
+after-element c a =
+    let b = c .begun in
+    simp (← append-assoc) (event (after-append (event a (opening (b .name) (b .attributes)) (b .first) (b .startLines) (b .starts)) (b .inside)) (closing (c .name)) _ (c .endLines) (c .ends))
 
 -- a document by its parts
 with-frames : (d : Doc) {fs : List Frame} → d .frames ≡ fs → d ≡ withFrames fs d
@@ -82,3 +90,17 @@ collections-read-back b₀ d d′ d″ ts vs p cs c before is after = go (last-f
     go (f, fs, e, k) =
         rw (← lines, ← reverse-reverse (children b)) (closed-list b₀ f p (reverse (children b)) fs (c .last) d′ d″ ((ts ++ b .startLines) ++ b .innerLines) (c .endLines) vs (c .name) k e
         (after-append (event before (opening (b .name) (b .attributes)) (b .first) (b .startLines) (b .starts)) (b .inside)) (c .ends) after)
+
+-- No cell is in the lists of two Collections, here one that closes before the other.
+pub no-cell-in-two-collections : (b₀ : Option Bytes) (d₁ d₁′ d₂ d₂′ : Doc) (ts vs : List Triple) (c₁ : Element d₁ d₁′) (c₂ : Element d₂ d₂′) (x : Subject)
+    → After (fresh b₀) d₁ ts → After d₁′ (c₂ .last) vs
+    → Cell (c₁ .last .labels) (d₁′ .labels) x → Cell (c₂ .last .labels) (d₂′ .labels) x → ⊥
+unfolding fresh
+no-cell-in-two-collections b₀ d₁ d₁′ d₂ d₂′ ts vs c₁ c₂ x before between i j =
+    let last : After (c₂ .last) d₂′ ([] ++ c₂ .endLines) = event here (closing (c₂ .name)) d₂′ (c₂ .endLines) (c₂ .ends) in
+    let one : d₁′ .labels < 100_000_000 = bound-after (fresh b₀) d₁′ _ (omega arith) (after-element c₁ before) in
+    let two : c₂ .last .labels < 100_000_000 = bound-after d₁′ (c₂ .last) vs one between in
+    let end : d₂′ .labels < 100_000_000 = bound-after (c₂ .last) d₂′ _ two last in
+    let up : c₂ .last .labels ≤ d₂′ .labels = grows-after (c₂ .last) d₂′ _ two last in
+    let h : j .0 ≤ d₂′ .labels = j .2 in
+    no-cell-in-two-lists d₁′ (c₂ .last) vs (c₁ .last .labels) (d₂′ .labels - c₂ .last .labels) x one between (omega arith) i (j .0, j .1, omega arith, j .3)

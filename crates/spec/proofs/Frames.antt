@@ -96,15 +96,17 @@ pub on-top : {n : Bytes} {as′ : List Attribute} {fs frames : List Frame} → M
 on-top (opens {f = f} {fs = fs} i e c) = (f, countLi i fs, refl, count-length i fs, inl c)
 on-top (copies {f = f} {fs = fs} x c k) = (f, changeValue (takesXml x) fs, refl, value-length _ fs, inr k)
 
+-- an event's step is such a move, and leaves the start base
 abbrev pub Moved : Doc → Event → Step → Type 0
 Moved d e s = Move e (d .frames) (s .1 .frames) × (s .1 .startBase ≡ d .startBase)
 
 -- ---- start tags
 
--- a start tag, read: its expanded name, its own xml:lang among its attributes, and the language in force in it
+-- the bindings in scope in a start tag
 abbrev pub scopeOf : List Attribute → Doc → List Binding
 scopeOf as′ d = declared as′ ++ inScope (d .frames)
 
+-- a start tag, read: its expanded name, its own xml:lang among its attributes, and the language in force in it
 abbrev pub Read : Bytes → List Attribute → Doc → Tag → Type 0
 Read n as′ d t =
     (expandElement (scopeOf as′ d) n ≡ good (t .iri))
@@ -225,6 +227,6 @@ pub always-next : (Q : Step → Type 0) (e : Event) (d : Doc) → Always Q (X.on
 unfolding next X.within
 always-next Q e d h = always-bind Q Q _ _ h λ s k. always-require Q _ _ _ λ g. k
 
--- every accepted event is such a move, and leaves the start base
+-- every accepted event is such a move
 pub moves : (e : Event) (d : Doc) → Always (Moved d e) (next e d)
 moves e d = always-next (Moved d e) e d (on-event e d)

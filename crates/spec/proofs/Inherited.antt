@@ -48,7 +48,7 @@ said-length [] = refl
 said-length (f ∷ fs) = ap suc (said-length fs)
 
 -- a start tag adds to it, an end tag takes the last away
-abbrev pub Turn : Event → List Said → List Said → Type 0
+abbrev Turn : Event → List Said → List Said → Type 0
 Turn (opening n as′) S S′ = (x : Said) × (S′ ≡ x ∷ S)
 Turn (closing n) S S′ = (x : Said) × (S ≡ x ∷ S′)
 Turn (text s) S S′ = S′ ≡ S
@@ -63,7 +63,7 @@ turns (opens {f = f} {fs = fs} i e c) = (saidOf f, ap (saidOf f ∷_) (said-coun
 turns (copies {f = f} {fs = fs} x c k) = (saidOf f, ap (saidOf f ∷_) (said-value _ fs))
 turns (closes {n = n} {f = f} {fs = fs}) = (saidOf f, ap (saidOf f ∷_) (sym (said-left (f .kind) n fs)))
 
-pub turn : (e : Event) (d d′ : Doc) {us : List Triple} → next e d ≡ good (us, d′) → Turn e (said (d .frames)) (said (d′ .frames)) × (d′ .startBase ≡ d .startBase)
+turn : (e : Event) (d d′ : Doc) {us : List Triple} → next e d ≡ good (us, d′) → Turn e (said (d .frames)) (said (d′ .frames)) × (d′ .startBase ≡ d .startBase)
 turn e d d′ q = let m = always-good (Moved d e) (moves e d) q in (turns (m .0), m .1)
 
 -- ---- below an open element all stays as it was
@@ -110,14 +110,17 @@ said-again {d} {d′} c =
 
 -- ---- what is in force was said
 
-pub languageSaid : List Said → Option Bytes
+languageSaid : List Said → Option Bytes
 languageSaid [] = none
 languageSaid (x ∷ S) = orElse (x .3) (languageSaid S)
 
-pub language-said : (fs : List Frame) → languageInForce fs ≡ languageSaid (said fs)
+language-said : (fs : List Frame) → languageInForce fs ≡ languageSaid (said fs)
 unfolding languageInForce languageSaid said
 language-said [] = refl
 language-said (f ∷ fs) = rw (language-said fs) refl
+
+pub same-language : (fs gs : List Frame) → said fs ≡ said gs → languageInForce fs ≡ languageInForce gs
+same-language fs gs e = language-said fs ∙ (ap languageSaid e ∙ sym (language-said gs))
 
 baseSaid : Option Bytes → List Said → Option Bytes
 baseSaid start [] = start
@@ -141,13 +144,19 @@ said-innermost : (x : Said) (S T : List Said) → On x S T → length T ≡ suc 
 said-innermost x S T ([], o) l = o
 said-innermost x S T (y ∷ Y, o) l = absurd (omega (arith, ap length o, length-append Y (x ∷ S)))
 
--- Whenever an element is innermost again, the language in force is that behind its start tag.
-pub own-language : {d d₂ : Doc} (b : Begun d d₂) → length (d₂ .frames) ≡ suc (length (d .frames)) → languageInForce (d₂ .frames) ≡ languageInForce (b .first .frames)
+-- whenever an element is innermost again, the language in force is that behind its start tag
+own-language : {d d₂ : Doc} (b : Begun d d₂) → length (d₂ .frames) ≡ suc (length (d .frames)) → languageInForce (d₂ .frames) ≡ languageInForce (b .first .frames)
 own-language {d} {d₂} b l =
     let h = around-kept b in
     let e : said (d₂ .frames) ≡ said (b .first .frames) =
     said-innermost (h .0) _ _ (h .2) (said-length (d₂ .frames) ∙ (l ∙ ap suc (sym (said-length (d .frames))))) ∙ sym (h .1) in
-    language-said (d₂ .frames) ∙ (ap languageSaid e ∙ sym (language-said (b .first .frames)))
+    same-language (d₂ .frames) (b .first .frames) e
+
+-- so at its end tag
+pub last-language : {d d′ : Doc} (c : Element d d′) → languageInForce (c .last .frames) ≡ languageInForce (c .begun .first .frames)
+last-language {d} {d′} c =
+    let t = turn (closing (c .name)) (c .last) d′ (c .ends) in
+    own-language (c .begun) (sym (said-length (c .last .frames)) ∙ (ap length (t .0 .1) ∙ ap suc (said-length (d′ .frames) ∙ c .closes)))
 
 -- When an element has closed, the language, the base and the namespaces in force are those before it opened: nothing of it, and
 -- nothing inside it, reaches what stands after it.
@@ -157,7 +166,7 @@ pub balanced : {d d′ : Doc} → Element d d′
     × (inScope (d′ .frames) ≡ inScope (d .frames))
 balanced {d} {d′} c =
     let h = said-again c in (
-      language-said (d′ .frames) ∙ (ap languageSaid (h .0) ∙ sym (language-said (d .frames))),
+      same-language (d′ .frames) (d .frames) (h .0),
       base-said (d′ .startBase) (d′ .frames) ∙ (cc (h .0, h .1, base-said (d .startBase) (d .frames))),
       scope-said (d′ .frames) ∙ (ap scopeSaid (h .0) ∙ sym (scope-said (d .frames))),
     )

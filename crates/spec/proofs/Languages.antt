@@ -24,14 +24,14 @@ use Rattle.spec.specs.EndTag as C
 use Rattle.spec.specs.RdfXml.{next}
 use Rattle.spec.specs.RdfXml as X
 use Rattle.spec.specs.Languages.{InLanguage, AllInLanguage, openAt, valueNamed, languageBehind}
-use Rattle.spec.specs.Inside.{said}
+use Rattle.spec.specs.Inside.{Element}
 use Rattle.spec.specs.XmlLiteral.{addXml}
 use Rattle.spec.proofs.Booleans.{and-left, and-right}
 use borrow.Author.Tests.{not-true}
 use Rattle.spec.proofs.Lists.{same-true}
 use Rattle.spec.proofs.Always.{Always, always-bind, always-any, always-after, always-require, always-if, always-map, always-good}
 use Rattle.spec.proofs.Frames.{scopeOf, Read, tag-read, always-next}
-use Rattle.spec.proofs.Inherited.{said-count, said-value, languageSaid, language-said}
+use Rattle.spec.proofs.Inherited.{said-count, said-value, same-language, last-language}
 
 -- ---- lines
 
@@ -166,9 +166,6 @@ module _ (t : Tag) where
 abbrev Started : Bool → List Attribute → Doc → Step → Type 0
 Started x as′ d s = (languageInForce (s .1 .frames) ≡ languageBehind x as′ (d .frames)) × AllInLanguage (languageBehind x as′ (d .frames)) (s .0)
 
-same-language : (fs gs : List Frame) → said fs ≡ said gs → languageInForce fs ≡ languageInForce gs
-same-language fs gs e = language-said fs ∙ (ap languageSaid e ∙ sym (language-said gs))
-
 tag-language : (n : Bytes) (as′ : List Attribute) (d : Doc) (t : Tag) → Read n as′ d t
     → (t .ownTag ≡ lowercased (valueNamed (ascii "xml:lang") as′)) × (t .language ≡ languageBehind false as′ (d .frames))
 tag-language n as′ d t (e, (ms, g, o), l) =
@@ -266,3 +263,14 @@ start-language n as′ d d′ us q =
 -- opens or closes: property attributes at a start tag, the object at an end tag. Where none is in force it has none.
 pub literals-in-language : (e : Event) (d d′ : Doc) (us : List Triple) → next e d ≡ good (us, d′) → AllInLanguage (languageInForce (openAt e d d′)) us
 literals-in-language e d d′ us q = always-good (Written e d) (always-next (Written e d) e d (on-event e d)) q
+
+-- So the literals that an element's own two tags write have the language of its own xml:lang, lowercased, or where it has none the
+-- one in force before it; what stands inside it or before it, and has closed, has no part in that.
+pub element-language : {d d′ : Doc} (c : Element d d′)
+    → AllInLanguage (languageBehind (isXml (placeIn (d .frames))) (c .begun .attributes) (d .frames)) (c .begun .startLines ++ c .endLines)
+element-language {d} {d′} c =
+    let b = c .begun in
+    let first = start-language (b .name) (b .attributes) d (b .first) (b .startLines) (b .starts) in
+    all-append _ (b .startLines) (c .endLines)
+    (rw first at (literals-in-language (opening (b .name) (b .attributes)) d (b .first) (b .startLines) (b .starts)))
+    (rw (last-language c ∙ first) at (literals-in-language (closing (c .name)) (c .last) d′ (c .endLines) (c .ends)))

@@ -9,15 +9,15 @@ pub mod PyxCut
 pub mod Calls
 -- ---- labels, subjects, lists
 pub mod Labels
-pub mod Frames
-pub mod Inside
 pub mod Subjects
 pub mod Lists
+pub mod NewLabels
+-- ---- inside an element
+pub mod Frames
+pub mod Inside
 pub mod Children
 pub mod Statements
 pub mod Numbering
-pub mod NewLabels
--- ---- what is inherited
 pub mod Inherited
 pub mod Languages
 -- ---- lines

@@ -367,9 +367,13 @@ any-label = record {
   fresh = λ n n′ lo le k p q. tt;
 }
 
-grows-after : (d d′ : Doc) (ts : List Triple) → d .labels < 100_000_000 → After d d′ ts → d .labels ≤ d′ .labels
+pub grows-after : (d d′ : Doc) (ts : List Triple) → d .labels < 100_000_000 → After d d′ ts → d .labels ≤ d′ .labels
 unfolding any-label
 grows-after d d′ ts le h = kept any-label d d′ ts (omega arith) le (trivial-frames (d .frames)) h .grows
+
+pub bound-after : (d d′ : Doc) (ts : List Triple) → d .labels < 100_000_000 → After d d′ ts → d′ .labels < 100_000_000
+unfolding any-label
+bound-after d d′ ts le h = kept any-label d d′ ts (omega arith) le (trivial-frames (d .frames)) h .bound
 
 -- labels only ever go up, so the cells of a list that closes later are others
 pub no-cell-in-two-lists : (d₂ d₃ : Doc) (vs : List Triple) (lo len : ℕ) (x : Subject) → d₂ .labels < 100_000_000 → After d₂ d₃ vs

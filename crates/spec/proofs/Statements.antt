@@ -1,27 +1,26 @@
 -- A property element writes the statement that its start tag began: its subject, IRI and rdf:ID stay while it is open.
 use mathlib.Core.Path.{_≡_, refl, sym, _∙_, ap}
-use mathlib.Core.Bool.{Bool, true, false, true≢false}
+use mathlib.Core.Bool.{Bool, true, false}
 use mathlib.Core.Option.{Option, some, Option·some-injective}
 use mathlib.Core.List.{List, [], _∷_, _++_}
-use Prim.Native.Nat.{ℕ, suc, _<_}
+use Prim.Native.Nat.{_<_}
 use native.Mathlib.Omega.{arith}
 use lib.ListN.{length, length-append}
 use Rattle.spec.specs.Bytes.{Bytes, if_then_else_}
-use Rattle.spec.specs.Numbers.{good}
 use Rattle.spec.specs.Pyx.{Event, opening, closing, text, instruction}
 use Rattle.spec.specs.NTriples.{Subject, named, Term, Triple}
 use Rattle.spec.specs.Rdf.{rdf}
-use Rattle.spec.specs.Document.{Value, default, collection, literal, other, Property, Kind, rdfRDF, nodeElement, propertyElement, xmlElement, Frame, Doc, withFrames, withKind, onValue, isXmlElement, changeValue}
+use Rattle.spec.specs.Document.{Value, default, collection, literal, other, Property, Kind, rdfRDF, nodeElement, propertyElement, xmlElement, Frame, Doc, withKind, onValue, isXmlElement, changeValue}
 use Rattle.spec.specs.Productions.{statement}
 use Rattle.spec.specs.XmlLiteral.{takesXml}
-use Rattle.spec.specs.Opening.{Step, counted, countLi}
+use Rattle.spec.specs.Opening.{counted, countLi}
 use Rattle.spec.specs.EndTag.{takesNode}
 use Rattle.spec.specs.EndTag as C
 use Rattle.spec.specs.RdfXml.{takesText, next}
 use Rattle.spec.specs.RdfXml as X
 use Rattle.spec.specs.Lists.{After, here, event}
-use Rattle.spec.specs.Inside.{StaysOpen, Begun, Element, innermost, Begins, is-open, is-written, isOther, Writes, at-start, at-end, nowhere}
-use Rattle.spec.proofs.Always.{Always, always-after, always-require, always-good}
+use Rattle.spec.specs.Inside.{StaysOpen, Element, innermost, Begins, is-open, is-written, isOther, Writes, at-start, at-end, nowhere}
+use Rattle.spec.proofs.Always.{Always, always-after, always-good}
 use Rattle.spec.proofs.Frames.{Gentle, by-text, by-xml, left, left-length, Move, instructs, leaves, adds, opens, copies, closes, Moved, moves, OnTop, on-top, always-next}
 
 -- ---- changes of the value
