@@ -133,12 +133,14 @@ count-above i x (z ∷ gs) rest b = (withKind (counted i (x .kind)) x, z ∷ gs,
 pub data Open (fs : List Frame) (K : Kind) : List Frame → Type 0 where
   open-at : (gs : List Frame) (g : Frame) → g .kind ≡ K → Based gs → Open fs K (gs ++ (g ∷ fs))
 
+-- still open, below others
 open-above : (f : Frame) {g : Frame} {fs frames : List Frame} {K : Kind} → g .kind ≡ K → Above (g ∷ fs) frames → Open fs K (f ∷ frames)
 open-above f {g} {fs} {frames} {K} is (y, ys, b, e) = rw e (open-at (f ∷ y ∷ ys) g is b)
 
 open-below : {g : Frame} {fs frames : List Frame} {K : Kind} → g .kind ≡ K → Above (g ∷ fs) frames → Open fs K frames
 open-below {g} {fs} {frames} {K} is (y, ys, b, e) = rw e (open-at (y ∷ ys) g is b)
 
+-- with an element above it, the next event is not directly inside it
 deeper : (x g : Frame) (gs fs : List Frame) → eqb (length (x ∷ gs ++ (g ∷ fs))) (suc (length fs)) ≡ false
 deeper x g gs fs = ne-eqb (length (x ∷ gs ++ (g ∷ fs))) (suc (length fs)) λ e. omega (arith, length-append gs (g ∷ fs))
 
@@ -198,11 +200,13 @@ on-end n {fs} {K} f g (x ∷ gs) h is b = rw (deeper x g gs fs) (go (f .kind))
     go (propertyElement p v) = open-at (x ∷ gs) g (is ∙ sym (grown-none h)) b
     go xmlElement = open-below (is ∙ sym (grown-none h)) (value-above _ x gs (g ∷ fs) b)
 
+-- an end tag that is not its own
 closed : {n : Bytes} {fs frames′ : List Frame} {K : Kind} (gs : List Frame) (g : Frame) → Holder K → g .kind ≡ K → Based gs → Move (closing n) (gs ++ (g ∷ fs)) frames′
     → length fs < length frames′ → Open fs (grown K (childOf (length fs) (closing n) (gs ++ (g ∷ fs))) 0) frames′
 closed {n} {fs} [] g h is b closes more = absurd (let e : length (left (g .kind) n fs) ≡ length fs = left-length (g .kind) n fs in omega arith)
 closed {n} (f ∷ gs) g h is b closes more = on-end n f g gs h is b
 
+-- any event that leaves it open
 step : {fs frames frames′ : List Frame} {K : Kind} {e : Event} → Holder K → Open fs K frames → Move e frames frames′ → length fs < length frames′
     → Open fs (grown K (childOf (length fs) e frames) (liOf (length fs) e frames)) frames′
 unfolding childOf liOf

@@ -38,7 +38,7 @@ opens-as asResource t p n = always-after (Opens p) _ _ (written _ refl refl)
 opens-as asLiteral t p n = held _ refl
 opens-as asOther t p n = held _ refl
 
--- the li-th and next rdf:li of a node
+-- the rdf:li of a node that has had li of them
 abbrev Numbered : Subject → ℕ → Step → Type 0
 Numbered s li u = (p : Property) × (p .subject ≡ s) × (p .iri ≡ rdf "_" ++ decimal (suc li)) × Begins p (u .0) (u .1)
 
@@ -62,7 +62,7 @@ unfolding G.opened innermost
 begins t d o (held v e) = is-open v (ap some e)
 begins t d o (written x e k) = is-written x e (ap some k)
 
--- in a node that has had li rdf:li
+-- its start tag
 next-li : (n : Bytes) (as′ : List Attribute) (d : Doc) (s : Subject) (li : ℕ) → placeIn (d .frames) ≡ properties s li → isLiTag n as′ (d .frames) ≡ true
     → Always (Numbered s li) (next (opening n as′) d)
 unfolding X.onEvent G.onOpening G.openIn G.openElement isLiTag namesLi

@@ -19,12 +19,20 @@ use Rattle.spec.specs.EndTag as C
 use Rattle.spec.specs.RdfXml.{takesText, next}
 use Rattle.spec.specs.RdfXml as X
 use Rattle.spec.specs.Lists.{After, here, event}
-use Rattle.spec.specs.Inside.{StaysOpen, Element, innermost, Begins, is-open, is-written, isOther, Writes, at-start, at-end, nowhere}
+use Rattle.spec.specs.Inside.{StaysOpen, Element, innermost, Begins, is-open, is-written, Writes, at-start, at-end, nowhere}
 use Rattle.spec.proofs.Always.{Always, always-after, always-good}
 use Rattle.spec.proofs.Frames.{Gentle, by-text, by-xml, left, left-length, Move, instructs, leaves, adds, opens, copies, closes, Moved, moves, OnTop, on-top, always-next}
 
 -- ---- changes of the value
 
+-- the value of a parseType that is neither Collection, Literal nor Resource
+unfoldable isOther : Value → Bool
+isOther (default d o) = false
+isOther (collection cs) = false
+isOther (literal x) = false
+isOther other = true
+
+-- a change that leaves it so, or not so
 abbrev Keeps : (Value → Value) → Type 0
 Keeps h = (v : Value) → isOther (h v) ≡ isOther v
 

@@ -1,7 +1,7 @@
 -- Demand 3: what happens directly inside an element, over accepted events. An element is told by k, how many elements are open
 -- around it.
 use mathlib.Core.Path.{_≡_}
-use mathlib.Core.Bool.{Bool, true, false, _&&_}
+use mathlib.Core.Bool.{Bool, false, _&&_}
 use mathlib.Core.Option.{Option, none, some}
 use mathlib.Core.List.{List, [], _∷_, _++_, map}
 use Prim.Native.Nat.{ℕ, suc, _+_, _<_}
@@ -12,7 +12,7 @@ use Rattle.spec.specs.Numbers.{Answer, refuse, good}
 use Rattle.spec.specs.Pyx.{Attribute, Event, opening, closing, text, instruction}
 use Rattle.spec.specs.Namespaces.{Binding, declared, expandElement}
 use Rattle.spec.specs.NTriples.{Subject, Term, node, Triple}
-use Rattle.spec.specs.Document.{Value, default, collection, literal, other, Property, Kind, rdfRDF, nodeElement, propertyElement, xmlElement, Frame, Doc, inScope}
+use Rattle.spec.specs.Document.{Value, other, Property, Kind, rdfRDF, nodeElement, propertyElement, xmlElement, Frame, Doc, inScope}
 use Rattle.spec.specs.Productions.{statement, isLi}
 use Rattle.spec.specs.RdfXml.{next}
 use Rattle.spec.specs.Lists.{After, here, event}
@@ -114,21 +114,16 @@ lisOver k (event {d = d} before e d′ us q) = lisOver k before + liOf k e (d .f
 unfoldable pub lis : {d d₂ : Doc} → Begun d d₂ → ℕ
 lis {d} b = lisOver (length (d .frames)) (b .inside)
 
+-- ---- its statement
+
 -- a start tag, by its lines and the document behind it, began this property: it is the innermost open element, or, with parseType
 -- Resource, its statement is written and its object's node is
 pub data Begins (p : Property) (us : List Triple) (d : Doc) : Type 0 where
   is-open : (v : Value) → innermost (d .frames) ≡ some (propertyElement p v) → Begins p us d
   is-written : (x : Subject) → us ≡ statement p (node x) → innermost (d .frames) ≡ some (nodeElement x 0) → Begins p us d
 
--- the value of a parseType that is neither Collection, Literal nor Resource
-unfoldable pub isOther : Value → Bool
-isOther (default d o) = false
-isOther (collection cs) = false
-isOther (literal x) = false
-isOther other = true
-
--- where an element writes the statement of this property: at its end tag, or with parseType Resource at its start tag; with any
--- other parseType nowhere
+-- where an element writes the statement of this property: at its end tag, or with parseType Resource at its start tag; with a
+-- parseType that document 01 calls other, nowhere
 pub data Writes {d d′ : Doc} (p : Property) (c : Element d d′) : Type 0 where
   at-start : (x : Subject) → c .begun .startLines ≡ statement p (node x) → innermost (c .begun .first .frames) ≡ some (nodeElement x 0) → Writes p c
   at-end : (ws : List Triple) (o : Term) → c .endLines ≡ ws ++ statement p o → Writes p c
