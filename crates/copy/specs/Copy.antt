@@ -1,7 +1,7 @@
 -- Bytes stored into a slice at a place: what stands there then, what stays, and stores in a row.
 use Prim.Native.Nat.{ℕ, _+_, _-_, _<_, _≤_}
 use mathlib.Core.Path.{_≡_, refl, sym, ap, _∙_}
-use mathlib.Core.Bool.{Bool, true, false, false≢true, true≢false}
+use mathlib.Core.Bool.{Bool, true, false}
 use mathlib.Core.List.{List, [], _∷_, _++_, append-assoc}
 use mathlib.Core.Logic.{_⊎_, inl, inr, ⊎-elim}
 use native.Mathlib.Numerals.{add-one}
@@ -97,9 +97,15 @@ put-true {d} {s} {e} {at} p y =
 pub put-false : {d s e : List ℕ} {at : ℕ} {r : Bool} → Put d at s e r → r ≡ false → e ≡ d
 put-false {d} {s} {e} {at} p n = p .kept (leb-false (at + length s) (length d) (sym (p .answer) ∙ n))
 
--- where the caller knows that there is room
+-- where the caller knows that there is room, or that there is none
 pub put-fits : {d s e : List ℕ} {at : ℕ} {r : Bool} → Put d at s e r → at + length s ≤ length d → Wrote d e at (at + length s) s
 put-fits p room = record { room = room; up = refl; eq = p .wrote room }
+
+pub put-does : {d s e : List ℕ} {at : ℕ} {r : Bool} → Put d at s e r → at + length s ≤ length d → r ≡ true
+put-does {d} {s} {e} {at} p room = p .answer ∙ le-leb (at + length s) (length d) room
+
+pub put-refuses : {d s e : List ℕ} {at : ℕ} {r : Bool} → Put d at s e r → length d < at + length s → r ≡ false
+put-refuses {d} {s} {e} {at} p short = p .answer ∙ lt-leb (at + length s) (length d) short
 
 -- ---- stores in a row
 

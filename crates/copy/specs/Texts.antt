@@ -1,12 +1,11 @@
 -- Laws of the texts of `spec`: when two are the same, what one begins with, and where it is cut.
-use mathlib.Core.Path.{_≡_, refl, sym, ap, _∙_}
-use mathlib.Core.Bool.{Bool, true, false, _&&_, false≢true}
-use mathlib.Core.List.{List, [], _∷_, _++_}
-use Prim.Native.Nat.{ℕ, suc, _+_, _<_, _≤_}
+use mathlib.Core.Path.{_≡_, refl, ap}
+use mathlib.Core.Bool.{Bool, true, false, false≢true}
+use mathlib.Core.List.{[], _∷_, _++_}
+use Prim.Native.Nat.{ℕ, suc, _<_, _≤_}
 use native.Mathlib.Omega.{arith}
 use lib.Dec.{eqb}
 use lib.ListN.{length, take, drop, getD}
-use lib.Seq.{drop-nil}
 use borrow.Author.Tests.{eq-eqb, eqb-true}
 use Rattle.spec.specs.Bytes.{Bytes, if_then_else_, same, begins, after, upTo, from}
 use Rattle.spec.proofs.Booleans.{and-left, and-right, and-both}

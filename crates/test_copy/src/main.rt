@@ -1,14 +1,20 @@
 // The calls of `copy` at their bounds: nothing, all, one byte too many, and places near the largest number.
 
-// The room is just enough, one short, none.
-fn puts() {
+// The room is just enough.
+fn stores() {
     let mut d = [0u8; 4];
     check::expect(copy::put(&mut d, 1, b"abc"));
-    check::expect(!copy::put(&mut d, 2, b"abc"));
+    check::expect(copy::equal(&d, b"\0abc"));
     check::expect(copy::put(&mut d, 4, b""));
+}
+
+// It is one short, it is none, and the sum of place and length passes the largest number.
+fn refusals() {
+    let mut d = [0u8; 4];
+    check::expect(!copy::put(&mut d, 2, b"abc"));
     check::expect(!copy::put(&mut d, 5, b""));
     check::expect(!copy::put(&mut d, 18446744073709551615, b"abc"));
-    check::expect(copy::equal(&d, b"\0abc"));
+    check::expect(copy::equal(&d, b"\0\0\0\0"));
 }
 
 fn comparisons() {
@@ -35,7 +41,8 @@ fn searches() {
 }
 
 fn main() {
-    puts();
+    stores();
+    refusals();
     comparisons();
     beginnings();
     searches();
