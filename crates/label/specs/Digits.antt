@@ -6,7 +6,7 @@ use Prim.Native.Nat.{ℕ, zero, suc, _+_, _-_, _/_, _%_, _<_, _≤_}
 use native.Mathlib.Numerals.{add-one}
 use native.Mathlib.Omega.{arith}
 use lib.Dec.{eqb}
-use lib.ListN.{length, drop, getD, set, length-append, length-set, length-drop, drop-of-length-le}
+use lib.ListN.{length, drop, getD, set, length-append, length-set, drop-of-length-le}
 use lib.Seq.{drop-cons, drop-length, drop-set-lt, getD-set-same}
 use borrow.Author.Tests.{ne-eqb, le-leb, lt-leb}
 use Rattle.spec.specs.Bytes.{byte, between}
@@ -17,9 +17,10 @@ pub record Zeros (s : List ℕ) (from : ℕ) : Type 0 where
   pub within : from ≤ length s
   pub rest : drop from s ≡ dropZeros s
 
--- What `decimal` answers: the digits, and behind the leading zeros the number as it is written.
+-- What `Decimal::of` answers: the digits, and behind the leading zeros the number as it is written.
 pub record Decimals (v : ℕ) (ds : List ℕ) (from : ℕ) : Type 0 where
   pub all : ds ≡ digits 20 v
+  pub size : length ds ≡ 20
   pub within : from ≤ 20
   pub text : drop from ds ≡ decimal v
 
@@ -27,6 +28,19 @@ pub length-digits : (k v : ℕ) → length (digits k v) ≡ k
 unfolding digits
 length-digits zero v = refl
 length-digits (suc k) v = length-append (digits k (v / 10)) ((48 + v % 10) ∷ []) ∙ (ap (_+ 1) (length-digits k (v / 10)) ∙ omega arith)
+
+length-dropZeros : (s : List ℕ) → length (dropZeros s) ≤ length s
+unfolding dropZeros
+length-dropZeros [] = omega arith
+length-dropZeros (c ∷ s) = go (eqb c (byte "0")) (length-dropZeros s)
+  where
+    go : (t : Bool) → length (dropZeros s) ≤ length s → length {A = ℕ} (elim t [ true ↦ dropZeros s | false ↦ c ∷ s ]) ≤ suc (length s)
+    go true h = omega arith
+    go false h = omega arith
+
+pub length-decimal : (v : ℕ) → length (decimal v) ≤ 20
+unfolding decimal
+length-decimal v = omega (arith, length-dropZeros (digits 20 v), length-digits 20 v)
 
 -- ---- the loop of `write_u64_to_slice`: from `i` on the digits of `v₀` are written, and `v` is what is left to write
 
@@ -94,7 +108,8 @@ passing-done {s} {i} h b = record { within = h .upto; rest = sym (h .rest ∙ rw
 pub decimal-made : {v : ℕ} {ds : List ℕ} {from : ℕ} → ds ≡ digits 20 v → Zeros ds from → Decimals v ds from
 unfolding decimal
 decimal-made {v} {ds} {from} e z =
-    record { all = e; within = omega (arith, z .within, ap length e, length-digits 20 v); text = z .rest ∙ ap dropZeros e }
+    let size : length ds ≡ 20 = ap length e ∙ length-digits 20 v in
+    record { all = e; size = size; within = omega (arith, z .within); text = z .rest ∙ ap dropZeros e }
 
 -- ---- the bytes that are digits
 

@@ -1,13 +1,13 @@
 -- What a generator of labels answers, and the tests of labels.
 use mathlib.Core.Path.{_≡_, refl, sym, ap, _∙_}
-use mathlib.Core.Bool.{Bool, true, false}
+use mathlib.Core.Bool.{true, false}
 use mathlib.Core.List.{List, [], _∷_, _++_, append-nil}
 use Prim.Native.Nat.{ℕ, _+_, _-_, _<_, _≤_}
 use native.Mathlib.Omega.{arith}
 use lib.Dec.{eqb, ltb}
 use lib.ListN.{length, drop, getD}
 use borrow.Author.Tests.{ltb-true, ltb-false, lt-ltb, le-ltb, eq-eqb, ne-eqb}
-use Rattle.spec.specs.Bytes.{ascii, byte, begins, after, every, between}
+use Rattle.spec.specs.Bytes.{ascii, byte, begins, every, between}
 use Rattle.spec.specs.Limits.{mostLabels}
 use Rattle.spec.specs.NTriples.{digits, label}
 use Rattle.spec.specs.StartTag.{isGenerated, endsInStop}
@@ -15,7 +15,7 @@ use Rattle.copy.specs.Texts.{after-drop}
 use Rattle.label.specs.Digits.{length-digits}
 use Rattle.label.specs.declared.Generated.{Generated}
 
--- After `n` labels: the next one, while fewer than `mostLabels` were generated.
+-- What `generate` answers after `n` labels: the next one, while fewer than `mostLabels` were generated.
 pub record Generates (n : ℕ) (g : Generated) : Type 0 where
   pub answer : g .ok ≡ ltb n mostLabels
   pub goes : n < mostLabels → g .generator .counter ≡ n + 1
@@ -28,13 +28,12 @@ pub length-label : (n : ℕ) → length (label n) ≡ 12
 unfolding label ascii
 length-label n = rw (length-digits 8 n)
 
--- ---- the two answers
+-- ---- the two answers of `generate`
 
-pub generates-none : {n : ℕ} {g : Generated} → 99_999_999 ≤ n → g .ok ≡ false → g .generator .counter ≡ n → g .id .id ≡ label 0 → Generates n g
-unfolding mostLabels
+pub generates-none : {n : ℕ} {g : Generated} → mostLabels ≤ n → g .ok ≡ false → g .generator .counter ≡ n → g .id .id ≡ label 0 → Generates n g
 generates-none {n} h o k e =
     record {
-      answer = o ∙ sym (le-ltb n 99_999_999 h);
+      answer = o ∙ sym (le-ltb n mostLabels h);
       goes = λ l. absurd (omega arith);
       made = λ l. absurd (omega arith);
       kept = λ _. k;
@@ -43,13 +42,13 @@ generates-none {n} h o k e =
     }
 
 -- `y` is what was written behind `riog`
-pub generates-next : {n : ℕ} {g : Generated} {y : List ℕ} → n < 99_999_999 → y ≡ digits 8 (n + 1) → g .ok ≡ true → g .generator .counter ≡ n + 1
+pub generates-next : {n : ℕ} {g : Generated} {y : List ℕ} → n < mostLabels → y ≡ digits 8 (n + 1) → g .ok ≡ true → g .generator .counter ≡ n + 1
     → g .id .id ≡ ascii "riog" ++ (y ++ []) → Generates n g
-unfolding mostLabels label
+unfolding label
 generates-next {n} {g} {y} h w o k e =
     let made : g .id .id ≡ label (n + 1) = e ∙ rw (append-nil, w) in
     record {
-      answer = o ∙ sym (lt-ltb n 99_999_999 h);
+      answer = o ∙ sym (lt-ltb n mostLabels h);
       goes = λ _. k;
       made = λ _. made;
       kept = λ l. absurd (omega arith);

@@ -44,9 +44,7 @@ impl BlankNodeIdGenerator {
         ensures { λ r. ⌜ Generates (self .counter) r ⌝ }
     {
         let counter = self.counter;
-        let mut id: [u8; 12] = [
-            b'r', b'i', b'o', b'g', b'0', b'0', b'0', b'0', b'0', b'0', b'0', b'0',
-        ];
+        let mut id = *b"riog00000000";
         if counter >= Self::MOST_LABELS {
             return Generated {
                 ok: false,
@@ -54,12 +52,11 @@ impl BlankNodeIdGenerator {
                 id: BlankNodeId { id },
             };
         }
-        write_u64_to_slice(counter + 1, &mut id[4..]);
+        let next = counter + 1;
+        write_u64_to_slice(next, &mut id[4..]);
         Generated {
             ok: true,
-            generator: BlankNodeIdGenerator {
-                counter: counter + 1,
-            },
+            generator: BlankNodeIdGenerator { counter: next },
             id: BlankNodeId { id },
         }
     }

@@ -22,13 +22,13 @@ shared-slice-read-if1 : tie.Need-shared-slice-read-if1 Inv-loop μ-loop
 shared-slice-read-if1 c = search needs
 
 returns : tie.Need-returns Inv-loop μ-loop
-returns c = passed-stop (c .before .before .before .loop .inv) (omega arith) (no-digit-below _ (c .if1 .taken))
+returns c = passed-stop (c .before .before .before .loop .inv) (omega arith) (no-digit-below _ (omega arith))
 
 shared-slice-read-if2 : tie.Need-shared-slice-read-if2 Inv-loop μ-loop
 shared-slice-read-if2 c = search needs
 
 returns-2 : tie.Need-returns-2 Inv-loop μ-loop
-returns-2 c = passed-stop (c .before .before .before .before .before .loop .inv) (omega arith) (no-digit-above _ (c .if2 .taken))
+returns-2 c = passed-stop (c .before .before .before .before .before .loop .inv) (omega arith) (no-digit-above _ (omega arith))
 
 add-i : tie.Need-add-i Inv-loop μ-loop
 add-i c = search needs
@@ -37,7 +37,7 @@ loop-less : tie.Need-loop-less Inv-loop μ-loop
 loop-less c = search needs
 
 loop-again : tie.Need-loop-again Inv-loop μ-loop
-loop-again c = passed-more (c .before .before .before .before .before .loop .inv) (omega arith) (a-digit _ (c .before .before .if1 .left) (c .if2 .left))
+loop-again c = passed-more (c .before .before .before .before .before .loop .inv) (omega arith) (a-digit _ (omega arith) (omega arith))
 
 returns-3 : tie.Need-returns-3 Inv-loop μ-loop
 returns-3 c = passed-done (c .before .loop .inv) (omega arith)
