@@ -1,13 +1,13 @@
 -- Demand 3: the reader's triples have no space in a label or a tag, so different sequences of them have different bytes; and no
 -- cell is in two lists.
-use mathlib.Core.Path.{_≡_, refl, sym, _∙_, ap, subst}
+use mathlib.Core.Path.{_≡_, refl, sym, _∙_, ap}
 use mathlib.Core.Logic.{inl, inr}
-use mathlib.Core.Bool.{Bool, true, false, _&&_, _||_, not, false≢true, true≢false}
+use mathlib.Core.Bool.{Bool, true, false, _&&_, not, false≢true, true≢false}
 use mathlib.Core.Option.{Option, none, some, Option·none-ne-some, Option·some-injective}
 use mathlib.Core.List.{List, [], _∷_, map}
-use Prim.Native.Nat.{ℕ, suc, _+_}
+use Prim.Native.Nat.{ℕ, _+_}
 use native.Mathlib.Omega.{arith}
-use lib.Dec.{eqb, leb}
+use lib.Dec.{leb}
 use lib.ListN.{length}
 use borrow.Author.Tests.{ne-eqb, not-true, leb-true}
 use Rattle.spec.specs.Bytes.{Bytes, byte, every, if_then_else_, between, onto}
@@ -20,12 +20,13 @@ use Rattle.spec.specs.Abnf as A
 use Rattle.spec.specs.Rfc5646.{isLanguageTag, language-tag}
 use Rattle.spec.specs.Rfc5646 as L
 use Rattle.spec.specs.Utf8 as U
-use Rattle.spec.specs.Utf8.{goesOn, beginsWithOne, sequences, fits, character, charactersOf, characters, inFront, holdsOf, asCharacters}
+use Rattle.spec.specs.Utf8.{goesOn, beginsWithOne, sequences, character, charactersOf, characters, holdsOf, asCharacters}
 use Rattle.spec.specs.XmlNames.{isNCName, isName, isNameChar, isNameStart, noColon}
 use Rattle.spec.specs.XmlNames as N
 use Rattle.spec.specs.NTriples.{Triple, digits, label, write}
 use Rattle.spec.specs.Document.{Doc, fresh}
 use Rattle.spec.specs.Lists.{After}
+use Rattle.spec.proofs.Utf8.{isAscii, first-byte, no-fit, Front, front}
 use Rattle.spec.proofs.Labels.{every-append, all-digits}
 use Rattle.spec.proofs.Subjects.{Rule, OfLines, no-line, with-line}
 use Rattle.spec.proofs.Lists.{Family, kept}
@@ -58,16 +59,6 @@ unfolding onto
 heads-onto b [] h = h .0
 heads-onto b (l ∷ ls) h = h .0
 
--- the first sequence begins with the first byte
-pub first-byte : (b : ℕ) (s : Bytes) → (l : Bytes) × (ls : List Bytes) × (sequences (b ∷ s) ≡ (b ∷ l) ∷ ls)
-unfolding sequences onto if_then_else_
-first-byte b s = go (beginsWithOne s) (sequences s)
-  where
-    go : (g : Bool) (ls : List Bytes) → (l : Bytes) × (ks : List Bytes) × ((if g then onto b ls else ((b ∷ []) ∷ ls)) ≡ (b ∷ l) ∷ ks)
-    go true [] = ([], [], refl)
-    go true (l ∷ ls) = (l, ls, refl)
-    go false ls = ([], ls, refl)
-
 -- what is behind a byte that goes on begins fine
 heads-behind : (b : ℕ) (s : Bytes) → beginsWithOne s ≡ true → Heads (onto b (sequences s)) → Heads (sequences s)
 unfolding beginsWithOne onto
@@ -86,41 +77,27 @@ heads-fine (b ∷ s) h = go (beginsWithOne s) refl (heads-fine s) h
     go true e ih h = and-both (notSpace b) (every notSpace s) (heads-onto b (sequences s) h) (ih (heads-behind b s e h))
     go false e ih h = and-both (notSpace b) (every notSpace s) (h .0) (ih (h .1))
 
--- no sequence of several bytes begins with a space
-no-fit : (k : ℕ) → fits 32 (suc (suc k)) ≡ false
-unfolding U.all
-no-fit k = go (eqb (suc (suc k)) 1) (between 2 4 (suc (suc k))) (eqb 0 (suc (suc k))) (ne-eqb (suc (suc k)) 1 λ e. omega arith) (ne-eqb 0 (suc (suc k)) λ e. omega arith)
-  where
-    go : (p q r : Bool) → p ≡ false → r ≡ false → ((p && true) || (q && r)) ≡ false
-    go true q r h g = absurd (true≢false h)
-    go false true r h g = g
-    go false false r h g = refl
-
 space-alone : (l : Bytes) (c : ℕ) → character (32 ∷ l) ≡ some c → 32 ≡ c
-unfolding character U.all
+unfolding character isAscii U.all
 space-alone [] c h = Option·some-injective 32 c h
-space-alone (x ∷ l) c h = absurd (Option·none-ne-some c (rw (no-fit (length l), character) at h))
+space-alone (x ∷ l) c h = absurd (Option·none-ne-some c (rw (no-fit 32 (length l) refl, character) at h))
 
 character-fine : (b : ℕ) (l : Bytes) (c : ℕ) → character (b ∷ l) ≡ some c → isNameChar c ≡ true → notSpace b ≡ true
 unfolding notSpace N.all
 character-fine b l c h k = rw (ne-eqb b 32 λ e. false≢true (ap isNameChar (space-alone l c (rw e at h)) ∙ k))
 
 heads-of : (ls : List Bytes) (cs : List ℕ) → charactersOf ls ≡ some cs → every isNameChar cs ≡ true → Heads ls
-unfolding charactersOf inFront every
+unfolding every
 heads-of [] cs h k = tt
-heads-of (l ∷ ls) cs h k = go (character l) (charactersOf ls) refl refl h (heads-of ls)
+heads-of (l ∷ ls) cs h k =
+    let r : Front l ls cs = front l ls cs h in
+    let j : every isNameChar (r .first ∷ r .others) ≡ true = ap (every isNameChar) (r .all) ∙ k in
+    part l (r .first) (r .is-first) (and-left (isNameChar (r .first)) (every isNameChar (r .others)) j)
+    (heads-of ls (r .others) (r .are-others) (and-right (isNameChar (r .first)) (every isNameChar (r .others)) j))
   where
     part : (l : Bytes) (c : ℕ) → character l ≡ some c → isNameChar c ≡ true → Heads ls → Heads (l ∷ ls)
     part [] c e f g = g
     part (b ∷ l) c e f g = (character-fine b l c e f, g)
-
-    go : (x : Option ℕ) (y : Option (List ℕ)) → character l ≡ x → charactersOf ls ≡ y → inFront x y ≡ some cs
-        → ((cs : List ℕ) → charactersOf ls ≡ some cs → every isNameChar cs ≡ true → Heads ls) → Heads (l ∷ ls)
-    go none y e f h ih = absurd (Option·none-ne-some cs h)
-    go (some c) none e f h ih = absurd (Option·none-ne-some cs h)
-    go (some c) (some ds) e f h ih =
-        let j : every isNameChar (c ∷ ds) ≡ true = subst (λ (x : List ℕ). every isNameChar x ≡ true) (sym (Option·some-injective (c ∷ ds) cs h)) k in
-        part l c e (and-left (isNameChar c) (every isNameChar ds) j) (ih ds f (and-right (isNameChar c) (every isNameChar ds) j))
 
 pub name-chars : (cs : List ℕ) → isName cs ≡ true → every isNameChar cs ≡ true
 unfolding isName isNameChar every

@@ -4,6 +4,8 @@ pub mod Booleans
 pub mod Always
 -- ---- grammars
 pub mod Grammar
+-- ---- characters
+pub mod Utf8
 -- ---- events and calls
 pub mod PyxCut
 pub mod Calls
