@@ -6,6 +6,9 @@ pub mod Always
 pub mod Grammar
 -- ---- characters
 pub mod Utf8
+pub mod Cuts
+pub mod Spelled
+pub mod Rfc3986Texts
 -- ---- events and calls
 pub mod PyxCut
 pub mod Calls

@@ -266,6 +266,10 @@ ascii-characters (b ∷ s) h =
 pub ascii-text : (s : Bytes) → every isAscii s ≡ true → Text s
 ascii-text s h = record { chars = s; are = ascii-characters s h }
 
+pub byte-text : (b : ℕ) → isAscii b ≡ true → Text (b ∷ [])
+unfolding every
+byte-text b h = ascii-text (b ∷ []) (and-both (isAscii b) true h refl)
+
 pub empty-text : Text []
 unfolding every
 empty-text = ascii-text [] refl
