@@ -9,6 +9,7 @@ pub mod Utf8
 pub mod Cuts
 pub mod Spelled
 pub mod Rfc3986Texts
+pub mod LanguageTags
 -- ---- events and calls
 pub mod PyxCut
 pub mod Calls

@@ -49,9 +49,9 @@ in-left x = record { chars = x .chars; are = x .are; described = inl (x .describ
 pub in-right : {g h : Grammar ℕ} {s : Bytes} → In h s → In (g or h) s
 in-right x = record { chars = x .chars; are = x .are; described = inr (x .described) }
 
-infixr 5 _next_
-pub _next_ : {g h : Grammar ℕ} {u v : Bytes} → In g u → In h v → In (g then h) (u ++ v)
-_next_ {u = u} {v = v} x y = record {
+infixr 5 _before_
+pub _before_ : {g h : Grammar ℕ} {u v : Bytes} → In g u → In h v → In (g then h) (u ++ v)
+_before_ {u = u} {v = v} x y = record {
   chars = x .chars ++ y .chars;
   are = characters-append u v (x .chars) (y .chars) (x .are) (y .are);
   described = (x .chars, y .chars, refl, x .described, y .described);
@@ -76,7 +76,7 @@ in-one p b h k = in-ascii (b ∷ []) (and-both (isAscii b) true h refl) (b, refl
 pub in-text : (s : Bytes) → every isAscii s ≡ true → In (G.characters s) s
 unfolding every G.characters
 in-text [] h = in-ascii [] refl refl
-in-text (b ∷ s) h = in-one _ b (and-left (isAscii b) (every isAscii s) h) (eq-eqb b b refl) next in-text s (and-right (isAscii b) (every isAscii s) h)
+in-text (b ∷ s) h = in-one _ b (and-left (isAscii b) (every isAscii s) h) (eq-eqb b b refl) before in-text s (and-right (isAscii b) (every isAscii s) h)
 
 -- ---- a text written byte by byte: bytes below 128 as the grammar says, the others as they are
 
