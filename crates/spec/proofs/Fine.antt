@@ -37,7 +37,7 @@ not-space : (p : ℕ → Bool) → p 32 ≡ false → (c : ℕ) → p c ≡ true
 unfolding notSpace
 not-space p h c k = rw (ne-eqb c 32 λ e. true≢false (sym k ∙ (ap p e ∙ h)))
 
-every-map : (p q : ℕ → Bool) → ((c : ℕ) → p c ≡ true → q c ≡ true) → (s : Bytes) → every p s ≡ true → every q s ≡ true
+pub every-map : (p q : ℕ → Bool) → ((c : ℕ) → p c ≡ true → q c ≡ true) → (s : Bytes) → every p s ≡ true → every q s ≡ true
 unfolding every
 every-map p q f [] h = refl
 every-map p q f (c ∷ s) h = and-both (q c) (every q s) (f c (and-left (p c) (every p s) h)) (every-map p q f s (and-right (p c) (every p s) h))
@@ -174,7 +174,7 @@ FineRule = record {
   obj = FineTerm;
   lang = λ l. every notSpace l ≡ true;
   name = λ i. tt;
-  other-label = λ l h g. ncname-fine l h;
+  other-label = λ l h g k. ncname-fine l h;
   node-of = λ s h. h;
   plain-of = λ v. tt;
   typed-of = λ v d. tt;

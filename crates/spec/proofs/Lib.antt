@@ -21,3 +21,4 @@ pub mod Lists
 pub mod Written
 pub mod Fine
 pub mod NodeLabels
+pub mod NTriplesLines

@@ -1,13 +1,14 @@
--- What refusals 9 and 13 leave of rdf:nodeID is what N-Triples can write: each such label is a BLANK_NODE_LABEL of its grammar.
+-- What refusals 9 and 13 leave of rdf:nodeID is what N-Triples can write: each such label is a BLANK_NODE_LABEL of its grammar. So is
+-- each generated label.
 use mathlib.Core.Path.{_≡_, refl, sym, _∙_, ap}
 use mathlib.Core.Logic.{_⊎_, inl, inr}
 use mathlib.Core.Bool.{Bool, true, false, _&&_, _||_, false≢true, true≢false}
 use mathlib.Core.Option.{Option, none, some, Option·some-injective}
 use mathlib.Core.List.{List, [], _∷_, _++_, cons≢nil}
-use Prim.Native.Nat.{ℕ, _≤_}
+use Prim.Native.Nat.{ℕ, _+_, _%_, _≤_}
 use native.Mathlib.Omega.{arith}
 use lib.Dec.{leb}
-use borrow.Author.Tests.{eqb-true, eqb-false, eq-eqb, leb-true, le-leb}
+use borrow.Author.Tests.{lt-ltb, ne-eqb, eqb-true, eqb-false, eq-eqb, leb-true, le-leb}
 use Rattle.spec.specs.Bytes.{Bytes, ascii, every, if_then_else_, between, inRanges, concat}
 use Rattle.spec.specs.Bytes as B
 use Rattle.spec.specs.Grammar.{Grammar, one, _or_, _then_, many, Describes, stop, more, accepts}
@@ -21,7 +22,10 @@ use Rattle.spec.specs.XmlNames as N
 use Rattle.spec.specs.NTriplesGrammar.{BLANK_NODE_LABEL, PN_CHARS, PN_CHARS_U, text}
 use Rattle.spec.specs.NTriplesGrammar as G
 use Rattle.spec.specs.StartTag.{endsInStop}
-use Rattle.spec.proofs.Utf8.{concat-sequences, small-alone, Front, front, begins-fine}
+use Rattle.spec.specs.NTriples.{digits, label}
+use Rattle.spec.proofs.Fine.{every-map}
+use Rattle.spec.proofs.Labels.{all-digits}
+use Rattle.spec.proofs.Utf8.{isAscii, ascii-characters, concat-sequences, small-alone, Front, front, begins-fine}
 
 -- ---- ranges inside ranges
 
@@ -178,3 +182,37 @@ label-in-grammar l h k = go (charactersOf (sequences l)) refl (and-left (asChara
         no-stop : (b : Bool) → endsInStop cs ≡ b → endsInStop cs ≡ false
         no-stop true q = absurd (true≢false (sym (decode-stop (sequences l) cs e q) ∙ (ap endsInStop (concat-sequences l) ∙ k)))
         no-stop false q = q
+
+-- ---- generated labels
+
+digit-char : (c : ℕ) → between 48 57 c ≡ true → isNameChar c ≡ true
+unfolding isNameChar furtherRanges inside N.all
+digit-char c h = or-right (isNameStart c) (inRanges furtherRanges c) (inside-sound furtherRanges (48, 57) c refl h)
+
+digit-small : (c : ℕ) → between 48 57 c ≡ true → c ≤ 57
+unfolding between
+digit-small c h = leb-true c 57 (and-right (leb 48 c) (leb c 57) h)
+
+label-ascii : (n : ℕ) → every isAscii (label n) ≡ true
+unfolding label every ascii isAscii
+label-ascii n = every-map (between 48 57) isAscii (λ c h. let le : c ≤ 57 = digit-small c h in lt-ltb c 128 (omega arith)) (digits 8 n) (all-digits 8 n)
+
+label-name : (n : ℕ) → isName (label n) ≡ true
+unfolding label ascii N.all
+label-name n = every-map (between 48 57) isNameChar digit-char (digits 8 n) (all-digits 8 n)
+
+label-colon : (n : ℕ) → noColon (label n) ≡ true
+unfolding label ascii N.all
+label-colon n = every-map (between 48 57) _ (λ c h. let le : c ≤ 57 = digit-small c h in rw (ne-eqb c 58 λ e. omega arith)) (digits 8 n) (all-digits 8 n)
+
+label-ncname : (n : ℕ) → isNCName (label n) ≡ true
+unfolding isNCName asCharacters holdsOf
+label-ncname n = and-both (asCharacters isName (label n)) (noColon (label n)) (rw (ascii-characters (label n) (label-ascii n)) (label-name n)) (label-colon n)
+
+label-stop : (n : ℕ) → endsInStop (label n) ≡ false
+unfolding label digits endsInStop ascii B.byte
+label-stop n = ne-eqb (48 + n % 10) 46 λ e. omega arith
+
+-- a generated label, written `_:` and the label, is a BLANK_NODE_LABEL
+pub generated-in-grammar : (n : ℕ) → asCharacters (accepts BLANK_NODE_LABEL) (ascii "_:" ++ label n) ≡ true
+generated-in-grammar n = label-in-grammar (label n) (label-ncname n) (label-stop n)
