@@ -1,7 +1,8 @@
--- What holds of every answer that is no refusal.
+-- What holds of every answer that is no refusal, and of every element of a list.
 use mathlib.Core.Path.{_≡_, refl}
 use mathlib.Core.Bool.{Bool, true, false}
-use Rattle.spec.specs.Bytes.{if_then_else_, _>>=_, _>>_, require_or_}
+use mathlib.Core.List.{List, [], _∷_}
+use Rattle.spec.specs.Bytes.{if_then_else_, _>>=_, _>>_, require_or_, each}
 use Rattle.spec.specs.Numbers.{Answer, refuse, good}
 use Rattle.spec.specs.declared.Refusal.{Refusal}
 
@@ -45,3 +46,20 @@ pub always-if : {B : Type 0} (Q : B → Type 0) (b : Bool) (m k : Answer B) → 
 unfolding if_then_else_
 always-if Q true m k h g = h refl
 always-if Q false m k h g = g refl
+
+-- the answer itself
+pub always-good : {A : Type 0} (m : Answer A) → Always (λ a. m ≡ good a) m
+always-good (refuse n) = tt
+always-good (good a) = refl
+
+-- ---- of every element
+
+abbrev pub All : {A : Type 0} → (A → Type 0) → List A → Type 0
+All P [] = Unit {0}
+All P (a ∷ l) = P a × All P l
+
+pub always-each : {A B : Type 0} (P : A → Type 0) (Q : B → Type 0) (f : A → Answer B) → ((a : A) → P a → Always Q (f a)) → (l : List A) → All P l → Always (All Q) (each f l)
+unfolding each
+always-each P Q f h [] k = tt
+always-each P Q f h (a ∷ l) k =
+    always-bind Q (All Q) _ _ (h a (k .0)) λ b q. always-bind (All Q) (All Q) _ _ (always-each P Q f h l (k .1)) λ bs qs. (q, qs)

@@ -20,10 +20,10 @@ Text? (some s) = Text s
 -- ---- cut where a byte of a set stands
 
 -- sets of bytes below 128
-abbrev Low : (ℕ → Bool) → Type 0
+abbrev pub Low : (ℕ → Bool) → Type 0
 Low p = (b : ℕ) → p b ≡ true → isAscii b ≡ true
 
-among-low : (l : Bytes) → every isAscii l ≡ true → Low (among l)
+pub among-low : (l : Bytes) → every isAscii l ≡ true → Low (among l)
 unfolding every among
 among-low [] h b k = absurd (false≢true k)
 among-low (a ∷ l) h b k = elim (or-cases (eqb a b) (among l b) k) [
@@ -31,7 +31,7 @@ among-low (a ∷ l) h b k = elim (or-cases (eqb a b) (among l b) k) [
   | inr e ↦ among-low l (and-right (isAscii a) (every isAscii l) h) b e
 ]
 
-up-to-from : (p : ℕ → Bool) (s : Bytes) → upTo p s ++ from p s ≡ s
+pub up-to-from : (p : ℕ → Bool) (s : Bytes) → upTo p s ++ from p s ≡ s
 unfolding upTo from if_then_else_
 up-to-from p [] = refl
 up-to-from p (a ∷ s) = go (p a) (up-to-from p s)
@@ -50,11 +50,11 @@ after-up-to p (a ∷ s) = go (p a) (after-up-to p s)
     go false e = e
 
 -- what stands from the first byte of a set on: nothing, or it begins with such a byte
-data From (p : ℕ → Bool) : Bytes → Type 0 where
+pub data From (p : ℕ → Bool) : Bytes → Type 0 where
   nothing : From p []
   found : (b : ℕ) (s : Bytes) → p b ≡ true → From p (b ∷ s)
 
-from-view : (p : ℕ → Bool) (s : Bytes) → From p (from p s)
+pub from-view : (p : ℕ → Bool) (s : Bytes) → From p (from p s)
 unfolding from if_then_else_
 from-view p [] = nothing
 from-view p (a ∷ s) = go (p a) refl (from-view p s)

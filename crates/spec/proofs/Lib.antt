@@ -22,3 +22,4 @@ pub mod Written
 pub mod Fine
 pub mod NodeLabels
 pub mod NTriplesLines
+pub mod EventTexts
