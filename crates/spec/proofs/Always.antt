@@ -1,7 +1,7 @@
 -- What holds of every answer that is no refusal, and of every element of a list.
-use mathlib.Core.Path.{_≡_, refl}
+use mathlib.Core.Path.{_≡_, refl, subst}
 use mathlib.Core.Bool.{Bool, true, false}
-use mathlib.Core.List.{List, [], _∷_}
+use mathlib.Core.List.{List, [], _∷_, _++_}
 use Rattle.spec.specs.Bytes.{if_then_else_, _>>=_, _>>_, require_or_, each}
 use Rattle.spec.specs.Numbers.{Answer, refuse, good}
 use Rattle.spec.specs.declared.Refusal.{Refusal}
@@ -47,10 +47,9 @@ unfolding if_then_else_
 always-if Q true m k h g = h refl
 always-if Q false m k h g = g refl
 
--- the answer itself
-pub always-good : {A : Type 0} (m : Answer A) → Always (λ a. m ≡ good a) m
-always-good (refuse n) = tt
-always-good (good a) = refl
+-- so of the value that is the answer
+pub always-is : {A : Type 0} (Q : A → Type 0) {m : Answer A} {a : A} → m ≡ good a → Always Q m → Q a
+always-is Q e h = subst (λ (x : Answer _). Always Q x) e h
 
 -- ---- of every element
 
@@ -63,3 +62,7 @@ unfolding each
 always-each P Q f h [] k = tt
 always-each P Q f h (a ∷ l) k =
     always-bind Q (All Q) _ _ (h a (k .0)) λ b q. always-bind (All Q) (All Q) _ _ (always-each P Q f h l (k .1)) λ bs qs. (q, qs)
+
+pub all-append : {A : Type 0} (P : A → Type 0) (l m : List A) → All P l → All P m → All P (l ++ m)
+all-append P [] m h k = k
+all-append P (a ∷ l) m h k = (h .0, all-append P l m (h .1) k)

@@ -27,7 +27,7 @@ use Rattle.spec.specs.NTriples.{Triple, digits, label, write}
 use Rattle.spec.specs.Document.{Doc, fresh}
 use Rattle.spec.specs.Lists.{After}
 use Rattle.spec.proofs.Utf8.{isAscii, first-byte, no-fit, Front, front}
-use Rattle.spec.proofs.Labels.{every-append, all-digits}
+use Rattle.spec.proofs.Labels.{every-append, every-map, all-digits}
 use Rattle.spec.proofs.Subjects.{Rule, OfLines, no-line, with-line}
 use Rattle.spec.proofs.Lists.{Family, kept}
 use Rattle.spec.proofs.Written.{notSpace, FineSubject, FineTerm, FineTriples, write-injective}
@@ -36,11 +36,6 @@ use Rattle.spec.proofs.Written.{notSpace, FineSubject, FineTerm, FineTr
 not-space : (p : ℕ → Bool) → p 32 ≡ false → (c : ℕ) → p c ≡ true → notSpace c ≡ true
 unfolding notSpace
 not-space p h c k = rw (ne-eqb c 32 λ e. true≢false (sym k ∙ (ap p e ∙ h)))
-
-pub every-map : (p q : ℕ → Bool) → ((c : ℕ) → p c ≡ true → q c ≡ true) → (s : Bytes) → every p s ≡ true → every q s ≡ true
-unfolding every
-every-map p q f [] h = refl
-every-map p q f (c ∷ s) h = and-both (q c) (every q s) (f c (and-left (p c) (every p s) h)) (every-map p q f s (and-right (p c) (every p s) h))
 
 -- ---- names: a space byte is a character by itself, and no name has it
 

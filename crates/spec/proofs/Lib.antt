@@ -23,3 +23,5 @@ pub mod Fine
 pub mod NodeLabels
 pub mod NTriplesLines
 pub mod EventTexts
+pub mod Texts
+pub mod NTriplesGrammar

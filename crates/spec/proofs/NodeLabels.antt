@@ -8,7 +8,7 @@ use mathlib.Core.List.{List, [], _∷_, _++_, cons≢nil}
 use Prim.Native.Nat.{ℕ, _+_, _%_, _≤_}
 use native.Mathlib.Omega.{arith}
 use lib.Dec.{leb}
-use borrow.Author.Tests.{lt-ltb, ne-eqb, eqb-true, eqb-false, eq-eqb, leb-true, le-leb}
+use borrow.Author.Tests.{ne-eqb, eqb-true, eqb-false, eq-eqb, leb-true, le-leb}
 use Rattle.spec.specs.Bytes.{Bytes, ascii, every, if_then_else_, between, inRanges, concat}
 use Rattle.spec.specs.Bytes as B
 use Rattle.spec.specs.Grammar.{Grammar, one, _or_, _then_, many, Describes, stop, more, accepts}
@@ -23,8 +23,7 @@ use Rattle.spec.specs.NTriplesGrammar.{BLANK_NODE_LABEL, PN_CHARS, PN_CH
 use Rattle.spec.specs.NTriplesGrammar as G
 use Rattle.spec.specs.StartTag.{endsInStop}
 use Rattle.spec.specs.NTriples.{digits, label}
-use Rattle.spec.proofs.Fine.{every-map}
-use Rattle.spec.proofs.Labels.{all-digits}
+use Rattle.spec.proofs.Labels.{every-map, all-digits, ascii-digits}
 use Rattle.spec.proofs.Utf8.{isAscii, ascii-characters, concat-sequences, small-alone, Front, front, begins-fine}
 
 -- ---- ranges inside ranges
@@ -195,7 +194,7 @@ digit-small c h = leb-true c 57 (and-right (leb 48 c) (leb c 57) h)
 
 label-ascii : (n : ℕ) → every isAscii (label n) ≡ true
 unfolding label every ascii isAscii
-label-ascii n = every-map (between 48 57) isAscii (λ c h. let le : c ≤ 57 = digit-small c h in lt-ltb c 128 (omega arith)) (digits 8 n) (all-digits 8 n)
+label-ascii n = ascii-digits 8 n
 
 label-name : (n : ℕ) → isName (label n) ≡ true
 unfolding label ascii N.all

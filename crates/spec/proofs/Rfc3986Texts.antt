@@ -121,7 +121,7 @@ merge-text base p t u = go (base .authority)
         choose true = join (ascii-text (ascii "/") refl) u
         choose false = rest
 
-or-else : (a b : Option Bytes) → Text? a → Text? b → Text? (orElse a b)
+pub or-else : (a b : Option Bytes) → Text? a → Text? b → Text? (orElse a b)
 unfolding orElse
 or-else none b h k = k
 or-else (some a) b h k = h

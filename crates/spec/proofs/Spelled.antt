@@ -96,3 +96,13 @@ module _ (w : ℕ → Bytes) (g : Grammar ℕ) (low : (b : ℕ) → isAscii b �
 
   pub in-coded : (s : Bytes) → Text s → In (many g) (coded w s)
   in-coded s t = coded-row (row s (t .chars) (t .are))
+
+-- ---- the same of texts alone
+
+any-characters : (s : List ℕ) → Describes (many (one (λ c. true))) s
+any-characters [] = stop refl
+any-characters (c ∷ s) = more (c ∷ []) s refl (c, refl, refl) (any-characters s)
+
+pub coded-text : (w : ℕ → Bytes) → ((b : ℕ) → isAscii b ≡ true → every isAscii (w b) ≡ true) → ((b : ℕ) → 128 ≤ b → w b ≡ b ∷ []) → (s : Bytes) → Text s → Text (coded w s)
+coded-text w low high s t =
+    text-of (in-coded w (many (one (λ c. true))) (λ b h. in-ascii (w b) (low b h) (any-characters (w b))) high (λ c le. any-characters (c ∷ [])) s t)
