@@ -1,21 +1,20 @@
 -- An event that is read from bytes has texts only: names, values and data are cut at bytes below 128.
 use mathlib.Core.Path.{_≡_, refl, sym, subst}
 use mathlib.Core.Logic.{inl, inr}
-use mathlib.Core.Bool.{Bool, true, false, _&&_, _||_, false≢true}
-use mathlib.Core.Option.{Option, none, some}
+use mathlib.Core.Bool.{Bool, true, false, _&&_, _||_}
 use mathlib.Core.List.{List, [], _∷_, _++_, append-assoc, append-nil, dropLast}
 use Prim.Native.Nat.{ℕ}
 use lib.Dec.{eqb}
 use borrow.Author.Tests.{eqb-true}
 use Rattle.spec.specs.Bytes.{Bytes, ascii, byte, if_then_else_, begins, after, upTo, from, among, every, onto, split, concat, _>>=_}
 use Rattle.spec.specs.Numbers.{good}
-use Rattle.spec.specs.Utf8.{characters, holdsOf, asCharacters}
+use Rattle.spec.specs.Utf8.{asCharacters}
 use Rattle.spec.specs.XmlNames.{isChar, isName, isNCName, isQName, noColon, prefixOf, localOf}
 use Rattle.spec.specs.Pyx.{Attribute, attribute, Event, opening, closing, text, instruction, escaped, unescape, name, readAttribute, readOpening, readClosing, readText, readLines, readEvent}
 use Rattle.spec.specs.PyxCut.{goesOn, inFront, reach, whole, cut}
 use Rattle.spec.proofs.Booleans.{and-left, and-right, or-cases}
 use Rattle.spec.proofs.Always.{Always, always-bind, always-require, always-if, always-each, All}
-use Rattle.spec.proofs.Utf8.{isAscii, Text, join, byte-text, empty-text, cut-at}
+use Rattle.spec.proofs.Utf8.{isAscii, Text, decoded-text, join, byte-text, empty-text, cut-at}
 use Rattle.spec.proofs.Cuts.{From, nothing, found, from-view, up-to-from, among-low, past-text}
 use Rattle.spec.proofs.PyxCut.{cut-reach}
 
@@ -132,13 +131,9 @@ split-low false (b ∷ s) h = go (eqb b 10) (split-low (eqb b 10) s h)
 
 -- ---- names
 
-pub ncname-text : (n : Bytes) → isNCName n ≡ true → Text n
-unfolding isNCName asCharacters holdsOf
-ncname-text n h = go (characters n) refl (and-left (asCharacters isName n) (noColon n) h)
-  where
-    go : (x : Option (List ℕ)) → characters n ≡ x → holdsOf isName x ≡ true → Text n
-    go none e k = absurd (false≢true k)
-    go (some cs) e k = record { chars = cs; are = e }
+ncname-text : (n : Bytes) → isNCName n ≡ true → Text n
+unfolding isNCName
+ncname-text n h = decoded-text isName n (and-left (asCharacters isName n) (noColon n) h)
 
 colon-text : (s : Bytes) → From (among (ascii ":")) s → Text (after (ascii ":") s) → Text s
 unfolding ascii after every isAscii
@@ -226,18 +221,11 @@ lines-text : (ls : List Bytes) → All Text ls → LowLines ls → Always TextEv
 unfolding readLines readOpening readClosing
 lines-text [] h k = tt
 lines-text (l ∷ ls) h k =
-    always-if TextEvent _ _ _ (λ e. always-bind Text TextEvent _ _ (name-text _) λ n t. always-bind (All TextAttribute) TextEvent _ _ (always-each Text TextAttribute _ attribute-text ls (h .1)) λ as′ q. (t, q)) λ e₁.
+    always-if TextEvent _ _ _
+    (λ e. always-bind Text TextEvent _ _ (name-text _) λ n t. always-bind (All TextAttribute) TextEvent _ _ (always-each Text TextAttribute _ attribute-text ls (h .1)) λ as′ q. (t, q)) λ e₁.
     always-if TextEvent _ _ _ (λ e. always-bind Text TextEvent _ _ (name-text _) λ n t. t) λ e₂.
     always-if TextEvent _ _ _ (λ e. data-text (l ∷ ls) h (begins-low l e, k)) λ e₃.
     always-if TextEvent _ _ _ (λ e. tt) λ e₄. tt
-
-bytes-text : (s : Bytes) → asCharacters (every isChar) s ≡ true → Text s
-unfolding asCharacters holdsOf
-bytes-text s h = go (characters s) refl h
-  where
-    go : (x : Option (List ℕ)) → characters s ≡ x → holdsOf (every isChar) x ≡ true → Text s
-    go none e k = absurd (false≢true k)
-    go (some cs) e k = record { chars = cs; are = e }
 
 -- the event at the front of the input has texts only
 pub event-text : (last : Bool) (s e : Bytes) → cut last s ≡ whole e → Always TextEvent (readEvent e)
@@ -246,4 +234,4 @@ event-text last s e h =
     let r = cut-reach last s e h in
     let low : LowFrom false e = subst (λ (x : Bytes). LowFrom false x) (r .1) (reach-low (r .0) false s) in
     always-require TextEvent _ _ _ λ k.
-    lines-text _ (all-drop-last Text (split 10 e) (pieces-all (split 10 e) (split-text [] e (bytes-text e k)))) (low-drop-last (split 10 e) (split-low false e low))
+    lines-text _ (all-drop-last Text (split 10 e) (pieces-all (split 10 e) (split-text [] e (decoded-text (every isChar) e k)))) (low-drop-last (split 10 e) (split-low false e low))

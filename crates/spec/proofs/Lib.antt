@@ -21,7 +21,8 @@ pub mod Lists
 pub mod Written
 pub mod Fine
 pub mod NodeLabels
-pub mod NTriplesLines
+-- ---- all that is written is N-Triples
 pub mod EventTexts
 pub mod Texts
+pub mod NTriplesLines
 pub mod NTriplesGrammar

@@ -1,11 +1,12 @@
 -- All that a document's steps write is a document of the W3C N-Triples 1.1 grammar.
 use mathlib.Core.Path.{_≡_, sym, subst}
-use mathlib.Core.Bool.{true}
+use mathlib.Core.Bool.{Bool, true}
 use mathlib.Core.Option.{Option, none, some}
 use mathlib.Core.List.{List, [], _++_}
 use native.Mathlib.Omega.{arith}
 use Rattle.spec.specs.Bytes.{Bytes, ascii}
 use Rattle.spec.specs.Numbers.{good}
+use Rattle.spec.specs.Grammar.{accepts}
 use Rattle.spec.specs.Rfc3987.{IRI, isIri}
 use Rattle.spec.specs.Pyx.{Event, readEvent}
 use Rattle.spec.specs.NTriples.{Subject, named, blank, Term, node, plain, tagged, typed, Triple, write}
@@ -13,12 +14,13 @@ use Rattle.spec.specs.NTriplesGrammar.{BLANK_NODE_LABEL, LANGTAG, isNTri
 use Rattle.spec.specs.Document.{Doc, fresh}
 use Rattle.spec.specs.RdfXml.{next}
 use Rattle.spec.specs.Lists.{After, here, event}
-use Rattle.spec.specs.Calls.{State, isOpen, isClosed, unlawful}
-use Rattle.spec.proofs.Always.{All, always-is, all-append}
+use Rattle.spec.specs.Calls.{mayStart, State, isOpen, isClosed, unlawful}
+use Rattle.spec.proofs.Always.{Always, always-test, always-require, All, always-is, all-append}
+use Rattle.spec.proofs.Utf8.{decoded-text}
 use Rattle.spec.proofs.Cuts.{Text?}
-use Rattle.spec.proofs.Spelled.{In, in-grammar, text-of}
+use Rattle.spec.proofs.Spelled.{In}
 use Rattle.spec.proofs.LanguageTags.{tag-in-grammar}
-use Rattle.spec.proofs.NodeLabels.{label-in-grammar, generated-in-grammar}
+use Rattle.spec.proofs.NodeLabels.{label-in, generated-in}
 use Rattle.spec.proofs.Subjects.{Rule, OfLines, no-line, with-line}
 use Rattle.spec.proofs.Lists.{Family, kept}
 use Rattle.spec.proofs.NTriplesLines.{SpelledSubject, SpelledTerm, SpelledLines, lines-in-grammar}
@@ -44,7 +46,7 @@ LabelRule = record {
   obj = LabelTerm;
   lang = λ l. In LANGTAG (ascii "@" ++ l);
   name = λ i. tt;
-  other-label = λ l h g k. in-grammar BLANK_NODE_LABEL (ascii "_:" ++ l) (label-in-grammar l h k);
+  other-label = λ l h g k. label-in l h k;
   node-of = λ s h. h;
   plain-of = λ v. tt;
   typed-of = λ v d. tt;
@@ -60,7 +62,7 @@ labels = record {
   up-subj = λ n n′ up s h. h;
   up-obj = λ n n′ up o h. h;
   up-lang = λ n n′ up l h. h;
-  fresh = λ n n′ lo le k p q. in-grammar BLANK_NODE_LABEL _ (generated-in-grammar k);
+  fresh = λ n n′ lo le k p q. generated-in k;
 }
 
 -- ---- together with texts
@@ -87,10 +89,16 @@ abbrev pub GoodBase : Option Bytes → Type 0
 GoodBase none = Unit {0}
 GoodBase (some b) = isIri b ≡ true
 
+-- start lets no other past
+pub started-base : (lengths : Bool) (b : Option Bytes) → Always (λ u. GoodBase b) (mayStart lengths b)
+unfolding mayStart
+started-base lengths none = always-test _ _ _ λ h. tt
+started-base lengths (some b) = always-require _ _ _ _ λ h. always-require _ _ _ _ λ k. always-test _ _ _ λ l. k
+
 base-text : (b : Option Bytes) → GoodBase b → Text? b
 unfolding isIri
 base-text none h = tt
-base-text (some b) h = text-of (in-grammar IRI b h)
+base-text (some b) h = decoded-text (accepts IRI) b h
 
 -- the lines of accepted events, of texts, and a document of texts
 abbrev Good : Option Bytes → Doc → List Triple → Type 0

@@ -3,20 +3,17 @@
 use mathlib.Core.Path.{_≡_, refl, sym, _∙_, ap}
 use mathlib.Core.Logic.{_⊎_, inl, inr}
 use mathlib.Core.Bool.{Bool, true, false, _&&_, _||_, false≢true, true≢false}
-use mathlib.Core.Option.{Option, none, some, Option·some-injective}
-use mathlib.Core.List.{List, [], _∷_, _++_, cons≢nil}
+use mathlib.Core.List.{List, [], _∷_, _++_}
 use Prim.Native.Nat.{ℕ, _+_, _%_, _≤_}
 use native.Mathlib.Omega.{arith}
 use lib.Dec.{leb}
 use borrow.Author.Tests.{ne-eqb, eqb-true, eqb-false, eq-eqb, leb-true, le-leb}
-use Rattle.spec.specs.Bytes.{Bytes, ascii, every, if_then_else_, between, inRanges, concat}
+use Rattle.spec.specs.Bytes.{Bytes, ascii, every, between, inRanges}
 use Rattle.spec.specs.Bytes as B
 use Rattle.spec.specs.Grammar.{Grammar, one, _or_, _then_, many, Describes, stop, more, accepts}
 use Rattle.spec.proofs.Booleans.{and-left, and-right, and-both, or-cases, or-left, or-right}
-use Rattle.spec.proofs.Grammar.{accepts-complete}
 use Rattle.spec.specs.Abnf.{optional}
-use Rattle.spec.specs.Utf8 as U
-use Rattle.spec.specs.Utf8.{goesOn, beginsWithOne, sequences, character, charactersOf, characters, inFront, holdsOf, asCharacters}
+use Rattle.spec.specs.Utf8.{characters, holdsOf, asCharacters}
 use Rattle.spec.specs.XmlNames.{isNCName, isName, isNameChar, isNameStart, noColon, startRanges, furtherRanges}
 use Rattle.spec.specs.XmlNames as N
 use Rattle.spec.specs.NTriplesGrammar.{BLANK_NODE_LABEL, PN_CHARS, PN_CHARS_U, text}
@@ -24,7 +21,8 @@ use Rattle.spec.specs.NTriplesGrammar as G
 use Rattle.spec.specs.StartTag.{endsInStop}
 use Rattle.spec.specs.NTriples.{digits, label}
 use Rattle.spec.proofs.Labels.{every-map, all-digits, ascii-digits}
-use Rattle.spec.proofs.Utf8.{isAscii, ascii-characters, concat-sequences, small-alone, Front, front, begins-fine}
+use Rattle.spec.proofs.Utf8.{isAscii, ascii-characters, characters-append, Decoded, decoded, Row, end, small, large, row}
+use Rattle.spec.proofs.Spelled.{In, accepted}
 
 -- ---- ranges inside ranges
 
@@ -143,44 +141,33 @@ ends-append (a ∷ []) [] h = absurd (false≢true h)
 ends-append (a ∷ []) (c ∷ v) h = h
 ends-append (a ∷ b ∷ u) v h = ends-append (b ∷ u) v h
 
-none-left : (ls : List Bytes) → charactersOf ls ≡ some [] → concat ls ≡ []
-unfolding concat
-none-left [] h = refl
-none-left (l ∷ ls) h = absurd (cons≢nil (front l ls [] h .all))
-
-decode-stop : (ls : List Bytes) (cs : List ℕ) → charactersOf ls ≡ some cs → endsInStop cs ≡ true → endsInStop (concat ls) ≡ true
-unfolding charactersOf concat endsInStop B.byte
-decode-stop [] cs h k = absurd (false≢true (ap endsInStop (Option·some-injective [] cs h) ∙ k))
-decode-stop (l ∷ ls) cs h k =
-    let r : Front l ls cs = front l ls cs h in
-    go (r .first) (r .others) (r .is-first) (r .are-others) (ap endsInStop (r .all) ∙ k) (decode-stop ls (r .others) (r .are-others))
-  where
-    go : (c : ℕ) (ds : List ℕ) → character l ≡ some c → charactersOf ls ≡ some ds → endsInStop (c ∷ ds) ≡ true
-        → (endsInStop ds ≡ true → endsInStop (concat ls) ≡ true) → endsInStop (l ++ concat ls) ≡ true
-    go c [] e f g ih =
-        let p : c ≡ 46 = eqb-true c 46 g in
-        let q : l ≡ c ∷ [] = small-alone l c (omega arith) e in
-        rw (q, none-left ls f, p) refl
-    go c (d ∷ es) e f g ih = ends-append l (concat ls) (ih g)
+row-stop : {s : Bytes} {cs : List ℕ} → Row s cs → endsInStop cs ≡ true → endsInStop s ≡ true
+unfolding endsInStop B.byte
+row-stop end h = h
+row-stop (small {s = s} {cs = []} b a end) h = h
+row-stop (small {s = s} {cs = d ∷ cs} b a r) h = ends-append (b ∷ []) s (row-stop r h)
+row-stop (large {s = s} {cs = []} l c e a le r) h = let p : c ≡ 46 = eqb-true c 46 h in absurd (omega arith)
+row-stop (large {s = s} {cs = d ∷ cs} l c e a le r) h = ends-append l s (row-stop r h)
 
 -- ---- the theorem
 
-decoded : (l : Bytes) (cs : List ℕ) → charactersOf (sequences l) ≡ some cs → characters (95 ∷ 58 ∷ l) ≡ some (95 ∷ 58 ∷ cs)
-unfolding characters sequences charactersOf inFront if_then_else_ beginsWithOne goesOn U.all
-decoded l cs h = rw (begins-fine l cs h, h) refl
+pub label-in : (l : Bytes) → isNCName l ≡ true → endsInStop l ≡ false → In BLANK_NODE_LABEL (ascii "_:" ++ l)
+unfolding isNCName ascii every isAscii
+label-in l h k =
+    let r : Decoded isName l = decoded isName l (and-left (asCharacters isName l) (noColon l) h) in
+    record {
+      chars = 95 ∷ 58 ∷ r .chars;
+      are = characters-append (ascii "_:") l (ascii "_:") (r .chars) (ascii-characters (ascii "_:") refl) (r .are);
+      described = label-described (r .chars) (r .pass) (go (r .chars) (row l (r .chars) (r .are)) (endsInStop (r .chars)) refl);
+    }
+  where
+    go : (cs : List ℕ) → Row l cs → (b : Bool) → endsInStop cs ≡ b → endsInStop cs ≡ false
+    go cs r true e = absurd (true≢false (sym (row-stop r e) ∙ k))
+    go cs r false e = e
 
 -- an rdf:nodeID that 9 and 13 let past, written `_:` and the label, is a BLANK_NODE_LABEL
 pub label-in-grammar : (l : Bytes) → isNCName l ≡ true → endsInStop l ≡ false → asCharacters (accepts BLANK_NODE_LABEL) (ascii "_:" ++ l) ≡ true
-unfolding isNCName asCharacters characters holdsOf ascii
-label-in-grammar l h k = go (charactersOf (sequences l)) refl (and-left (asCharacters isName l) (noColon l) h)
-  where
-    go : (x : Option (List ℕ)) → charactersOf (sequences l) ≡ x → holdsOf isName x ≡ true → holdsOf (accepts BLANK_NODE_LABEL) (characters (95 ∷ 58 ∷ l)) ≡ true
-    go none e h = absurd (false≢true h)
-    go (some cs) e h = rw (decoded l cs e) (accepts-complete BLANK_NODE_LABEL (95 ∷ 58 ∷ cs) (label-described cs h (no-stop (endsInStop cs) refl)))
-      where
-        no-stop : (b : Bool) → endsInStop cs ≡ b → endsInStop cs ≡ false
-        no-stop true q = absurd (true≢false (sym (decode-stop (sequences l) cs e q) ∙ (ap endsInStop (concat-sequences l) ∙ k)))
-        no-stop false q = q
+label-in-grammar l h k = accepted (label-in l h k)
 
 -- ---- generated labels
 
@@ -213,5 +200,5 @@ unfolding label digits endsInStop ascii B.byte
 label-stop n = ne-eqb (48 + n % 10) 46 λ e. omega arith
 
 -- a generated label, written `_:` and the label, is a BLANK_NODE_LABEL
-pub generated-in-grammar : (n : ℕ) → asCharacters (accepts BLANK_NODE_LABEL) (ascii "_:" ++ label n) ≡ true
-generated-in-grammar n = label-in-grammar (label n) (label-ncname n) (label-stop n)
+pub generated-in : (n : ℕ) → In BLANK_NODE_LABEL (ascii "_:" ++ label n)
+generated-in n = label-in (label n) (label-ncname n) (label-stop n)

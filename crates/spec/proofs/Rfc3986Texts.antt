@@ -53,8 +53,13 @@ unfolding parse ascii every isAscii
 parse-text s t =
     let h₁ = scheme-text s t in
     let h₂ = behind-text (ascii "//") (ascii "/?#") (afterScheme (schemeOf s) s) refl refl (h₁ .1) in
-    let h₃ = from-text (ascii "?#") refl _ h₂ in
-    (h₁ .0, marked-text (ascii "//") (ascii "/?#") _ refl refl (h₁ .1), up-to-text (ascii "?#") refl _ h₂, marked-text (ascii "?") (ascii "#") _ refl refl h₃, marked-text (ascii "#") [] _ refl refl (behind-text (ascii "?") (ascii "#") _ refl refl h₃))
+    let h₃ = from-text (ascii "?#") refl _ h₂ in (
+      h₁ .0,
+      marked-text (ascii "//") (ascii "/?#") _ refl refl (h₁ .1),
+      up-to-text (ascii "?#") refl _ h₂,
+      marked-text (ascii "?") (ascii "#") _ refl refl h₃,
+      marked-text (ascii "#") [] _ refl refl (behind-text (ascii "?") (ascii "#") _ refl refl h₃),
+    )
 
 -- ---- section 5.2.4
 
@@ -110,16 +115,19 @@ merge-text : (base : Reference) (p : Bytes) → Text (base .path) → Text p →
 unfolding merge if_then_else_ ascii every isAscii
 merge-text base p t u = go (base .authority)
   where
-    rest : Text (reverse (from (among (ascii "/")) (reverse (base .path))) ++ p)
+    upToLast : Bytes
+    upToLast = reverse (from (among (ascii "/")) (reverse (base .path)))
+
+    rest : Text (upToLast ++ p)
     rest = join (last-text (ascii "/") refl (base .path) t) u
 
-    go : (a : Option Bytes) → Text (elim a [ none ↦ reverse (from (among (ascii "/")) (reverse (base .path))) ++ p | some a ↦ (if isEmpty (base .path) then ascii "/" ++ p else reverse (from (among (ascii "/")) (reverse (base .path))) ++ p) ])
+    choose : (b : Bool) → Text (if b then ascii "/" ++ p else upToLast ++ p)
+    choose true = join (ascii-text (ascii "/") refl) u
+    choose false = rest
+
+    go : (a : Option Bytes) → Text (elim a [ none ↦ upToLast ++ p | some a ↦ (if isEmpty (base .path) then ascii "/" ++ p else upToLast ++ p) ])
     go none = rest
     go (some a) = choose (isEmpty (base .path))
-      where
-        choose : (b : Bool) → Text (if b then ascii "/" ++ p else reverse (from (among (ascii "/")) (reverse (base .path))) ++ p)
-        choose true = join (ascii-text (ascii "/") refl) u
-        choose false = rest
 
 pub or-else : (a b : Option Bytes) → Text? a → Text? b → Text? (orElse a b)
 unfolding orElse

@@ -1,8 +1,8 @@
 -- Bytes that are, in UTF-8, characters that a grammar describes; and so of what is written byte by byte.
 use mathlib.Core.Path.{_≡_, refl}
 use mathlib.Core.Logic.{inl, inr}
-use mathlib.Core.Bool.{Bool, true, false≢true}
-use mathlib.Core.Option.{Option, none, some}
+use mathlib.Core.Bool.{Bool, true}
+use mathlib.Core.Option.{some}
 use mathlib.Core.List.{List, [], _∷_, _++_}
 use Prim.Native.Nat.{ℕ, _≤_}
 use lib.Dec.{leb}
@@ -14,7 +14,7 @@ use Rattle.spec.specs.NTriples.{coded}
 use Rattle.spec.specs.NTriplesGrammar as G
 use Rattle.spec.proofs.Booleans.{and-left, and-right, and-both}
 use Rattle.spec.proofs.Grammar.{accepts-sound, accepts-complete}
-use Rattle.spec.proofs.Utf8.{isAscii, Text, characters-append, ascii-characters, Row, end, small, large, row}
+use Rattle.spec.proofs.Utf8.{isAscii, Text, Decoded, decoded, characters-append, ascii-characters, Row, end, small, large, row}
 
 pub record In (g : Grammar ℕ) (s : Bytes) : Type 0 where
   pub chars : List ℕ
@@ -27,12 +27,9 @@ unfolding asCharacters holdsOf
 accepted {g} {s} h = rw (h .are) (accepts-complete g (h .chars) (h .described))
 
 pub in-grammar : (g : Grammar ℕ) (s : Bytes) → asCharacters (accepts g) s ≡ true → In g s
-unfolding asCharacters holdsOf
-in-grammar g s h = go (characters s) refl h
-  where
-    go : (x : Option (List ℕ)) → characters s ≡ x → holdsOf (accepts g) x ≡ true → In g s
-    go none e k = absurd (false≢true k)
-    go (some cs) e k = record { chars = cs; are = e; described = accepts-sound g cs k }
+in-grammar g s h =
+    let r : Decoded (accepts g) s = decoded (accepts g) s h in
+    record { chars = r .chars; are = r .are; described = accepts-sound g (r .chars) (r .pass) }
 
 pub text-of : {g : Grammar ℕ} {s : Bytes} → In g s → Text s
 text-of h = record { chars = h .chars; are = h .are }

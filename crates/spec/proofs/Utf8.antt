@@ -12,13 +12,13 @@ use lib.ListN.{length}
 use borrow.Author.Tests.{eqb-true, ne-eqb, leb-true, le-leb, lt-leb, ltb-true, ltb-false, le-ltb}
 use Rattle.spec.specs.Bytes.{Bytes, every, if_then_else_, between, onto, concat}
 use Rattle.spec.specs.Utf8 as U
-use Rattle.spec.specs.Utf8.{goesOn, beginsWithOne, sequences, fits, least, isScalar, value, leadingOnes, leadingOnesOf, character, charactersOf, characters, inFront}
+use Rattle.spec.specs.Utf8.{goesOn, beginsWithOne, sequences, fits, least, isScalar, value, leadingOnes, leadingOnesOf, character, charactersOf, characters, inFront, holdsOf, asCharacters}
 use Rattle.spec.proofs.Booleans.{and-left, and-right, and-both, or-cases}
 
 -- ---- sequences
 
 -- the first sequence begins with the first byte
-pub first-byte : (b : ℕ) (s : Bytes) → (l : Bytes) × (ls : List Bytes) × (sequences (b ∷ s) ≡ (b ∷ l) ∷ ls)
+first-byte : (b : ℕ) (s : Bytes) → (l : Bytes) × (ls : List Bytes) × (sequences (b ∷ s) ≡ (b ∷ l) ∷ ls)
 unfolding sequences onto if_then_else_
 first-byte b s = go (beginsWithOne s) (sequences s)
   where
@@ -32,7 +32,7 @@ unfolding concat onto
 concat-onto b [] = refl
 concat-onto b (l ∷ ls) = refl
 
-pub concat-sequences : (s : Bytes) → concat (sequences s) ≡ s
+concat-sequences : (s : Bytes) → concat (sequences s) ≡ s
 unfolding concat sequences if_then_else_
 concat-sequences [] = refl
 concat-sequences (b ∷ s) = go (beginsWithOne s) (concat-sequences s)
@@ -81,7 +81,7 @@ whole-sequences (b ∷ c ∷ s) = go (goesOn c) refl (first-byte c s) (whole-seq
 unfoldable pub isAscii : ℕ → Bool
 isAscii b = ltb b 128
 
-pub high : (b : ℕ) → goesOn b ≡ true → isAscii b ≡ false
+high : (b : ℕ) → goesOn b ≡ true → isAscii b ≡ false
 unfolding isAscii goesOn leadingOnes leadingOnesOf if_then_else_
 high b h = go (leb 128 b) refl h
   where
@@ -120,7 +120,7 @@ unfolding isAscii leadingOnes leadingOnesOf if_then_else_
 no-ones b h = rw (lt-leb 128 b (ltb-true b 128 h), leadingOnesOf) refl
 
 -- no sequence of several bytes begins with one below 128
-pub no-fit : (b k : ℕ) → isAscii b ≡ true → fits b (suc (suc k)) ≡ false
+no-fit : (b k : ℕ) → isAscii b ≡ true → fits b (suc (suc k)) ≡ false
 unfolding fits
 no-fit b k h =
     go (eqb (suc (suc k)) 1) (ltb b 128) (between 2 4 (suc (suc k))) (leadingOnes b)
@@ -177,37 +177,25 @@ unfolding value U.joined if_then_else_ isAscii
 value-one b e = rw (e, value) refl
 
 -- a byte below 128 is a character by itself
-pub single : (b : ℕ) → isAscii b ≡ true → character (b ∷ []) ≡ some b
+single : (b : ℕ) → isAscii b ≡ true → character (b ∷ []) ≡ some b
 unfolding character fits least isScalar if_then_else_ isAscii
 single b h =
     let le : b < 128 = ltb-true b 128 h in
     rw (value-one b h, h, le-leb b 0xD7FF (omega arith), le-leb 0 b (omega arith), character) refl
-
--- a character below 128 is a byte by itself
-pub small-alone : (s : Bytes) (c : ℕ) → c < 128 → character s ≡ some c → s ≡ c ∷ []
-unfolding character
-small-alone [] c le h = absurd (Option·none-ne-some c h)
-small-alone (b ∷ []) c le h =
-    let r : Read b [] c = read b [] c h in
-    ap (λ (x : ℕ). x ∷ []) (sym (value-one b (fits-one b (r .fit))) ∙ r .is)
-small-alone (b ∷ x ∷ t) c le h =
-    let r : Read b (x ∷ t) c = read b (x ∷ t) c h in
-    let q : 128 ≤ least (suc (suc (length t))) = least-long (length t) in
-    absurd (omega (arith, r .large))
 
 bad-character : (b : ℕ) (l : Bytes) → goesOn b ≡ true → character (b ∷ l) ≡ none
 unfolding character if_then_else_
 bad-character b l h = rw (no-start b (suc (length l)) h, character) refl
 
 -- the characters of a row are the first and the others
-pub record Front (l : Bytes) (ls : List Bytes) (cs : List ℕ) : Type 0 where
+record Front (l : Bytes) (ls : List Bytes) (cs : List ℕ) : Type 0 where
   pub first : ℕ
   pub others : List ℕ
   pub is-first : character l ≡ some first
   pub are-others : charactersOf ls ≡ some others
   pub all : first ∷ others ≡ cs
 
-pub front : (l : Bytes) (ls : List Bytes) (cs : List ℕ) → charactersOf (l ∷ ls) ≡ some cs → Front l ls cs
+front : (l : Bytes) (ls : List Bytes) (cs : List ℕ) → charactersOf (l ∷ ls) ≡ some cs → Front l ls cs
 unfolding charactersOf inFront
 front l ls cs h = go (character l) (charactersOf ls) refl refl h
   where
@@ -217,7 +205,7 @@ front l ls cs h = go (character l) (charactersOf ls) refl refl h
     go (some c) (some ds) e f h = record { first = c; others = ds; is-first = e; are-others = f; all = Option·some-injective (c ∷ ds) cs h }
 
 -- no text begins with a byte that goes on
-pub begins-fine : (s : Bytes) (cs : List ℕ) → charactersOf (sequences s) ≡ some cs → beginsWithOne s ≡ false
+begins-fine : (s : Bytes) (cs : List ℕ) → charactersOf (sequences s) ≡ some cs → beginsWithOne s ≡ false
 unfolding beginsWithOne
 begins-fine [] cs h = refl
 begins-fine (b ∷ s) cs h = go (goesOn b) refl (first-byte b s)
@@ -253,6 +241,23 @@ characters-append u v cs ds h k = rw (sequences-append u v (begins-fine v ds k))
 pub record Text (s : Bytes) : Type 0 where
   pub chars : List ℕ
   pub are : characters s ≡ some chars
+
+-- a test on characters that passes
+pub record Decoded (p : List ℕ → Bool) (s : Bytes) : Type 0 where
+  pub chars : List ℕ
+  pub are : characters s ≡ some chars
+  pub pass : p chars ≡ true
+
+pub decoded : (p : List ℕ → Bool) (s : Bytes) → asCharacters p s ≡ true → Decoded p s
+unfolding asCharacters holdsOf
+decoded p s h = go (characters s) refl h
+  where
+    go : (x : Option (List ℕ)) → characters s ≡ x → holdsOf p x ≡ true → Decoded p s
+    go none e k = absurd (false≢true k)
+    go (some cs) e k = record { chars = cs; are = e; pass = k }
+
+pub decoded-text : (p : List ℕ → Bool) (s : Bytes) → asCharacters p s ≡ true → Text s
+decoded-text p s h = let r : Decoded p s = decoded p s h in record { chars = r .chars; are = r .are }
 
 pub join : {u v : Bytes} → Text u → Text v → Text (u ++ v)
 join {u} {v} h k = record { chars = h .chars ++ k .chars; are = characters-append u v (h .chars) (k .chars) (h .are) (k .are) }
