@@ -95,7 +95,7 @@ module _ (l : Bytes) (h : every isAscii l ≡ true) (s : Bytes) (t : Text s) whe
       go x (found a r e) k = cut-at [] a r (among-low l h a e) k .1
 
 -- behind a beginning
-pub begins-after : (m s : Bytes) → begins m s ≡ true → s ≡ m ++ after m s
+begins-after : (m s : Bytes) → begins m s ≡ true → s ≡ m ++ after m s
 unfolding begins after
 begins-after [] s h = refl
 begins-after (a ∷ m) [] h = absurd (false≢true h)

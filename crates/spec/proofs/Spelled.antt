@@ -31,7 +31,7 @@ in-grammar g s h =
     let r : Decoded (accepts g) s = decoded (accepts g) s h in
     record { chars = r .chars; are = r .are; described = accepts-sound g (r .chars) (r .pass) }
 
-pub text-of : {g : Grammar ℕ} {s : Bytes} → In g s → Text s
+text-of : {g : Grammar ℕ} {s : Bytes} → In g s → Text s
 text-of h = record { chars = h .chars; are = h .are }
 
 -- bytes below 128 are their own characters
