@@ -45,7 +45,7 @@ row-fine (small {s = s} {cs = cs} b a r) h =
 row-fine (large {s = s} {cs = cs} l c e a le r) h =
     every-append notSpace l s (every-map (λ b. leb 128 b) notSpace (not-space (λ b. leb 128 b) refl) l a) (row-fine r (and-right (isNameChar c) (every isNameChar cs) h))
 
-name-chars : (cs : List ℕ) → isName cs ≡ true → every isNameChar cs ≡ true
+pub name-chars : (cs : List ℕ) → isName cs ≡ true → every isNameChar cs ≡ true
 unfolding isName isNameChar every
 name-chars [] h = absurd (false≢true h)
 name-chars (c ∷ cs) h = go (isNameStart c) refl h
