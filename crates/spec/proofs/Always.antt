@@ -1,8 +1,9 @@
--- What holds of every answer that is no refusal. The theorems about accepted events begin here, behind the tables of worked examples:
--- a definition that breaks a table is refused by the table first.
+-- What holds of every answer that is no refusal, and of every element of a list. The theorems about accepted events begin here, behind
+-- the tables of worked examples: a definition that breaks a table is refused by the table first.
 use mathlib.Core.Path.{_≡_, refl}
 use mathlib.Core.Bool.{Bool, true, false}
-use Rattle.spec.specs.Bytes.{if_then_else_, _>>=_, _>>_, require_or_}
+use mathlib.Core.List.{List, [], _∷_, _++_}
+use Rattle.spec.specs.Bytes.{if_then_else_, _>>=_, _>>_, require_or_, each}
 use Rattle.spec.specs.Numbers.{Answer, refuse, good}
 use Rattle.spec.specs.declared.Refusal.{Refusal}
 use Rattle.spec.specs.Examples.Proved
@@ -64,3 +65,19 @@ always-self (good a) = refl
 -- what always holds of an answer, of a good one
 pub always-good : {A : Type 0} (Q : A → Type 0) {m : Answer A} {a : A} → Always Q m → m ≡ good a → Q a
 always-good Q h e = rw e at h
+
+-- ---- of every element
+
+abbrev pub All : {A : Type 0} → (A → Type 0) → List A → Type 0
+All P [] = Unit {0}
+All P (a ∷ l) = P a × All P l
+
+pub always-each : {A B : Type 0} (P : A → Type 0) (Q : B → Type 0) (f : A → Answer B) → ((a : A) → P a → Always Q (f a)) → (l : List A) → All P l → Always (All Q) (each f l)
+unfolding each
+always-each P Q f h [] k = tt
+always-each P Q f h (a ∷ l) k =
+    always-bind Q (All Q) _ _ (h a (k .0)) λ b q. always-bind (All Q) (All Q) _ _ (always-each P Q f h l (k .1)) λ bs qs. (q, qs)
+
+pub all-append : {A : Type 0} (P : A → Type 0) (l m : List A) → All P l → All P m → All P (l ++ m)
+all-append P [] m h k = k
+all-append P (a ∷ l) m h k = (h .0, all-append P l m (h .1) k)

@@ -3,7 +3,7 @@
 use mathlib.Core.Path.{_≡_, refl, sym, _∙_, ap}
 use mathlib.Core.Logic.{_⊎_, inl, inr}
 use mathlib.Core.Bool.{Bool, true, false}
-use mathlib.Core.Option.{Option, none, some}
+use mathlib.Core.Option.{Option}
 use mathlib.Core.List.{List, [], _∷_, _++_, append-assoc, append-nil}
 use Prim.Native.Nat.{ℕ}
 use lib.Dec.{leb}
@@ -11,31 +11,35 @@ use lib.ListN.{length}
 use Rattle.spec.specs.Bytes.{Bytes, _>>=_, _>>_, require_or_}
 use Rattle.spec.specs.Numbers.{Effect, stays-open, unchanged, becomes-closed, effect, closes, Answer, refuse, good}
 use Rattle.spec.specs.declared.Refusal.{Refusal}
-use Rattle.spec.specs.declared.Refusal.the-variants.{NoRoom, BadState, Closed}
+use Rattle.spec.specs.declared.Refusal.the-variants.{Incomplete, NoRoom, BadState, Closed, NotPyx, OverLimit}
 use Rattle.spec.specs.Pyx.{Event, readEvent}
-use Rattle.spec.specs.PyxCut.{Cut, cut}
+use Rattle.spec.specs.PyxCut.{Cut, wait, unended, tooLong, whole, cut}
 use Rattle.spec.specs.NTriples.{Triple, write, line}
 use Rattle.spec.specs.Document.{Doc, fresh}
 use Rattle.spec.specs.RdfXml.{next, finish}
 use Rattle.spec.specs.Lists.{After, here, event}
-use Rattle.spec.specs.Calls.{State, isOpen, isClosed, unlawful, Report, markClosed, markedBy, refused, refusedIn, mayStart, started, callStart, firstEvent, Accepted, accept, stepped, callStep, finished, callFinish}
+use Rattle.spec.specs.Calls.{State, isOpen, isClosed, unlawful, Report, markClosed, markedBy, refused, refusedIn, mayStart, started, callStart, firstEvent, accept, stepped, callStep, finished, callFinish}
 use Rattle.spec.proofs.PyxCut.{cut-final}
 
 -- ---- a step on an open document
 
+-- the bytes of the event at the front of some input
+abbrev pub AtFront : Bytes → Type 0
+AtFront bytes = (last : Bool) × (s : Bytes) × (cut last s ≡ whole bytes)
+
 -- an event done, or a refusal by the table
 pub data Reported (d : Doc) : Report → Type 0 where
-  did : (bytes : Bytes) (e : Event) (us : List Triple) (d′ : Doc) → readEvent bytes ≡ good e → next e d ≡ good (us, d′)
+  did : (bytes : Bytes) (e : Event) (us : List Triple) (d′ : Doc) → AtFront bytes → readEvent bytes ≡ good e → next e d ≡ good (us, d′)
       → Reported d (record { answer = 0; consumed = length bytes; output = write us; behind = isOpen d′ })
   gave : (r : Refusal) → Reported d (refusedIn (isOpen d) r)
 
-accept-reported : (bytes : Bytes) (room : ℕ) (d : Doc) → Reported d (stepped d (accept bytes room d))
+accept-reported : (bytes : Bytes) (room : ℕ) (d : Doc) → AtFront bytes → Reported d (stepped d (accept bytes room d))
 unfolding accept stepped _>>=_ _>>_ require_or_
-accept-reported bytes room d = on-read (readEvent bytes) refl
+accept-reported bytes room d c = on-read (readEvent bytes) refl
   where
     on-room : (e : Event) (s : List Triple × Doc) → readEvent bytes ≡ good e → next e d ≡ good s → (b : Bool)
         → Reported d (stepped d ((require b or NoRoom) >> good (record { size = length bytes; lines = write (s .0); behind = s .1 })))
-    on-room e s p q true = did bytes e (s .0) (s .1) p q
+    on-room e s p q true = did bytes e (s .0) (s .1) c p q
     on-room e s p q false = gave NoRoom
 
     on-next : (e : Event) (a : Answer (List Triple × Doc)) → readEvent bytes ≡ good e → next e d ≡ a
@@ -49,12 +53,14 @@ accept-reported bytes room d = on-read (readEvent bytes) refl
     on-read (good e) p = on-next e (next e d) p refl
 
 pub reported : (last : Bool) (s : Bytes) (room : ℕ) (d : Doc) → Reported d (callStep last s room (isOpen d))
-unfolding callStep stepped _>>=_
-reported last s room d = go (firstEvent (cut last s))
+unfolding callStep firstEvent stepped _>>=_
+reported last s room d = go (cut last s) refl
   where
-    go : (a : Answer Bytes) → Reported d (stepped d (a >>= λ bytes. accept bytes room d))
-    go (refuse r) = gave r
-    go (good bytes) = accept-reported bytes room d
+    go : (c : Cut) → cut last s ≡ c → Reported d (stepped d (firstEvent c >>= λ bytes. accept bytes room d))
+    go tooLong e = gave OverLimit
+    go wait e = gave Incomplete
+    go unended e = gave NotPyx
+    go (whole bytes) e = accept-reported bytes room d (last, s, e)
 
 -- ---- every call, by the table
 
@@ -69,7 +75,7 @@ step-by-table last s room (isClosed d) = inr (Closed, refl)
 step-by-table last s room (isOpen d) = go (callStep last s room (isOpen d)) (reported last s room d)
   where
     go : (r : Report) → Reported d r → ByTable (isOpen d) r
-    go r (did bytes e us d′ p q) = inl refl
+    go r (did bytes e us d′ c p q) = inl refl
     go r (gave x) = inr (x, refl)
 
 pub finish-by-table : (t : State) → ByTable t (callFinish t)
@@ -129,35 +135,43 @@ unfolding write
 write-append [] us = refl
 write-append (t ∷ ts) us = ap (λ (x : Bytes). line t ++ x) (write-append ts us) ∙ sym (append-assoc (line t) (write ts) (write us))
 
-abbrev WrittenIn : Option Bytes → Doc → Bytes → Type 0
-WrittenIn b d w = (ts : List Triple) × After (fresh b) d ts × (w ≡ write ts)
+-- the bytes written are lines of which, with the document, something holds; no document's steps lead to a state that the rules do
+-- not allow
+abbrev pub Holds : (Doc → List Triple → Type 0) → State → Bytes → Type 0
+Holds I (isOpen d) w = (ts : List Triple) × I d ts × (w ≡ write ts)
+Holds I (isClosed d) w = (ts : List Triple) × I d ts × (w ≡ write ts)
+Holds I unlawful w = ⊥
 
--- the lines of accepted events lead to the document; no document's steps lead to a state that the rules do not allow
-abbrev pub Written : Option Bytes → State → Bytes → Type 0
-Written b (isOpen d) w = WrittenIn b d w
-Written b (isClosed d) w = WrittenIn b d w
-Written b unlawful w = ⊥
-
-written-marked : (b : Option Bytes) (m : Effect) (d : Doc) (w : Bytes) → WrittenIn b d w → Written b (markedBy m (isOpen d)) w
+holds-marked : (I : Doc → List Triple → Type 0) (m : Effect) (d : Doc) (w : Bytes) → Holds I (isOpen d) w → Holds I (markedBy m (isOpen d)) w
 unfolding markedBy markClosed
-written-marked b stays-open d w h = h
-written-marked b unchanged d w h = h
-written-marked b becomes-closed d w h = h
+holds-marked I stays-open d w h = h
+holds-marked I unchanged d w h = h
+holds-marked I becomes-closed d w h = h
 
-written-step : (b : Option Bytes) (d : Doc) (w : Bytes) (r : Report) → Reported d r → WrittenIn b d w → Written b (r .behind) (w ++ r .output)
-unfolding refusedIn refused
-written-step b d w r (did bytes e us d′ p q) h = (h .0 ++ us, event (h .1) e d′ us q, rw (h .2) (sym (write-append (h .0) us)))
-written-step b d w r (gave x) h = written-marked b (effect x) d (w ++ []) (h .0, h .1, append-nil w ∙ h .2)
+-- what holds at the start, and behind each accepted event if it holds before, holds behind all steps
+module _ (b : Option Bytes) (I : Doc → List Triple → Type 0) (start : I (fresh b) [])
+    (onward : (d d′ : Doc) (ts us : List Triple) (bytes : Bytes) (e : Event) → AtFront bytes → readEvent bytes ≡ good e → next e d ≡ good (us, d′) → I d ts → I d′ (ts ++ us)) where
+  holds-step : (d : Doc) (w : Bytes) (r : Report) → Reported d r → Holds I (isOpen d) w → Holds I (r .behind) (w ++ r .output)
+  unfolding refusedIn refused
+  holds-step d w r (did bytes e us d′ c p q) h = (h .0 ++ us, onward d d′ (h .0) us bytes e c p q (h .1), rw (h .2) (sym (write-append (h .0) us)))
+  holds-step d w r (gave x) h = holds-marked I (effect x) d (w ++ []) (h .0, h .1, append-nil w ∙ h .2)
+
+  pub carried : (t : State) (w : Bytes) → Steps b t w → Holds I t w
+  unfolding write callStep refusedIn refused markedBy
+  carried t w at-start = ([], start, refl)
+  carried t w (and-step {t = isOpen d} {w = w₀} h last s room) = holds-step d w₀ _ (reported last s room d) (carried (isOpen d) w₀ h)
+  carried t w (and-step {t = isClosed d} {w = w₀} h last s room) =
+      let k : Holds I (isClosed d) w₀ = carried (isClosed d) w₀ h in
+      (k .0, k .1, append-nil w₀ ∙ k .2)
+  carried t w (and-step {t = unlawful} {w = w₀} h last s room) = absurd (carried unlawful w₀ h)
+
+-- the lines of accepted events lead to the document
+abbrev pub Written : Option Bytes → State → Bytes → Type 0
+Written b t w = Holds (After (fresh b)) t w
 
 -- all bytes that a document's steps wrote are the lines of its accepted events
 pub written : (b : Option Bytes) (t : State) (w : Bytes) → Steps b t w → Written b t w
-unfolding write callStep refusedIn refused markedBy
-written b t w at-start = ([], here, refl)
-written b t w (and-step {t = isOpen d} {w = w₀} h last s room) = written-step b d w₀ _ (reported last s room d) (written b (isOpen d) w₀ h)
-written b t w (and-step {t = isClosed d} {w = w₀} h last s room) =
-    let k : WrittenIn b d w₀ = written b (isClosed d) w₀ h in
-    (k .0, k .1, append-nil w₀ ∙ k .2)
-written b t w (and-step {t = unlawful} {w = w₀} h last s room) = absurd (written b unlawful w₀ h)
+written b t w h = carried b (After (fresh b)) here (λ d d′ ts us bytes e c p q k. event k e d′ us q) t w h
 
 -- no state that a document's steps reach is against the rules
 pub always-lawful : (b : Option Bytes) (w : Bytes) → Steps b unlawful w → ⊥

@@ -1,16 +1,15 @@
 -- Demand 3: the reader's triples have no space in a label or a tag, so different sequences of them have different bytes; and no
 -- cell is in two lists.
-use mathlib.Core.Path.{_≡_, refl, sym, _∙_, ap, subst}
+use mathlib.Core.Path.{_≡_, refl, sym, _∙_, ap}
 use mathlib.Core.Logic.{inl, inr}
-use mathlib.Core.Bool.{Bool, true, false, _&&_, _||_, not, false≢true, true≢false}
-use mathlib.Core.Option.{Option, none, some, Option·none-ne-some, Option·some-injective}
+use mathlib.Core.Bool.{Bool, true, false, _&&_, not, false≢true, true≢false}
+use mathlib.Core.Option.{Option}
 use mathlib.Core.List.{List, [], _∷_, map}
-use Prim.Native.Nat.{ℕ, suc, _+_}
+use Prim.Native.Nat.{ℕ, _+_}
 use native.Mathlib.Omega.{arith}
-use lib.Dec.{eqb, leb}
-use lib.ListN.{length}
+use lib.Dec.{leb}
 use borrow.Author.Tests.{ne-eqb, not-true, leb-true}
-use Rattle.spec.specs.Bytes.{Bytes, byte, every, if_then_else_, between, onto}
+use Rattle.spec.specs.Bytes.{Bytes, byte, every, between}
 use Rattle.spec.specs.Bytes as B
 use Rattle.spec.specs.Grammar.{Grammar, nothing, empty, one, _or_, _then_, many, Describes, Many, stop, more}
 use Rattle.spec.proofs.Booleans.{and-left, and-right, and-both}
@@ -19,14 +18,14 @@ use Rattle.spec.specs.Abnf.{lower}
 use Rattle.spec.specs.Abnf as A
 use Rattle.spec.specs.Rfc5646.{isLanguageTag, language-tag}
 use Rattle.spec.specs.Rfc5646 as L
-use Rattle.spec.specs.Utf8 as U
-use Rattle.spec.specs.Utf8.{goesOn, beginsWithOne, sequences, fits, character, charactersOf, characters, inFront, holdsOf, asCharacters}
+use Rattle.spec.specs.Utf8.{asCharacters}
 use Rattle.spec.specs.XmlNames.{isNCName, isName, isNameChar, isNameStart, noColon}
 use Rattle.spec.specs.XmlNames as N
 use Rattle.spec.specs.NTriples.{Triple, digits, label, write}
 use Rattle.spec.specs.Document.{Doc, fresh}
 use Rattle.spec.specs.Lists.{After}
-use Rattle.spec.proofs.Labels.{every-append, all-digits}
+use Rattle.spec.proofs.Utf8.{Decoded, decoded, Row, end, small, large, row}
+use Rattle.spec.proofs.Labels.{every-append, every-map, all-digits}
 use Rattle.spec.proofs.Subjects.{Rule, OfLines, no-line, with-line}
 use Rattle.spec.proofs.Lists.{Family, kept}
 use Rattle.spec.proofs.Written.{notSpace, FineSubject, FineTerm, FineTriples, write-injective}
@@ -36,91 +35,15 @@ not-space : (p : ℕ → Bool) → p 32 ≡ false → (c : ℕ) → p c ≡ true
 unfolding notSpace
 not-space p h c k = rw (ne-eqb c 32 λ e. true≢false (sym k ∙ (ap p e ∙ h)))
 
-every-map : (p q : ℕ → Bool) → ((c : ℕ) → p c ≡ true → q c ≡ true) → (s : Bytes) → every p s ≡ true → every q s ≡ true
-unfolding every
-every-map p q f [] h = refl
-every-map p q f (c ∷ s) h = and-both (q c) (every q s) (f c (and-left (p c) (every p s) h)) (every-map p q f s (and-right (p c) (every p s) h))
-
 -- ---- names: a space byte is a character by itself, and no name has it
 
--- no sequence begins with a space
-abbrev Heads : List Bytes → Type 0
-Heads [] = Unit {0}
-Heads ([] ∷ ls) = Heads ls
-Heads ((b ∷ l) ∷ ls) = (notSpace b ≡ true) × Heads ls
-
-goes-on-fine : (b : ℕ) → goesOn b ≡ true → notSpace b ≡ true
-unfolding goesOn U.all
-goes-on-fine b h = not-space goesOn refl b h
-
-heads-onto : (b : ℕ) (ls : List Bytes) → Heads (onto b ls) → notSpace b ≡ true
-unfolding onto
-heads-onto b [] h = h .0
-heads-onto b (l ∷ ls) h = h .0
-
--- the first sequence begins with the first byte
-pub first-byte : (b : ℕ) (s : Bytes) → (l : Bytes) × (ls : List Bytes) × (sequences (b ∷ s) ≡ (b ∷ l) ∷ ls)
-unfolding sequences onto if_then_else_
-first-byte b s = go (beginsWithOne s) (sequences s)
-  where
-    go : (g : Bool) (ls : List Bytes) → (l : Bytes) × (ks : List Bytes) × ((if g then onto b ls else ((b ∷ []) ∷ ls)) ≡ (b ∷ l) ∷ ks)
-    go true [] = ([], [], refl)
-    go true (l ∷ ls) = (l, ls, refl)
-    go false ls = ([], ls, refl)
-
--- what is behind a byte that goes on begins fine
-heads-behind : (b : ℕ) (s : Bytes) → beginsWithOne s ≡ true → Heads (onto b (sequences s)) → Heads (sequences s)
-unfolding beginsWithOne onto
-heads-behind b [] g h = absurd (false≢true g)
-heads-behind b (c ∷ s) g h =
-    let f = first-byte c s in
-    rw (f .2) (goes-on-fine c g, (rw (f .2) at h) .1)
-
-heads-fine : (s : Bytes) → Heads (sequences s) → every notSpace s ≡ true
-unfolding every sequences if_then_else_
-heads-fine [] h = refl
-heads-fine (b ∷ s) h = go (beginsWithOne s) refl (heads-fine s) h
-  where
-    go : (g : Bool) → beginsWithOne s ≡ g → (Heads (sequences s) → every notSpace s ≡ true)
-        → Heads (if g then onto b (sequences s) else ((b ∷ []) ∷ sequences s)) → every notSpace (b ∷ s) ≡ true
-    go true e ih h = and-both (notSpace b) (every notSpace s) (heads-onto b (sequences s) h) (ih (heads-behind b s e h))
-    go false e ih h = and-both (notSpace b) (every notSpace s) (h .0) (ih (h .1))
-
--- no sequence of several bytes begins with a space
-no-fit : (k : ℕ) → fits 32 (suc (suc k)) ≡ false
-unfolding U.all
-no-fit k = go (eqb (suc (suc k)) 1) (between 2 4 (suc (suc k))) (eqb 0 (suc (suc k))) (ne-eqb (suc (suc k)) 1 λ e. omega arith) (ne-eqb 0 (suc (suc k)) λ e. omega arith)
-  where
-    go : (p q r : Bool) → p ≡ false → r ≡ false → ((p && true) || (q && r)) ≡ false
-    go true q r h g = absurd (true≢false h)
-    go false true r h g = g
-    go false false r h g = refl
-
-space-alone : (l : Bytes) (c : ℕ) → character (32 ∷ l) ≡ some c → 32 ≡ c
-unfolding character U.all
-space-alone [] c h = Option·some-injective 32 c h
-space-alone (x ∷ l) c h = absurd (Option·none-ne-some c (rw (no-fit (length l), character) at h))
-
-character-fine : (b : ℕ) (l : Bytes) (c : ℕ) → character (b ∷ l) ≡ some c → isNameChar c ≡ true → notSpace b ≡ true
-unfolding notSpace N.all
-character-fine b l c h k = rw (ne-eqb b 32 λ e. false≢true (ap isNameChar (space-alone l c (rw e at h)) ∙ k))
-
-heads-of : (ls : List Bytes) (cs : List ℕ) → charactersOf ls ≡ some cs → every isNameChar cs ≡ true → Heads ls
-unfolding charactersOf inFront every
-heads-of [] cs h k = tt
-heads-of (l ∷ ls) cs h k = go (character l) (charactersOf ls) refl refl h (heads-of ls)
-  where
-    part : (l : Bytes) (c : ℕ) → character l ≡ some c → isNameChar c ≡ true → Heads ls → Heads (l ∷ ls)
-    part [] c e f g = g
-    part (b ∷ l) c e f g = (character-fine b l c e f, g)
-
-    go : (x : Option ℕ) (y : Option (List ℕ)) → character l ≡ x → charactersOf ls ≡ y → inFront x y ≡ some cs
-        → ((cs : List ℕ) → charactersOf ls ≡ some cs → every isNameChar cs ≡ true → Heads ls) → Heads (l ∷ ls)
-    go none y e f h ih = absurd (Option·none-ne-some cs h)
-    go (some c) none e f h ih = absurd (Option·none-ne-some cs h)
-    go (some c) (some ds) e f h ih =
-        let j : every isNameChar (c ∷ ds) ≡ true = subst (λ (x : List ℕ). every isNameChar x ≡ true) (sym (Option·some-injective (c ∷ ds) cs h)) k in
-        part l c e (and-left (isNameChar c) (every isNameChar ds) j) (ih ds f (and-right (isNameChar c) (every isNameChar ds) j))
+row-fine : {s : Bytes} {cs : List ℕ} → Row s cs → every isNameChar cs ≡ true → every notSpace s ≡ true
+unfolding every N.all
+row-fine end h = refl
+row-fine (small {s = s} {cs = cs} b a r) h =
+    and-both (notSpace b) (every notSpace s) (not-space isNameChar refl b (and-left (isNameChar b) (every isNameChar cs) h)) (row-fine r (and-right (isNameChar b) (every isNameChar cs) h))
+row-fine (large {s = s} {cs = cs} l c e a le r) h =
+    every-append notSpace l s (every-map (λ b. leb 128 b) notSpace (not-space (λ b. leb 128 b) refl) l a) (row-fine r (and-right (isNameChar c) (every isNameChar cs) h))
 
 pub name-chars : (cs : List ℕ) → isName cs ≡ true → every isNameChar cs ≡ true
 unfolding isName isNameChar every
@@ -132,12 +55,10 @@ name-chars (c ∷ cs) h = go (isNameStart c) refl h
     go false e h = absurd (false≢true h)
 
 ncname-fine : (l : Bytes) → isNCName l ≡ true → every notSpace l ≡ true
-unfolding isNCName asCharacters characters holdsOf
-ncname-fine l h = go (charactersOf (sequences l)) refl (and-left (asCharacters isName l) (noColon l) h)
-  where
-    go : (x : Option (List ℕ)) → charactersOf (sequences l) ≡ x → holdsOf isName x ≡ true → every notSpace l ≡ true
-    go none e h = absurd (false≢true h)
-    go (some cs) e h = heads-fine l (heads-of (sequences l) cs e (name-chars cs h))
+unfolding isNCName
+ncname-fine l h =
+    let r : Decoded isName l = decoded isName l (and-left (asCharacters isName l) (noColon l) h) in
+    row-fine (row l (r .chars) (r .are)) (name-chars (r .chars) (r .pass))
 
 label-fine : (n : ℕ) → every notSpace (label n) ≡ true
 unfolding label every B.all notSpace
@@ -197,7 +118,7 @@ FineRule = record {
   obj = FineTerm;
   lang = λ l. every notSpace l ≡ true;
   name = λ i. tt;
-  other-label = λ l h g. ncname-fine l h;
+  other-label = λ l h g k. ncname-fine l h;
   node-of = λ s h. h;
   plain-of = λ v. tt;
   typed-of = λ v d. tt;

@@ -2,16 +2,18 @@
 use mathlib.Core.Path.{_≡_, refl, _∙_, ap}
 use mathlib.Core.Bool.{Bool, true}
 use mathlib.Core.List.{List, [], _∷_, _++_, cons≢nil, nil≢cons, head-eq-of-cons-eq, tail-eq-of-cons-eq, append-cancel-left}
-use Prim.Native.Nat.{ℕ, zero, suc, _+_, _*_, _/_, _%_, _^_, _<_}
+use Prim.Native.Nat.{ℕ, zero, suc, _+_, _*_, _/_, _%_, _^_, _≤_, _<_}
 use native.Mathlib.Omega.{arith}
 use native.Mathlib.Nat.{pow-suc}
 use lib.ListN.{length, length-append}
-use borrow.Author.Tests.{le-leb}
-use Rattle.spec.specs.Bytes.{ascii, every, between}
+use lib.Dec.{leb}
+use borrow.Author.Tests.{le-leb, leb-true, lt-ltb}
+use Rattle.spec.specs.Bytes.{Bytes, ascii, every, between}
 use Rattle.spec.specs.Bytes as B
 use Rattle.spec.proofs.Booleans.{and-left, and-right, and-both}
 use Rattle.spec.specs.NTriples.{digits, label}
 use Rattle.spec.specs.StartTag.{isGenerated}
+use Rattle.spec.proofs.Utf8.{isAscii}
 
 pub snoc-inj : (u v : List ℕ) (a b : ℕ) → u ++ (a ∷ []) ≡ v ++ (b ∷ []) → (u ≡ v) × (a ≡ b)
 snoc-inj [] [] a b e = (refl, head-eq-of-cons-eq e)
@@ -50,10 +52,20 @@ unfolding every
 every-append p [] t f g = g
 every-append p (a ∷ s) t f g = and-both (p a) (every p (s ++ t)) (and-left (p a) (every p s) f) (every-append p s t (and-right (p a) (every p s) f) g)
 
+pub every-map : (p q : ℕ → Bool) → ((c : ℕ) → p c ≡ true → q c ≡ true) → (s : Bytes) → every p s ≡ true → every q s ≡ true
+unfolding every
+every-map p q f [] h = refl
+every-map p q f (c ∷ s) h = and-both (q c) (every q s) (f c (and-left (p c) (every p s) h)) (every-map p q f s (and-right (p c) (every p s) h))
+
 pub all-digits : (k n : ℕ) → every (between 48 57) (digits k n) ≡ true
 unfolding every digits
 all-digits zero n = refl
 all-digits (suc k) n = every-append (between 48 57) (digits k (n / 10)) ((48 + n % 10) ∷ []) (all-digits k (n / 10)) (and-both (between 48 57 (48 + n % 10)) true (digit n) refl)
+
+pub ascii-digits : (k n : ℕ) → every isAscii (digits k n) ≡ true
+unfolding between isAscii
+ascii-digits k n =
+    every-map (between 48 57) isAscii (λ c h. let le : c ≤ 57 = leb-true c 57 (and-right (leb 48 c) (leb c 57) h) in lt-ltb c 128 (omega arith)) (digits k n) (all-digits k n)
 
 length-digits : (k n : ℕ) → length (digits k n) ≡ k
 unfolding digits

@@ -4,6 +4,12 @@ pub mod Booleans
 pub mod Always
 -- ---- grammars
 pub mod Grammar
+-- ---- characters
+pub mod Utf8
+pub mod Cuts
+pub mod Spelled
+pub mod Rfc3986Texts
+pub mod LanguageTags
 -- ---- events and calls
 pub mod PyxCut
 pub mod Calls
@@ -24,3 +30,8 @@ pub mod Languages
 pub mod Written
 pub mod Fine
 pub mod NodeLabels
+-- ---- all that is written is N-Triples
+pub mod EventTexts
+pub mod Texts
+pub mod NTriplesLines
+pub mod NTriplesGrammar

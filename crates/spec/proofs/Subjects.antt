@@ -12,7 +12,7 @@ use borrow.Author.Tests.{ltb-true, leb-true, not-true}
 use Rattle.spec.specs.Bytes.{Bytes, if_then_else_, each, orElse}
 use Rattle.spec.specs.Numbers.{Answer}
 use Rattle.spec.specs.Limits.{mostLabels}
-use Rattle.spec.proofs.Booleans.{and-right}
+use Rattle.spec.proofs.Booleans.{and-left, and-right}
 use Rattle.spec.specs.XmlNames.{isNCName}
 use Rattle.spec.specs.Pyx.{Attribute, attribute, Event, opening, closing, text, instruction}
 use Rattle.spec.specs.Namespaces.{Binding}
@@ -21,7 +21,7 @@ use Rattle.spec.specs.Abnf.{lower}
 use Rattle.spec.specs.Rfc5646.{isLanguageTag}
 use Rattle.spec.specs.Document.{Object, noObject, nodeObject, textObject, Value, default, collection, literal, other, Property, Kind, rdfRDF, nodeElement, propertyElement, xmlElement, Frame, Doc, withFrames, withLabels, withKind, languageInForce, Place, outside, nodes, nodesOrText, xml, properties, inValue, inKind, placeIn, changeValue, onValue, isXmlElement}
 use Rattle.spec.specs.StartTag as S
-use Rattle.spec.specs.StartTag.{Role, Meaning, means, sameRole, roleNumber, judge, isGenerated, Tag, readTag, nothing, xml-lang, xml-base, rdf-ID, rdf-bagID, rdf-nodeID, rdf-about, rdf-resource, rdf-datatype, rdf-parseType, rdf-type, forbidden, property}
+use Rattle.spec.specs.StartTag.{Role, Meaning, means, sameRole, roleNumber, judge, isGenerated, endsInStop, Tag, readTag, nothing, xml-lang, xml-base, rdf-ID, rdf-bagID, rdf-nodeID, rdf-about, rdf-resource, rdf-datatype, rdf-parseType, rdf-type, forbidden, property}
 use Rattle.spec.specs.Productions as O
 use Rattle.spec.specs.Productions.{Opened, openNode, openProperty, openRoot, statement, typeLine, attributeLines, tagLines, ParseType, noParseType, asCollection, asResource, asLiteral, asOther}
 use Rattle.spec.specs.RdfXml as X
@@ -40,7 +40,7 @@ pub record Rule : Type 1 where
   pub obj : Term → Type 0
   pub lang : Bytes → Type 0
   pub name : (i : Bytes) → subj (named i)
-  pub other-label : (l : Bytes) → isNCName l ≡ true → isGenerated l ≡ false → subj (blank l)
+  pub other-label : (l : Bytes) → isNCName l ≡ true → isGenerated l ≡ false → endsInStop l ≡ false → subj (blank l)
   pub node-of : (s : Subject) → subj s → obj (node s)
   pub plain-of : (v : Bytes) → obj (plain v)
   pub typed-of : (v d : Bytes) → obj (typed v d)
@@ -98,7 +98,7 @@ module _ (R : Rule) where
 -- ---- attributes: every rdf:nodeID that is let past is a good label, every xml:lang a good tag
 
 abbrev pub GoodLabel : Bytes → Type 0
-GoodLabel l = (isNCName l ≡ true) × (isGenerated l ≡ false)
+GoodLabel l = (isNCName l ≡ true) × (isGenerated l ≡ false) × (endsInStop l ≡ false)
 
 abbrev pub GoodTag : Bytes → Type 0
 GoodTag v = isLanguageTag v ≡ true
@@ -138,7 +138,8 @@ judge-fair rdf-ID i v = always-test _ _ _ λ h. neither rdf-ID i v refl refl
 judge-fair rdf-bagID i v = always-test _ _ _ λ h. neither rdf-bagID i v refl refl
 judge-fair rdf-nodeID i v =
     always-require _ _ _ _ λ h. always-test _ _ _ λ k.
-    ((λ e. (h, not-true (isGenerated v) (and-right (not (S.endsInStop v)) (not (isGenerated v)) k))), (λ e. absurd (false≢true e)))
+    (let stop : endsInStop v ≡ false = not-true (endsInStop v) (and-left (not (endsInStop v)) (not (isGenerated v)) k) in
+    ((λ e. (h, not-true (isGenerated v) (and-right (not (endsInStop v)) (not (isGenerated v)) k), stop)), (λ e. absurd (false≢true e))))
 judge-fair rdf-about i v = neither rdf-about i v refl refl
 judge-fair rdf-resource i v = neither rdf-resource i v refl refl
 judge-fair rdf-datatype i v = neither rdf-datatype i v refl refl
@@ -245,7 +246,7 @@ module _ (R : Rule) where
   subject-of : (i l : Option Bytes) (g : Bytes) → Of? GoodLabel l → R .subj (blank g) → R .subj (O.subjectOf i l g)
   unfolding O.subjectOf
   subject-of (some i) l g h k = R .name i
-  subject-of none (some l) g h k = R .other-label l (h .0) (h .1)
+  subject-of none (some l) g h k = R .other-label l (h .0) (h .1) (h .2)
   subject-of none none g h k = k
 
   open-node : (t : Tag) (n : ℕ) → FairTag t → Always (Produced R n) (openNode t n)
@@ -268,7 +269,7 @@ module _ (R : Rule) where
   object-of : (r l : Option Bytes) (n : ℕ) → n < 100_000_000 → Of? GoodLabel l → Always (Chosen n) (O.objectOf r l n)
   unfolding O.objectOf O.oneMore mostLabels
   object-of (some r) l n le h = (omega arith, le, λ new. R .name r)
-  object-of none (some l) n le h = (omega arith, le, λ new. R .other-label l (h .0) (h .1))
+  object-of none (some l) n le h = (omega arith, le, λ new. R .other-label l (h .0) (h .1) (h .2))
   object-of none none n le h =
       always-require (Chosen n) _ _ _ λ e.
       (let le′ : n < 99_999_999 = ltb-true n 99_999_999 e in

@@ -107,7 +107,7 @@ among-below n (a ∷ l) c h k = elim (or-cases (eqb a c) (among l c) k) [
   | inr e ↦ among-below n l c (and-right (ltb a n) (every (λ x. ltb x n) l) h) e
 ]
 
-forbidden-below : (c : ℕ) → forbidden c ≡ true → c < 128
+pub forbidden-below : (c : ℕ) → forbidden c ≡ true → c < 128
 unfolding forbidden B.all
 forbidden-below c h = elim (or-cases (leb c 32) (among (ascii "<>\"{}|^`\\") c) h) [
   | inl e ↦ omega (arith, leb-true c 32 e)
