@@ -45,3 +45,12 @@ pub always-if : {B : Type 0} (Q : B → Type 0) (b : Bool) (m k : Answer B) → 
 unfolding if_then_else_
 always-if Q true m k h g = h refl
 always-if Q false m k h g = g refl
+
+-- what holds of every answer on a condition
+pub always-when : {A : Type 0} (P : Type 0) (Q : A → Type 0) (m : Answer A) → (P → Always Q m) → Always (λ a. P → Q a) m
+always-when P Q (refuse n) h = tt
+always-when P Q (good a) h = h
+
+pub always-map : {A : Type 0} (R Q : A → Type 0) (m : Answer A) → Always R m → ((a : A) → R a → Q a) → Always Q m
+always-map R Q (refuse n) h f = tt
+always-map R Q (good a) h f = f a h

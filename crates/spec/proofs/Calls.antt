@@ -3,22 +3,23 @@
 use mathlib.Core.Path.{_≡_, refl, sym, _∙_, ap}
 use mathlib.Core.Logic.{_⊎_, inl, inr}
 use mathlib.Core.Bool.{Bool, true, false}
-use mathlib.Core.Option.{Option, none, some}
+use mathlib.Core.Option.{Option}
 use mathlib.Core.List.{List, [], _∷_, _++_, append-assoc, append-nil}
-use Prim.Native.Nat.{ℕ}
+use Prim.Native.Nat.{ℕ, _-_, _≤_}
+use native.Mathlib.Omega.{arith}
 use lib.Dec.{leb}
-use lib.ListN.{length}
+use lib.ListN.{length, getD}
 use Rattle.spec.specs.Bytes.{Bytes, _>>=_, _>>_, require_or_}
-use Rattle.spec.specs.Numbers.{Effect, stays-open, unchanged, becomes-closed, effect, closes, Answer, refuse, good}
+use Rattle.spec.specs.Numbers.{number, Effect, stays-open, unchanged, becomes-closed, effect, closes, Answer, refuse, good}
 use Rattle.spec.specs.declared.Refusal.{Refusal}
-use Rattle.spec.specs.declared.Refusal.the-variants.{NoRoom, BadState, Closed}
+use Rattle.spec.specs.declared.Refusal.the-variants.{Incomplete, NoRoom, BadState, Closed, NotPyx, NotWellFormed, OverLimit, NoNamespace, NotNcName, BadLanguage, BadIri, RepeatedId, BadLabel, Reserved, TwoNames, StrayText, EmptyLiteral, LabelsSpent}
 use Rattle.spec.specs.Pyx.{Event, readEvent}
 use Rattle.spec.specs.PyxCut.{Cut, cut}
 use Rattle.spec.specs.NTriples.{Triple, write, line}
 use Rattle.spec.specs.Document.{Doc, fresh}
 use Rattle.spec.specs.RdfXml.{next, finish}
 use Rattle.spec.specs.Lists.{After, here, event}
-use Rattle.spec.specs.Calls.{State, isOpen, isClosed, unlawful, Report, markClosed, markedBy, refused, refusedIn, mayStart, started, callStart, firstEvent, Accepted, accept, stepped, callStep, finished, callFinish}
+use Rattle.spec.specs.Calls.{State, isOpen, isClosed, unlawful, Report, markClosed, markedBy, refused, refusedIn, mayStart, started, callStart, firstEvent, accept, stepped, callStep, finished, callFinish}
 use Rattle.spec.proofs.PyxCut.{cut-final}
 
 -- ---- a step on an open document
@@ -55,6 +56,46 @@ reported last s room d = go (firstEvent (cut last s))
     go : (a : Answer Bytes) → Reported d (stepped d (a >>= λ bytes. accept bytes room d))
     go (refuse r) = gave r
     go (good bytes) = accept-reported bytes room d
+
+-- ---- the answer tells the refusal
+
+-- in the order of their numbers
+refusals : List Refusal
+refusals =
+    Incomplete ∷ NoRoom ∷ BadState ∷ Closed ∷ NotPyx ∷ NotWellFormed ∷ OverLimit ∷ NoNamespace ∷ NotNcName ∷
+    BadLanguage ∷ BadIri ∷ RepeatedId ∷ BadLabel ∷ Reserved ∷ TwoNames ∷ StrayText ∷ EmptyLiteral ∷ LabelsSpent ∷ []
+
+abbrev Numbered : Refusal → Type 0
+Numbered r = (1 ≤ number r) × (number r ≤ 18) × (getD refusals (number r - 1) Incomplete ≡ r)
+
+numbered : (r : Refusal) → Numbered r
+unfolding refusals
+numbered Incomplete = (omega arith, omega arith, refl)
+numbered NoRoom = (omega arith, omega arith, refl)
+numbered BadState = (omega arith, omega arith, refl)
+numbered Closed = (omega arith, omega arith, refl)
+numbered NotPyx = (omega arith, omega arith, refl)
+numbered NotWellFormed = (omega arith, omega arith, refl)
+numbered OverLimit = (omega arith, omega arith, refl)
+numbered NoNamespace = (omega arith, omega arith, refl)
+numbered NotNcName = (omega arith, omega arith, refl)
+numbered BadLanguage = (omega arith, omega arith, refl)
+numbered BadIri = (omega arith, omega arith, refl)
+numbered RepeatedId = (omega arith, omega arith, refl)
+numbered BadLabel = (omega arith, omega arith, refl)
+numbered Reserved = (omega arith, omega arith, refl)
+numbered TwoNames = (omega arith, omega arith, refl)
+numbered StrayText = (omega arith, omega arith, refl)
+numbered EmptyLiteral = (omega arith, omega arith, refl)
+numbered LabelsSpent = (omega arith, omega arith, refl)
+
+-- no refusal has the number 0, which is "done"
+pub number-positive : (r : Refusal) → number r ≡ 0 → ⊥
+number-positive r h = let le : 1 ≤ number r = numbered r .0 in omega arith
+
+-- different refusals have different numbers
+pub number-injective : (q r : Refusal) → number q ≡ number r → q ≡ r
+number-injective q r h = sym (numbered q .2) ∙ (ap (λ (n : ℕ). getD refusals (n - 1) Incomplete) h ∙ numbered r .2)
 
 -- ---- every call, by the table
 

@@ -11,6 +11,8 @@ pub mod Calls
 pub mod Labels
 pub mod Subjects
 pub mod Lists
+-- ---- limits
+pub mod Limits
 -- ---- lines
 pub mod Written
 pub mod Fine

@@ -371,6 +371,11 @@ grows-after : (d d′ : Doc) (ts : List Triple) → d .labels < 100_000_000 → 
 unfolding any-label
 grows-after d d′ ts le h = kept any-label d d′ ts (omega arith) le (trivial-frames (d .frames)) h .grows
 
+-- no document generates a 100,000,000th label
+pub labels-bound : (d d′ : Doc) (ts : List Triple) → d .labels < 100_000_000 → After d d′ ts → d′ .labels < 100_000_000
+unfolding any-label
+labels-bound d d′ ts le h = kept any-label d d′ ts (omega arith) le (trivial-frames (d .frames)) h .bound
+
 -- labels only ever go up, so the cells of a list that closes later are others
 pub no-cell-in-two-lists : (d₂ d₃ : Doc) (vs : List Triple) (lo len : ℕ) (x : Subject) → d₂ .labels < 100_000_000 → After d₂ d₃ vs
     → d₃ .labels + len < 100_000_000 → Cell lo (d₂ .labels) x → Cell (d₃ .labels) (d₃ .labels + len) x → ⊥

@@ -27,6 +27,7 @@ pub mod XmlLiteral
 pub mod Opening
 pub mod EndTag
 pub mod RdfXml
+pub mod Within
 -- ---- the calls and the program
 pub mod Calls
 pub mod Pyx2nt
