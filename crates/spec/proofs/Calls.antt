@@ -8,19 +8,21 @@ use mathlib.Core.List.{List, [], _∷_, _++_, append-assoc, append-nil}
 use Prim.Native.Nat.{ℕ, _-_, _≤_}
 use native.Mathlib.Omega.{arith}
 use lib.Dec.{leb}
-use lib.ListN.{length, getD}
+use lib.ListN.{length, getD, take, length-append}
+use lib.Seq.{take-append-seam}
 use Rattle.spec.specs.Bytes.{Bytes, _>>=_, _>>_, require_or_}
 use Rattle.spec.specs.Numbers.{number, Effect, stays-open, unchanged, becomes-closed, effect, closes, Answer, refuse, good}
 use Rattle.spec.specs.declared.Refusal.{Refusal}
 use Rattle.spec.specs.declared.Refusal.the-variants.{Incomplete, NoRoom, BadState, Closed, NotPyx, NotWellFormed, OverLimit, NoNamespace, NotNcName, BadLanguage, BadIri, RepeatedId, BadLabel, Reserved, TwoNames, StrayText, EmptyLiteral, LabelsSpent}
 use Rattle.spec.specs.Pyx.{Event, readEvent}
-use Rattle.spec.specs.PyxCut.{Cut, cut}
+use Rattle.spec.specs.PyxCut.{Cut, wait, unended, tooLong, whole, cut}
 use Rattle.spec.specs.NTriples.{Triple, write, line}
 use Rattle.spec.specs.Document.{Doc, fresh}
 use Rattle.spec.specs.RdfXml.{next, finish}
 use Rattle.spec.specs.Lists.{After, here, event}
-use Rattle.spec.specs.Calls.{State, isOpen, isClosed, unlawful, Report, markClosed, markedBy, refused, refusedIn, mayStart, started, callStart, firstEvent, accept, stepped, callStep, finished, callFinish}
-use Rattle.spec.proofs.PyxCut.{cut-final}
+use Rattle.spec.specs.Calls.{State, isOpen, isClosed, unlawful, Report, markClosed, markedBy, refused, refusedIn, mayStart, started, callStart, firstEvent, Accepted, accept, stepped, callStep, finished, callFinish}
+use Rattle.spec.proofs.Always.{Always, always-any, always-require}
+use Rattle.spec.proofs.PyxCut.{cut-final, cut-front}
 
 -- ---- a step on an open document
 
@@ -132,6 +134,26 @@ start-by-table lengths b t = go (mayStart lengths b)
     go (refuse x) = inr (x, refl)
     go (good u) = inl refl
 
+-- every call answers 0 to 18
+by-table-answer : (t : State) (r : Report) → ByTable t r → r .answer ≤ 18
+unfolding refusedIn refused
+by-table-answer t r (inl e) = omega arith
+by-table-answer t r (inr (x, e)) = rw e (numbered x .1)
+
+pub step-answer : (last : Bool) (s : Bytes) (room : ℕ) (t : State) → callStep last s room t .answer ≤ 18
+step-answer last s room t = by-table-answer t _ (step-by-table last s room t)
+
+pub finish-answer : (t : State) → callFinish t .answer ≤ 18
+finish-answer t = by-table-answer t _ (finish-by-table t)
+
+pub start-answer : (lengths : Bool) (b : Option Bytes) (t : State) → callStart lengths b t .answer ≤ 18
+unfolding refused
+start-answer lengths b t = go (callStart lengths b t) (start-by-table lengths b t)
+  where
+    go : (r : Report) → (r .answer ≡ 0) ⊎ ((x : Refusal) × (r ≡ refused x t)) → r .answer ≤ 18
+    go r (inl e) = omega arith
+    go r (inr (x, e)) = rw e (numbered x .1)
+
 -- every non-zero answer consumes 0 and writes 0
 pub zero-counts : (t : State) (r : Report) → ByTable t r → (r .answer ≡ 0 → ⊥) → (r .consumed ≡ 0) × (r .output ≡ [])
 unfolding refusedIn refused
@@ -156,6 +178,39 @@ only-the-mark t x = go (effect x) refl
     go stays-open e = inr (rw e, rw e)
     go unchanged e = inr (rw e, rw e)
     go becomes-closed e = inl (rw e, rw e)
+
+-- ---- what an accepted step consumes
+
+accept-size : (bytes : Bytes) (room : ℕ) (d : Doc) → Always (λ a. a .size ≡ length bytes) (accept bytes room d)
+unfolding accept
+accept-size bytes room d = always-any _ _ _ λ e. always-any _ _ _ λ s. always-require _ _ _ _ λ h. refl
+
+-- at least one byte, at most all, and exactly the first event
+abbrev pub Takes : Bool → Bytes → ℕ → Type 0
+Takes last rest n = (1 ≤ n) × (n ≤ length rest) × (cut last rest ≡ whole (take n rest))
+
+-- an accepted step consumes the first event of the rest, byte for byte
+pub step-takes : (last : Bool) (rest : Bytes) (room : ℕ) (t : State) → callStep last rest room t .answer ≡ 0 → Takes last rest (callStep last rest room t .consumed)
+unfolding callStep stepped firstEvent refusedIn refused _>>=_
+step-takes last rest room unlawful h = absurd (number-positive BadState h)
+step-takes last rest room (isClosed d) h = absurd (number-positive Closed h)
+step-takes last rest room (isOpen d) h = go (cut last rest) refl h
+  where
+    on-accept : (b : Bytes) (a : Answer Accepted) → cut last rest ≡ whole b → Always (λ a. a .size ≡ length b) a → stepped d a .answer ≡ 0 → Takes last rest (stepped d a .consumed)
+    on-accept b (refuse r) e s h = absurd (number-positive r h)
+    on-accept b (good a) e s h =
+        let f : (1 ≤ length b) × ((t : Bytes) × (rest ≡ b ++ t)) = cut-front last rest b e in
+        let t : Bytes = f .1 .0 in
+        let split : rest ≡ b ++ t = f .1 .1 in
+        let front : take (length b) rest ≡ b = ap (take (length b)) split ∙ take-append-seam b t in
+        rw s (f .0, omega (arith, ap length split, length-append b t), e ∙ ap whole (sym front))
+
+    go : (c : Cut) → cut last rest ≡ c → stepped d (firstEvent c >>= λ bytes. accept bytes room d) .answer ≡ 0
+        → Takes last rest (stepped d (firstEvent c >>= λ bytes. accept bytes room d) .consumed)
+    go wait e h = absurd (number-positive Incomplete h)
+    go unended e h = absurd (number-positive NotPyx h)
+    go tooLong e h = absurd (number-positive OverLimit h)
+    go (whole b) e h = on-accept b (accept b room d) e (accept-size b room d) h
 
 -- ---- what a document's steps write
 

@@ -55,7 +55,7 @@ unfolding every digits
 all-digits zero n = refl
 all-digits (suc k) n = every-append (between 48 57) (digits k (n / 10)) ((48 + n % 10) ∷ []) (all-digits k (n / 10)) (and-both (between 48 57 (48 + n % 10)) true (digit n) refl)
 
-pub length-digits : (k n : ℕ) → length (digits k n) ≡ k
+length-digits : (k n : ℕ) → length (digits k n) ≡ k
 unfolding digits
 length-digits zero n = refl
 length-digits (suc k) n = length-append (digits k (n / 10)) ((48 + n % 10) ∷ []) ∙ (ap (_+ 1) (length-digits k (n / 10)) ∙ omega arith)
