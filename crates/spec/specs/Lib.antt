@@ -31,6 +31,7 @@ pub mod Within
 -- ---- the calls and the program
 pub mod Calls
 pub mod Pyx2nt
+pub mod Feeding
 -- ---- worked examples
 pub mod Examples
 -- ---- demand 3

@@ -1,0 +1,131 @@
+-- How the input is cut into calls does not matter: the lines, the last answer and the state behind are the same for every division.
+use mathlib.Core.Path.{_≡_, refl, sym, _∙_, ap}
+use mathlib.Core.Logic.{_⊎_, inl, inr}
+use mathlib.Core.Bool.{Bool, true, false}
+use mathlib.Core.List.{List, [], _∷_, _++_, append-assoc, append-nil, cons≢nil}
+use Prim.Native.Nat.{ℕ, zero, suc, _+_, _≤_}
+use native.Mathlib.Omega.{arith}
+use lib.ListN.{length, drop, length-drop, length-append}
+use lib.Seq.{drop-append-le}
+use Rattle.spec.specs.Bytes.{Bytes, isEmpty, concat}
+use Rattle.spec.specs.Numbers.{number, effect}
+use Rattle.spec.specs.declared.Refusal.{Refusal}
+use Rattle.spec.specs.declared.Refusal.the-variants.{Incomplete, NoRoom}
+use Rattle.spec.specs.Calls.{State, isOpen, isClosed, unlawful, Report, markedBy, refused, refusedIn, callStep}
+use Rattle.spec.specs.Feeding.{Run, ending, inFront, onward, atMost, run, Feeds, gets, again, does, ends}
+use Rattle.spec.proofs.Calls.{number-positive, number-injective, ByTable, step-by-table, Takes, step-takes, step-final}
+
+-- ---- a run is a step, and the run behind it
+
+onward-on : (r : Report) (n : Run) → r .answer ≡ 0 → onward r n ≡ inFront r n
+unfolding onward
+onward-on r n h = rw h
+
+onward-end : (r : Report) (n : Run) → (r .answer ≡ 0 → ⊥) → onward r n ≡ ending r
+unfolding onward
+onward-end r n h = go (r .answer) refl
+  where
+    go : (a : ℕ) → r .answer ≡ a → onward r n ≡ ending r
+    go zero e = absurd (h e)
+    go (suc a) e = rw e
+
+onward-same : (r : Report) (n m : Run) → (r .answer ≡ 0 → n ≡ m) → onward r n ≡ onward r m
+unfolding onward
+onward-same r n m h = go (r .answer) refl
+  where
+    go : (a : ℕ) → r .answer ≡ a → onward r n ≡ onward r m
+    go zero e = ap (onward r) (h e)
+    go (suc a) e = rw e
+
+-- nothing is done with an empty rest
+nothing-done : (last : Bool) (room : ℕ) (q : State) → callStep last [] room q .answer ≡ 0 → ⊥
+nothing-done last room q h =
+    let t : Takes last [] (callStep last [] room q .consumed) = step-takes last [] room q h in
+    let a : 1 ≤ callStep last [] room q .consumed = t .0 in
+    let b : callStep last [] room q .consumed ≤ 0 = t .1 in
+    omega arith
+
+-- a step that does an event leaves less of the rest
+less : (last : Bool) (s : Bytes) (room : ℕ) (q : State) (f : ℕ) → callStep last s room q .answer ≡ 0 → length s ≤ suc f → length (drop (callStep last s room q .consumed) s) ≤ f
+less last s room q f h p =
+    let t : Takes last s (callStep last s room q .consumed) = step-takes last s room q h in
+    let a : 1 ≤ callStep last s room q .consumed = t .0 in
+    simp length-drop (omega arith)
+
+-- the number of events allowed does not matter, if it is no less than the number of bytes
+enough : (f g : ℕ) (room : ℕ → ℕ) (k : ℕ) (s : Bytes) (q : State) → length s ≤ f → length s ≤ g → atMost f room k s q ≡ atMost g room k s q
+unfolding atMost
+enough zero zero room k s q p p′ = refl
+enough zero (suc g) room k (b ∷ s) q p p′ = absurd (omega arith)
+enough (suc f) zero room k (b ∷ s) q p p′ = absurd (omega arith)
+enough zero (suc g) room k [] q p p′ = sym (onward-end (callStep true [] (room k) q) _ (nothing-done true (room k) q))
+enough (suc f) zero room k [] q p p′ = onward-end (callStep true [] (room k) q) _ (nothing-done true (room k) q)
+enough (suc f) (suc g) room k s q p p′ =
+    let r : Report = callStep true s (room k) q in
+    onward-same r _ _ λ e. enough f g room (suc k) (drop (r .consumed) s) (r .behind) (less true s (room k) q f e p) (less true s (room k) q g e p′)
+
+-- a run is a step and, where that does an event, the run behind it
+run-onward : (room : ℕ → ℕ) (k : ℕ) (s : Bytes) (q : State)
+    → run room k s q ≡ onward (callStep true s (room k) q) (run room (suc k) (drop (callStep true s (room k) q .consumed) s) (callStep true s (room k) q .behind))
+unfolding run atMost
+run-onward room k s q =
+    let r : Report = callStep true s (room k) q in
+    enough (length s) (suc (length s)) room k s q (omega arith) (omega arith) ∙
+    onward-same r _ _ λ e. enough (length s) (length (drop (r .consumed) s)) room (suc k) (drop (r .consumed) s) (r .behind) (less true s (room k) q (length s) e (omega arith)) (omega arith)
+
+-- ---- more input behind the rest
+
+-- what a step answers, but 1 with pieces to come, it would answer with all of them at hand
+whole-step : (rest : Bytes) (ps : List Bytes) (room : ℕ) (q : State) → (callStep (isEmpty ps) rest room q .answer ≡ 1 → ps ≡ [])
+    → callStep true (rest ++ concat ps) room q ≡ callStep (isEmpty ps) rest room q
+unfolding isEmpty concat
+whole-step rest [] room q h = rw append-nil
+whole-step rest (p ∷ ps) room q h = step-final true rest (p ++ concat ps) room q λ e. cons≢nil (h e)
+
+-- an event done is done in the run over all of the input
+run-does : (room : ℕ → ℕ) (k : ℕ) (rest : Bytes) (ps : List Bytes) (q : State) → callStep (isEmpty ps) rest (room k) q .answer ≡ 0
+    → run room k (rest ++ concat ps) q
+    ≡ inFront (callStep (isEmpty ps) rest (room k) q) (run room (suc k) (drop (callStep (isEmpty ps) rest (room k) q .consumed) rest ++ concat ps) (callStep (isEmpty ps) rest (room k) q .behind))
+run-does room k rest ps q h =
+    let r : Report = callStep (isEmpty ps) rest (room k) q in
+    let t : Takes (isEmpty ps) rest (r .consumed) = step-takes (isEmpty ps) rest (room k) q h in
+    let e : callStep true (rest ++ concat ps) (room k) q ≡ r = whole-step rest ps (room k) q λ z. absurd (omega (arith, h, z)) in
+    let behind : Report → Run = λ x. onward x (run room (suc k) (drop (x .consumed) (rest ++ concat ps)) (x .behind)) in
+    run-onward room k (rest ++ concat ps) q ∙ (ap behind e ∙ (onward-on r _ h
+    ∙ ap (λ (s : Bytes). inFront r (run room (suc k) s (r .behind))) (drop-append-le (r .consumed) rest (concat ps) (t .1))))
+
+-- a refusal ends the run over all of the input
+run-ends : (room : ℕ → ℕ) (k : ℕ) (rest : Bytes) (ps : List Bytes) (q : State) → (callStep (isEmpty ps) rest (room k) q .answer ≡ 0 → ⊥)
+    → (callStep (isEmpty ps) rest (room k) q .answer ≡ 1 → ps ≡ []) → run room k (rest ++ concat ps) q ≡ ending (callStep (isEmpty ps) rest (room k) q)
+run-ends room k rest ps q h g =
+    let r : Report = callStep (isEmpty ps) rest (room k) q in
+    let e : callStep true (rest ++ concat ps) (room k) q ≡ r = whole-step rest ps (room k) q g in
+    let behind : Report → Run = λ x. onward x (run room (suc k) (drop (x .consumed) (rest ++ concat ps)) (x .behind)) in
+    run-onward room k (rest ++ concat ps) q ∙ (ap behind e ∙ onward-end r _ h)
+
+-- ---- answers 1 and 2 leave the state as it was
+
+refused-by : (q : State) (r : Report) (x : Refusal) → ByTable q r → r .answer ≡ number x → r ≡ refusedIn q x
+unfolding refusedIn refused
+refused-by q r x (inl e) h = absurd (number-positive x (sym h ∙ e))
+refused-by q r x (inr (y, e)) h = e ∙ ap (refusedIn q) (number-injective y x (sym (ap (λ (z : Report). z .answer) e) ∙ h))
+
+pub same-state : (last : Bool) (s : Bytes) (room : ℕ) (q : State) → (callStep last s room q .answer ≡ 1) ⊎ (callStep last s room q .answer ≡ 2) → callStep last s room q .behind ≡ q
+unfolding refusedIn refused markedBy
+same-state last s room q (inl h) = ap (λ (z : Report). z .behind) (refused-by q (callStep last s room q) Incomplete (step-by-table last s room q) h)
+same-state last s room q (inr h) = ap (λ (z : Report). z .behind) (refused-by q (callStep last s room q) NoRoom (step-by-table last s room q) h)
+
+-- ---- the theorems
+
+-- A host's run, in whatever pieces its input comes, is the run over all of the input at once.
+pub as-one-piece : {room : ℕ → ℕ} {k : ℕ} {rest : Bytes} {ps : List Bytes} {q : State} {n : Run} → Feeds room k rest ps q n → n ≡ run room k (rest ++ concat ps) q
+unfolding concat
+as-one-piece {room} {k} {rest} {q = q} (gets {p = p} {ps = ps} h) = as-one-piece h ∙ ap (λ (s : Bytes). run room k s q) (append-assoc rest p (concat ps))
+as-one-piece {room} {k} {rest} {ps} {q} (again other a h) = as-one-piece h ∙ ap (run room k (rest ++ concat ps)) (same-state (isEmpty ps) rest other q a)
+as-one-piece {room} {k} {rest} {ps} {q} (does a h) = ap (inFront (callStep (isEmpty ps) rest (room k) q)) (as-one-piece h) ∙ sym (run-does room k rest ps q a)
+as-one-piece {room} {k} {rest} {ps} {q} (ends a b) = sym (run-ends room k rest ps q a b)
+
+-- For every division of the same bytes: the same output, the same last answer, as many events, the same state behind.
+pub division-does-not-matter : (room : ℕ → ℕ) (k : ℕ) (ps ps′ : List Bytes) (q : State) (n n′ : Run) → concat ps ≡ concat ps′
+    → Feeds room k [] ps q n → Feeds room k [] ps′ q n′ → n ≡ n′
+division-does-not-matter room k ps ps′ q n n′ e h g = as-one-piece h ∙ (ap (λ (s : Bytes). run room k s q) e ∙ sym (as-one-piece g))
