@@ -1,9 +1,9 @@
 -- How the input is cut into calls does not matter: the lines, the last answer and the state behind are the same for every division.
-use mathlib.Core.Path.{_≡_, refl, sym, _∙_, ap}
+use mathlib.Core.Path.{_≡_, refl, sym, _∙_, ap, subst}
 use mathlib.Core.Logic.{_⊎_, inl, inr}
 use mathlib.Core.Bool.{Bool, true, false}
 use mathlib.Core.List.{List, [], _∷_, _++_, append-assoc, append-nil, cons≢nil}
-use Prim.Native.Nat.{ℕ, zero, suc, _+_, _≤_}
+use Prim.Native.Nat.{ℕ, zero, suc, _+_, _≤_, _<_}
 use native.Mathlib.Omega.{arith}
 use lib.ListN.{length, drop, length-drop, length-append}
 use lib.Seq.{drop-append-le}
@@ -12,7 +12,7 @@ use Rattle.spec.specs.Numbers.{number, effect}
 use Rattle.spec.specs.declared.Refusal.{Refusal}
 use Rattle.spec.specs.declared.Refusal.the-variants.{Incomplete, NoRoom}
 use Rattle.spec.specs.Calls.{State, isOpen, isClosed, unlawful, Report, markedBy, refused, refusedIn, callStep}
-use Rattle.spec.specs.Feeding.{Run, ending, inFront, onward, atMost, run, Feeds, gets, again, does, ends}
+use Rattle.spec.specs.Feeding.{Run, ending, inFront, onward, atMost, run, hostStep, Feeds, gets, again, does, ends}
 use Rattle.spec.proofs.Calls.{number-positive, number-injective, ByTable, step-by-table, Takes, step-takes, step-final}
 
 -- ---- a run is a step, and the run behind it
@@ -46,10 +46,11 @@ nothing-done last room q h =
     omega arith
 
 -- a step that does an event leaves less of the rest
-less : (last : Bool) (s : Bytes) (room : ℕ) (q : State) (f : ℕ) → callStep last s room q .answer ≡ 0 → length s ≤ suc f → length (drop (callStep last s room q .consumed) s) ≤ f
-less last s room q f h p =
+less : (last : Bool) (s : Bytes) (room : ℕ) (q : State) → callStep last s room q .answer ≡ 0 → length (drop (callStep last s room q .consumed) s) < length s
+less last s room q h =
     let t : Takes last s (callStep last s room q .consumed) = step-takes last s room q h in
     let a : 1 ≤ callStep last s room q .consumed = t .0 in
+    let b : callStep last s room q .consumed ≤ length s = t .1 in
     simp length-drop (omega arith)
 
 -- the number of events allowed does not matter, if it is no less than the number of bytes
@@ -62,7 +63,7 @@ enough zero (suc g) room k [] q p p′ = sym (onward-end (callStep true [] (room
 enough (suc f) zero room k [] q p p′ = onward-end (callStep true [] (room k) q) _ (nothing-done true (room k) q)
 enough (suc f) (suc g) room k s q p p′ =
     let r : Report = callStep true s (room k) q in
-    onward-same r _ _ λ e. enough f g room (suc k) (drop (r .consumed) s) (r .behind) (less true s (room k) q f e p) (less true s (room k) q g e p′)
+    onward-same r _ _ λ e. enough f g room (suc k) (drop (r .consumed) s) (r .behind) (omega (arith, less true s (room k) q e)) (omega (arith, less true s (room k) q e))
 
 -- a run is a step and, where that does an event, the run behind it
 run-onward : (room : ℕ → ℕ) (k : ℕ) (s : Bytes) (q : State)
@@ -71,23 +72,23 @@ unfolding run atMost
 run-onward room k s q =
     let r : Report = callStep true s (room k) q in
     enough (length s) (suc (length s)) room k s q (omega arith) (omega arith) ∙
-    onward-same r _ _ λ e. enough (length s) (length (drop (r .consumed) s)) room (suc k) (drop (r .consumed) s) (r .behind) (less true s (room k) q (length s) e (omega arith)) (omega arith)
+    onward-same r _ _ λ e. enough (length s) (length (drop (r .consumed) s)) room (suc k) (drop (r .consumed) s) (r .behind) (omega (arith, less true s (room k) q e)) (omega arith)
 
 -- ---- more input behind the rest
 
 -- what a step answers, but 1 with pieces to come, it would answer with all of them at hand
-whole-step : (rest : Bytes) (ps : List Bytes) (room : ℕ) (q : State) → (callStep (isEmpty ps) rest room q .answer ≡ 1 → ps ≡ [])
-    → callStep true (rest ++ concat ps) room q ≡ callStep (isEmpty ps) rest room q
+whole-step : (rest : Bytes) (ps : List Bytes) (room : ℕ) (q : State) → (hostStep ps rest room q .answer ≡ 1 → ps ≡ [])
+    → callStep true (rest ++ concat ps) room q ≡ hostStep ps rest room q
 unfolding isEmpty concat
 whole-step rest [] room q h = rw append-nil
 whole-step rest (p ∷ ps) room q h = step-final true rest (p ++ concat ps) room q λ e. cons≢nil (h e)
 
 -- an event done is done in the run over all of the input
-run-does : (room : ℕ → ℕ) (k : ℕ) (rest : Bytes) (ps : List Bytes) (q : State) → callStep (isEmpty ps) rest (room k) q .answer ≡ 0
+run-does : (room : ℕ → ℕ) (k : ℕ) (rest : Bytes) (ps : List Bytes) (q : State) → hostStep ps rest (room k) q .answer ≡ 0
     → run room k (rest ++ concat ps) q
-    ≡ inFront (callStep (isEmpty ps) rest (room k) q) (run room (suc k) (drop (callStep (isEmpty ps) rest (room k) q .consumed) rest ++ concat ps) (callStep (isEmpty ps) rest (room k) q .behind))
+    ≡ inFront (hostStep ps rest (room k) q) (run room (suc k) (drop (hostStep ps rest (room k) q .consumed) rest ++ concat ps) (hostStep ps rest (room k) q .behind))
 run-does room k rest ps q h =
-    let r : Report = callStep (isEmpty ps) rest (room k) q in
+    let r : Report = hostStep ps rest (room k) q in
     let t : Takes (isEmpty ps) rest (r .consumed) = step-takes (isEmpty ps) rest (room k) q h in
     let e : callStep true (rest ++ concat ps) (room k) q ≡ r = whole-step rest ps (room k) q λ z. absurd (omega (arith, h, z)) in
     let behind : Report → Run = λ x. onward x (run room (suc k) (drop (x .consumed) (rest ++ concat ps)) (x .behind)) in
@@ -95,10 +96,10 @@ run-does room k rest ps q h =
     ∙ ap (λ (s : Bytes). inFront r (run room (suc k) s (r .behind))) (drop-append-le (r .consumed) rest (concat ps) (t .1))))
 
 -- a refusal ends the run over all of the input
-run-ends : (room : ℕ → ℕ) (k : ℕ) (rest : Bytes) (ps : List Bytes) (q : State) → (callStep (isEmpty ps) rest (room k) q .answer ≡ 0 → ⊥)
-    → (callStep (isEmpty ps) rest (room k) q .answer ≡ 1 → ps ≡ []) → run room k (rest ++ concat ps) q ≡ ending (callStep (isEmpty ps) rest (room k) q)
+run-ends : (room : ℕ → ℕ) (k : ℕ) (rest : Bytes) (ps : List Bytes) (q : State) → (hostStep ps rest (room k) q .answer ≡ 0 → ⊥)
+    → (hostStep ps rest (room k) q .answer ≡ 1 → ps ≡ []) → run room k (rest ++ concat ps) q ≡ ending (hostStep ps rest (room k) q)
 run-ends room k rest ps q h g =
-    let r : Report = callStep (isEmpty ps) rest (room k) q in
+    let r : Report = hostStep ps rest (room k) q in
     let e : callStep true (rest ++ concat ps) (room k) q ≡ r = whole-step rest ps (room k) q g in
     let behind : Report → Run = λ x. onward x (run room (suc k) (drop (x .consumed) (rest ++ concat ps)) (x .behind)) in
     run-onward room k (rest ++ concat ps) q ∙ (ap behind e ∙ onward-end r _ h)
@@ -122,10 +123,51 @@ pub as-one-piece : {room : ℕ → ℕ} {k : ℕ} {rest : Bytes} {ps : List Byte
 unfolding concat
 as-one-piece {room} {k} {rest} {q = q} (gets {p = p} {ps = ps} h) = as-one-piece h ∙ ap (λ (s : Bytes). run room k s q) (append-assoc rest p (concat ps))
 as-one-piece {room} {k} {rest} {ps} {q} (again other a h) = as-one-piece h ∙ ap (run room k (rest ++ concat ps)) (same-state (isEmpty ps) rest other q a)
-as-one-piece {room} {k} {rest} {ps} {q} (does a h) = ap (inFront (callStep (isEmpty ps) rest (room k) q)) (as-one-piece h) ∙ sym (run-does room k rest ps q a)
+as-one-piece {room} {k} {rest} {ps} {q} (does a h) = ap (inFront (hostStep ps rest (room k) q)) (as-one-piece h) ∙ sym (run-does room k rest ps q a)
 as-one-piece {room} {k} {rest} {ps} {q} (ends a b) = sym (run-ends room k rest ps q a b)
 
 -- For every division of the same bytes: the same output, the same last answer, as many events, the same state behind.
 pub division-does-not-matter : (room : ℕ → ℕ) (k : ℕ) (ps ps′ : List Bytes) (q : State) (n n′ : Run) → concat ps ≡ concat ps′
     → Feeds room k [] ps q n → Feeds room k [] ps′ q n′ → n ≡ n′
 division-does-not-matter room k ps ps′ q n n′ e h g = as-one-piece h ∙ (ap (λ (s : Bytes). run room k s q) e ∙ sym (as-one-piece g))
+
+-- ---- every division has a run: that of a host that waits for the next piece only on 1
+
+abbrev Fed : (ℕ → ℕ) → ℕ → Bytes → List Bytes → State → Type 0
+Fed room k rest ps q = (n : Run) × Feeds room k rest ps q n
+
+one-step : (room : ℕ → ℕ) (k : ℕ) (rest : Bytes) (ps : List Bytes) (q : State)
+    → (hostStep ps rest (room k) q .answer ≡ 0 → Fed room (suc k) (drop (hostStep ps rest (room k) q .consumed) rest) ps (hostStep ps rest (room k) q .behind))
+    → (hostStep ps rest (room k) q .answer ≡ 1 → (ps ≡ []) ⊎ Fed room k rest ps (hostStep ps rest (room k) q .behind))
+    → Fed room k rest ps q
+one-step room k rest ps q on-0 on-1 = go (hostStep ps rest (room k) q .answer) refl
+  where
+    stopped : (hostStep ps rest (room k) q .answer ≡ 0 → ⊥) → (hostStep ps rest (room k) q .answer ≡ 1 → ps ≡ []) → Fed room k rest ps q
+    stopped h g = (ending (hostStep ps rest (room k) q), ends h g)
+
+    waited : hostStep ps rest (room k) q .answer ≡ 1 → (ps ≡ []) ⊎ Fed room k rest ps (hostStep ps rest (room k) q .behind) → Fed room k rest ps q
+    waited e (inl z) = stopped (λ a. omega (arith, a, e)) (λ a. z)
+    waited e (inr w) = (w .0, again (room k) (inl e) (w .1))
+
+    go : (a : ℕ) → hostStep ps rest (room k) q .answer ≡ a → Fed room k rest ps q
+    go zero e = let w = on-0 e in (inFront (hostStep ps rest (room k) q) (w .0), does e (w .1))
+    go (suc zero) e = waited e (on-1 e)
+    go (suc (suc a)) e = stopped (λ z. omega (arith, z, e)) (λ z. absurd (omega (arith, z, e)))
+
+-- the events at hand, then what is done on 1
+at-hand : (room : ℕ → ℕ) (ps : List Bytes) → ((k : ℕ) (rest : Bytes) (q : State) → (ps ≡ []) ⊎ Fed room k rest ps q)
+    → (f k : ℕ) (rest : Bytes) (q : State) → length rest < f → Fed room k rest ps q
+at-hand room ps on-1 zero k rest q h = absurd (omega arith)
+at-hand room ps on-1 (suc f) k rest q h =
+    one-step room k rest ps q (λ e. at-hand room ps on-1 f (suc k) _ _ (omega (arith, less (isEmpty ps) rest (room k) q e))) (λ e. on-1 k rest _)
+
+patient : (ps : List Bytes) (room : ℕ → ℕ) (k : ℕ) (rest : Bytes) (q : State) → Fed room k rest ps q
+patient [] room k rest q = at-hand room [] (λ k rest q. inl refl) (suc (length rest)) k rest q (omega arith)
+patient (p ∷ ps) room k rest q =
+    at-hand room (p ∷ ps) (λ k rest q. inr (let w = patient ps room k (rest ++ p) q in (w .0, gets (w .1)))) (suc (length rest)) k rest q (omega arith)
+
+-- However the input comes in pieces, and wherever a host stands in it, its run can go on to the end.
+pub every-division-runs : (room : ℕ → ℕ) (k : ℕ) (rest : Bytes) (ps : List Bytes) (q : State) → Feeds room k rest ps q (run room k (rest ++ concat ps) q)
+every-division-runs room k rest ps q =
+    let w : Fed room k rest ps q = patient ps room k rest q in
+    subst (λ (n : Run). Feeds room k rest ps q n) (as-one-piece (w .1)) (w .1)

@@ -47,22 +47,26 @@ atMost (suc f) room k s q =
 unfoldable pub run : (ℕ → ℕ) → ℕ → Bytes → State → Run
 run room k s q = atMost (length s) room k s q
 
--- A host's run over a rest and the pieces to come. "No more" is what it says once no piece is to come.
+-- a host says "no more" once no piece is to come
+abbrev pub hostStep : List Bytes → Bytes → ℕ → State → Report
+hostStep ps rest room q = callStep (isEmpty ps) rest room q
+
+-- a host's run from event k on, over a rest and the pieces to come
 pub data Feeds (room : ℕ → ℕ) : ℕ → Bytes → List Bytes → State → Run → Type 0 where
   -- it puts the next piece behind the rest, whenever it likes
   gets : {k : ℕ} {rest : Bytes} {p : Bytes} {ps : List Bytes} {q : State} {n : Run} → Feeds room k (rest ++ p) ps q n → Feeds room k rest (p ∷ ps) q n
   -- a step, with any room, answers 1 or 2: it calls again, with more input or more room
   again : {k : ℕ} {rest : Bytes} {ps : List Bytes} {q : State} {n : Run} (other : ℕ)
-      → (callStep (isEmpty ps) rest other q .answer ≡ 1) ⊎ (callStep (isEmpty ps) rest other q .answer ≡ 2)
-      → Feeds room k rest ps (callStep (isEmpty ps) rest other q .behind) n → Feeds room k rest ps q n
+      → (hostStep ps rest other q .answer ≡ 1) ⊎ (hostStep ps rest other q .answer ≡ 2)
+      → Feeds room k rest ps (hostStep ps rest other q .behind) n → Feeds room k rest ps q n
   -- a step does an event: the next is handed the rest from where the event ended
-  does : {k : ℕ} {rest : Bytes} {ps : List Bytes} {q : State} {n : Run} → callStep (isEmpty ps) rest (room k) q .answer ≡ 0
-      → Feeds room (suc k) (drop (callStep (isEmpty ps) rest (room k) q .consumed) rest) ps (callStep (isEmpty ps) rest (room k) q .behind) n
-      → Feeds room k rest ps q (inFront (callStep (isEmpty ps) rest (room k) q) n)
+  does : {k : ℕ} {rest : Bytes} {ps : List Bytes} {q : State} {n : Run} → hostStep ps rest (room k) q .answer ≡ 0
+      → Feeds room (suc k) (drop (hostStep ps rest (room k) q .consumed) rest) ps (hostStep ps rest (room k) q .behind) n
+      → Feeds room k rest ps q (inFront (hostStep ps rest (room k) q) n)
   -- a step refuses: the run ends there, but never at a 1 while pieces are to come
-  ends : {k : ℕ} {rest : Bytes} {ps : List Bytes} {q : State} → (callStep (isEmpty ps) rest (room k) q .answer ≡ 0 → ⊥)
-      → (callStep (isEmpty ps) rest (room k) q .answer ≡ 1 → ps ≡ [])
-      → Feeds room k rest ps q (ending (callStep (isEmpty ps) rest (room k) q))
+  ends : {k : ℕ} {rest : Bytes} {ps : List Bytes} {q : State} → (hostStep ps rest (room k) q .answer ≡ 0 → ⊥)
+      → (hostStep ps rest (room k) q .answer ≡ 1 → ps ≡ [])
+      → Feeds room k rest ps q (ending (hostStep ps rest (room k) q))
 
 -- what pyx2nt prints behind the lines of its run: the refusal, where a step or finish refused
 unfoldable pub lastOf : Run → Bytes
