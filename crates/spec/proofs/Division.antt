@@ -1,17 +1,17 @@
 -- How the input is cut into calls does not matter: the lines, the last answer and the state behind are the same for every division.
 use mathlib.Core.Path.{_≡_, refl, sym, _∙_, ap, subst}
 use mathlib.Core.Logic.{_⊎_, inl, inr}
-use mathlib.Core.Bool.{Bool, true, false}
+use mathlib.Core.Bool.{Bool, true}
 use mathlib.Core.List.{List, [], _∷_, _++_, append-assoc, append-nil, cons≢nil}
-use Prim.Native.Nat.{ℕ, zero, suc, _+_, _≤_, _<_}
+use Prim.Native.Nat.{ℕ, zero, suc, _≤_, _<_}
 use native.Mathlib.Omega.{arith}
-use lib.ListN.{length, drop, length-drop, length-append}
+use lib.ListN.{length, drop, length-drop}
 use lib.Seq.{drop-append-le}
 use Rattle.spec.specs.Bytes.{Bytes, isEmpty, concat}
-use Rattle.spec.specs.Numbers.{number, effect}
+use Rattle.spec.specs.Numbers.{number}
 use Rattle.spec.specs.declared.Refusal.{Refusal}
 use Rattle.spec.specs.declared.Refusal.the-variants.{Incomplete, NoRoom}
-use Rattle.spec.specs.Calls.{State, isOpen, isClosed, unlawful, Report, markedBy, refused, refusedIn, callStep}
+use Rattle.spec.specs.Calls.{State, Report, markedBy, refused, refusedIn, callStep}
 use Rattle.spec.specs.Feeding.{Run, ending, inFront, onward, atMost, run, hostStep, Feeds, gets, again, does, ends}
 use Rattle.spec.proofs.Calls.{number-positive, number-injective, ByTable, step-by-table, Takes, step-takes, step-final}
 

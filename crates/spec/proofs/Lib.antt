@@ -7,6 +7,7 @@ pub mod Grammar
 -- ---- events and calls
 pub mod PyxCut
 pub mod Calls
+pub mod Refusals
 pub mod Division
 -- ---- labels, subjects, lists
 pub mod Labels
