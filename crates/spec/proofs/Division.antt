@@ -2,18 +2,26 @@
 use mathlib.Core.Path.{_≡_, refl, sym, _∙_, ap, subst}
 use mathlib.Core.Logic.{_⊎_, inl, inr}
 use mathlib.Core.Bool.{Bool, true}
+use mathlib.Core.Option.{none}
 use mathlib.Core.List.{List, [], _∷_, _++_, append-assoc, append-nil, cons≢nil}
-use Prim.Native.Nat.{ℕ, zero, suc, _≤_, _<_}
+use Prim.Native.Nat.{ℕ, zero, suc, _+_, _≤_, _<_}
 use native.Mathlib.Omega.{arith}
 use lib.ListN.{length, drop, length-drop}
 use lib.Seq.{drop-append-le}
-use Rattle.spec.specs.Bytes.{Bytes, isEmpty, concat}
+use borrow.Author.Tests.{ne-eqb}
+use Rattle.spec.specs.Bytes.{Bytes, if_then_else_, isEmpty, concat, require_or_}
 use Rattle.spec.specs.Numbers.{number}
 use Rattle.spec.specs.declared.Refusal.{Refusal}
 use Rattle.spec.specs.declared.Refusal.the-variants.{Incomplete, NoRoom}
-use Rattle.spec.specs.Calls.{State, Report, markedBy, refused, refusedIn, callStep}
-use Rattle.spec.specs.Feeding.{Run, ending, inFront, onward, atMost, run, hostStep, Feeds, gets, again, does, ends}
-use Rattle.spec.proofs.Calls.{number-positive, number-injective, ByTable, step-by-table, Takes, step-takes, step-final}
+use Rattle.spec.specs.Calls.{State, isOpen, mayStart, started, callStart, Report, markedBy, refused, refusedIn, callStep}
+use Rattle.spec.specs.PyxCut.{cut}
+use Rattle.spec.specs.Feeding.{Run, ending, inFront, onward, atMost, run, hostStep, Feeds, gets, again, does, ends, printed}
+use Rattle.spec.specs.Limits.{programRoom}
+use Rattle.spec.specs.Pyx2nt.{lastLine, print, pyx2nt}
+use Rattle.spec.specs.Document.{Doc, fresh}
+use Rattle.spec.proofs.PyxCut.{cut-waits}
+use Rattle.spec.proofs.Refusals.{Why, no-event, given-only-when, given-when}
+use Rattle.spec.proofs.Calls.{Reported, did, gave, reported, number-positive, number-injective, ByTable, step-by-table, Takes, step-takes, step-final}
 
 -- ---- a run is a step, and the run behind it
 
@@ -66,7 +74,7 @@ enough (suc f) (suc g) room k s q p p′ =
     onward-same r _ _ λ e. enough f g room (suc k) (drop (r .consumed) s) (r .behind) (omega (arith, less true s (room k) q e)) (omega (arith, less true s (room k) q e))
 
 -- a run is a step and, where that does an event, the run behind it
-run-onward : (room : ℕ → ℕ) (k : ℕ) (s : Bytes) (q : State)
+pub run-onward : (room : ℕ → ℕ) (k : ℕ) (s : Bytes) (q : State)
     → run room k s q ≡ onward (callStep true s (room k) q) (run room (suc k) (drop (callStep true s (room k) q .consumed) s) (callStep true s (room k) q .behind))
 unfolding run atMost
 run-onward room k s q =
@@ -84,7 +92,7 @@ whole-step rest [] room q h = rw append-nil
 whole-step rest (p ∷ ps) room q h = step-final true rest (p ++ concat ps) room q λ e. cons≢nil (h e)
 
 -- an event done is done in the run over all of the input
-run-does : (room : ℕ → ℕ) (k : ℕ) (rest : Bytes) (ps : List Bytes) (q : State) → hostStep ps rest (room k) q .answer ≡ 0
+pub run-does : (room : ℕ → ℕ) (k : ℕ) (rest : Bytes) (ps : List Bytes) (q : State) → hostStep ps rest (room k) q .answer ≡ 0
     → run room k (rest ++ concat ps) q
     ≡ inFront (hostStep ps rest (room k) q) (run room (suc k) (drop (hostStep ps rest (room k) q .consumed) rest ++ concat ps) (hostStep ps rest (room k) q .behind))
 run-does room k rest ps q h =
@@ -96,7 +104,7 @@ run-does room k rest ps q h =
     ∙ ap (λ (s : Bytes). inFront r (run room (suc k) s (r .behind))) (drop-append-le (r .consumed) rest (concat ps) (t .1))))
 
 -- a refusal ends the run over all of the input
-run-ends : (room : ℕ → ℕ) (k : ℕ) (rest : Bytes) (ps : List Bytes) (q : State) → (hostStep ps rest (room k) q .answer ≡ 0 → ⊥)
+pub run-ends : (room : ℕ → ℕ) (k : ℕ) (rest : Bytes) (ps : List Bytes) (q : State) → (hostStep ps rest (room k) q .answer ≡ 0 → ⊥)
     → (hostStep ps rest (room k) q .answer ≡ 1 → ps ≡ []) → run room k (rest ++ concat ps) q ≡ ending (hostStep ps rest (room k) q)
 run-ends room k rest ps q h g =
     let r : Report = hostStep ps rest (room k) q in
@@ -171,3 +179,88 @@ pub every-division-runs : (room : ℕ → ℕ) (k : ℕ) (rest : Bytes) (ps : Li
 every-division-runs room k rest ps q =
     let w : Fed room k rest ps q = patient ps room k rest q in
     subst (λ (n : Run). Feeds room k rest ps q n) (as-one-piece (w .1)) (w .1)
+
+-- ---- the program pyx2nt
+
+printed-on : (k : ℕ) (r : Report) (n : Run) → printed k (inFront r n) ≡ r .output ++ printed (suc k) n
+unfolding printed inFront
+printed-on k r n =
+    let e : k + suc (n .events) ≡ suc k + n .events = omega arith in
+    rw e (append-assoc (r .output) (n .output) _)
+
+printed-end : (k : ℕ) (r : Report) → (r .answer ≡ 1 → ⊥) → printed k (ending r) ≡ lastLine (r .answer) k
+unfolding printed ending if_then_else_
+printed-end k r h = let e : k + 0 ≡ k = omega arith in rw (ne-eqb (r .answer) 1 h, e) refl
+
+print-on : (f k : ℕ) (b : ℕ) (rest : Bytes) (s : State) → callStep true (b ∷ rest) programRoom s .answer ≡ 0
+    → print (suc f) k (b ∷ rest) s ≡ callStep true (b ∷ rest) programRoom s .output ++ print f (suc k) (drop (callStep true (b ∷ rest) programRoom s .consumed) (b ∷ rest)) (callStep true (b ∷ rest) programRoom s .behind)
+unfolding print
+print-on f k b rest s h = rw (h, print) refl
+
+print-end : (f k : ℕ) (b : ℕ) (rest : Bytes) (s : State) → (callStep true (b ∷ rest) programRoom s .answer ≡ 0 → ⊥)
+    → print (suc f) k (b ∷ rest) s ≡ lastLine (callStep true (b ∷ rest) programRoom s .answer) k
+unfolding print
+print-end f k b rest s h = go (callStep true (b ∷ rest) programRoom s .answer) refl
+  where
+    go : (a : ℕ) → callStep true (b ∷ rest) programRoom s .answer ≡ a → print (suc f) k (b ∷ rest) s ≡ lastLine (callStep true (b ∷ rest) programRoom s .answer) k
+    go zero e = absurd (h e)
+    go (suc a) e = rw (e, print) refl
+
+-- with "no more", a step answers 1 only for an empty rest
+only-empty : (b : ℕ) (rest : Bytes) (room : ℕ) (q : State) → callStep true (b ∷ rest) room q .answer ≡ 1 → ⊥
+only-empty b rest room q h = go q (given-only-when true (b ∷ rest) room q Incomplete refl h)
+  where
+    go : (q : State) → Why true (b ∷ rest) room q Incomplete → ⊥
+    go q (no-event d e) = cons≢nil (cut-waits (b ∷ rest) e)
+
+-- a document that goes on is open
+goes-on-open : (d : Doc) (r : Report) → Reported d r → r .answer ≡ 0 → (d′ : Doc) × (r .behind ≡ isOpen d′)
+unfolding refusedIn refused
+goes-on-open d r (did bytes e us d′ p q) h = (d′, refl)
+goes-on-open d r (gave x) h = absurd (number-positive x h)
+
+abbrev programRun : ℕ → Bytes → State → Run
+programRun k s q = run (λ i. programRoom) k s q
+
+print-empty : (f k : ℕ) (d : Doc) → print (suc f) k [] (isOpen d) ≡ printed k (programRun k [] (isOpen d))
+unfolding print printed run atMost ending if_then_else_ refusedIn refused markedBy cut
+print-empty f k d =
+    let e : callStep true [] programRoom (isOpen d) ≡ refusedIn (isOpen d) Incomplete = given-when true [] programRoom (isOpen d) Incomplete (no-event d refl) in
+    let z : k + 0 ≡ k = omega arith in
+    rw (e, z) refl
+
+print-step : (f k : ℕ) (b : ℕ) (rest : Bytes) (d : Doc) → length (b ∷ rest) < suc f
+    → ((s : Bytes) (d′ : Doc) → length s < f → print f (suc k) s (isOpen d′) ≡ printed (suc k) (programRun (suc k) s (isOpen d′)))
+    → print (suc f) k (b ∷ rest) (isOpen d) ≡ printed k (programRun k (b ∷ rest) (isOpen d))
+print-step f k b rest d h ih = go (callStep true (b ∷ rest) programRoom (isOpen d) .answer) refl
+  where
+    go : (a : ℕ) → callStep true (b ∷ rest) programRoom (isOpen d) .answer ≡ a → print (suc f) k (b ∷ rest) (isOpen d) ≡ printed k (programRun k (b ∷ rest) (isOpen d))
+    go zero e =
+        let r : Report = callStep true (b ∷ rest) programRoom (isOpen d) in
+        let s : Bytes = drop (r .consumed) (b ∷ rest) in
+        let o : (d′ : Doc) × (r .behind ≡ isOpen d′) = goes-on-open d r (reported true (b ∷ rest) programRoom d) e in
+        let same : print f (suc k) s (r .behind) ≡ printed (suc k) (programRun (suc k) s (r .behind)) =
+        rw (o .1) (ih s (o .0) (omega (arith, less true (b ∷ rest) programRoom (isOpen d) e))) in
+        let whole : programRun k (b ∷ rest) (isOpen d) ≡ inFront r (programRun (suc k) s (r .behind)) =
+        run-onward (λ i. programRoom) k (b ∷ rest) (isOpen d) ∙ onward-on r (programRun (suc k) s (r .behind)) e in
+        print-on f k b rest (isOpen d) e ∙ (ap (λ (x : Bytes). r .output ++ x) same ∙ sym (ap (printed k) whole ∙ printed-on k r (programRun (suc k) s (r .behind))))
+    go (suc a) e =
+        let r : Report = callStep true (b ∷ rest) programRoom (isOpen d) in
+        let no : r .answer ≡ 0 → ⊥ = λ z. omega (arith, z, e) in
+        let whole : programRun k (b ∷ rest) (isOpen d) ≡ ending r =
+        run-onward (λ i. programRoom) k (b ∷ rest) (isOpen d) ∙ onward-end r _ no in
+        print-end f k b rest (isOpen d) no ∙ sym (ap (printed k) whole ∙ printed-end k r (only-empty b rest programRoom (isOpen d)))
+
+print-run : (f k : ℕ) (rest : Bytes) (d : Doc) → length rest < f → print f k rest (isOpen d) ≡ printed k (programRun k rest (isOpen d))
+print-run zero k rest d h = absurd (omega arith)
+print-run (suc f) k [] d h = print-empty f k d
+print-run (suc f) k (b ∷ rest) d h = print-step f k b rest d h λ s d′. print-run f (suc k) s d′
+
+-- what pyx2nt prints is the output of the run over all of its input, then the refusal if any
+pub pyx2nt-run : (s : Bytes) → pyx2nt s ≡ printed 1 (programRun 1 s (isOpen (fresh none)))
+unfolding pyx2nt callStart started mayStart require_or_
+pyx2nt-run s = print-run (suc (length s)) 1 s (fresh none) (omega arith)
+
+-- So pyx2nt may print as it reads: in whatever pieces its input comes, it is to print what its steps give, then the refusal if any.
+pub pyx2nt-in-pieces : (ps : List Bytes) (n : Run) → Feeds (λ i. programRoom) 1 [] ps (isOpen (fresh none)) n → pyx2nt (concat ps) ≡ printed 1 n
+pyx2nt-in-pieces ps n h = pyx2nt-run (concat ps) ∙ ap (printed 1) (sym (as-one-piece h))

@@ -1,7 +1,7 @@
 -- Document 01, "Events": a host's run of steps over its input, all at hand or in pieces (theorem: proofs/Division).
 use mathlib.Core.Path.{_≡_}
 use mathlib.Core.Logic.{_⊎_}
-use mathlib.Core.Bool.{Bool, true}
+use mathlib.Core.Bool.{true}
 use mathlib.Core.List.{List, [], _∷_, _++_}
 use Prim.Native.Nat.{ℕ, zero, suc, _+_}
 use lib.Dec.{eqb}
@@ -68,6 +68,6 @@ pub data Feeds (room : ℕ → ℕ) : ℕ → Bytes → List Bytes → State →
       → (hostStep ps rest (room k) q .answer ≡ 1 → ps ≡ [])
       → Feeds room k rest ps q (ending (hostStep ps rest (room k) q))
 
--- what pyx2nt prints behind the lines of its run: the refusal, where a step or finish refused
-unfoldable pub lastOf : Run → Bytes
-lastOf n = lastLine (if eqb (n .answer) 1 then callFinish (n .behind) .answer else n .answer) (suc (n .events))
+-- what pyx2nt prints of its run from event k on: all lines, then the refusal, where a step or finish refused
+unfoldable pub printed : ℕ → Run → Bytes
+printed k n = n .output ++ lastLine (if eqb (n .answer) 1 then callFinish (n .behind) .answer else n .answer) (k + n .events)
