@@ -269,3 +269,46 @@ step-final last s t room (isClosed d) h = refl
 step-final last s t room (isOpen d) h =
     let step : Cut → Report = λ c. stepped d (firstEvent c >>= λ bytes. accept bytes room d) in
     ap step (cut-final last s t λ e. h (ap (λ (c : Cut). step c .answer) e))
+
+-- ---- the room
+
+-- an event's lines, and whether they fit
+abbrev given : Bytes → Bool → List Triple × Doc → Answer Accepted
+given bytes b s = (require b or NoRoom) >> good (record { size = length bytes; lines = write (s .0); behind = s .1 })
+
+abbrev fitted : Bytes → ℕ → Answer (List Triple × Doc) → Answer Accepted
+fitted bytes room a = a >>= λ s. given bytes (leb (length (write (s .0))) room) s
+
+abbrev Not-2 : Doc → Answer Accepted → Type 0
+Not-2 d a = stepped d a .answer ≡ 2 → ⊥
+
+accept-room : (bytes : Bytes) (room room′ : ℕ) (d : Doc) → Not-2 d (accept bytes room d) → Not-2 d (accept bytes room′ d) → accept bytes room d ≡ accept bytes room′ d
+unfolding accept stepped refusedIn refused _>>=_ _>>_ require_or_
+accept-room bytes room room′ d = on-read (readEvent bytes)
+  where
+    on-room : (s : List Triple × Doc) (b b′ : Bool) → Not-2 d (given bytes b s) → Not-2 d (given bytes b′ s) → given bytes b s ≡ given bytes b′ s
+    on-room s true true h k = refl
+    on-room s false b′ h k = absurd (h refl)
+    on-room s true false h k = absurd (k refl)
+
+    on-next : (a : Answer (List Triple × Doc)) → Not-2 d (fitted bytes room a) → Not-2 d (fitted bytes room′ a) → fitted bytes room a ≡ fitted bytes room′ a
+    on-next (refuse r) h k = refl
+    on-next (good s) h k = on-room s (leb (length (write (s .0))) room) (leb (length (write (s .0))) room′) h k
+
+    on-read : (a : Answer Event) → Not-2 d (a >>= λ e. fitted bytes room (next e d)) → Not-2 d (a >>= λ e. fitted bytes room′ (next e d))
+        → (a >>= λ e. fitted bytes room (next e d)) ≡ (a >>= λ e. fitted bytes room′ (next e d))
+    on-read (refuse r) h k = refl
+    on-read (good e) h k = on-next (next e d) h k
+
+-- the room decides only whether the answer is 2
+pub step-room : (last : Bool) (s : Bytes) (room room′ : ℕ) (q : State) → (callStep last s room q .answer ≡ 2 → ⊥) → (callStep last s room′ q .answer ≡ 2 → ⊥)
+    → callStep last s room q ≡ callStep last s room′ q
+unfolding callStep _>>=_
+step-room last s room room′ unlawful h k = refl
+step-room last s room room′ (isClosed d) h k = refl
+step-room last s room room′ (isOpen d) h k = go (firstEvent (cut last s)) h k
+  where
+    go : (a : Answer Bytes) → Not-2 d (a >>= λ bytes. accept bytes room d) → Not-2 d (a >>= λ bytes. accept bytes room′ d)
+        → stepped d (a >>= λ bytes. accept bytes room d) ≡ stepped d (a >>= λ bytes. accept bytes room′ d)
+    go (refuse r) h k = refl
+    go (good bytes) h k = ap (stepped d) (accept-room bytes room room′ d h k)

@@ -21,7 +21,7 @@ use Rattle.spec.specs.Pyx2nt.{lastLine, print, pyx2nt}
 use Rattle.spec.specs.Document.{Doc, fresh}
 use Rattle.spec.proofs.PyxCut.{cut-waits}
 use Rattle.spec.proofs.Refusals.{Why, no-event, given-only-when, given-when}
-use Rattle.spec.proofs.Calls.{Reported, did, gave, reported, number-positive, number-injective, ByTable, step-by-table, Takes, step-takes, step-final}
+use Rattle.spec.proofs.Calls.{Reported, did, gave, reported, number-positive, number-injective, ByTable, step-by-table, Takes, step-takes, step-room, step-final}
 
 -- ---- a run is a step, and the run behind it
 
@@ -138,6 +138,39 @@ as-one-piece {room} {k} {rest} {ps} {q} (ends a b) = sym (run-ends room k rest p
 pub division-does-not-matter : (room : ℕ → ℕ) (k : ℕ) (ps ps′ : List Bytes) (q : State) (n n′ : Run) → concat ps ≡ concat ps′
     → Feeds room k [] ps q n → Feeds room k [] ps′ q n′ → n ≡ n′
 division-does-not-matter room k ps ps′ q n n′ e h g = as-one-piece h ∙ (ap (λ (s : Bytes). run room k s q) e ∙ sym (as-one-piece g))
+
+-- ---- the room
+
+on-answer : (r : Report) (n : Run) → r .answer ≡ 0 → onward r n .answer ≡ n .answer
+unfolding inFront
+on-answer r n e = ap (λ (x : Run). x .answer) (onward-on r n e)
+
+end-answer : (r : Report) (n : Run) → r .answer ≡ 2 → onward r n .answer ≡ 2
+unfolding ending
+end-answer r n e = ap (λ (x : Run). x .answer) (onward-end r n λ z. omega (arith, z, e)) ∙ e
+
+same-rooms : (f : ℕ) (room room′ : ℕ → ℕ) (k : ℕ) (s : Bytes) (q : State) → (atMost f room k s q .answer ≡ 2 → ⊥) → (atMost f room′ k s q .answer ≡ 2 → ⊥)
+    → atMost f room k s q ≡ atMost f room′ k s q
+unfolding atMost ending
+same-rooms zero room room′ k s q h g = ap ending (step-room true s (room k) (room′ k) q h g)
+same-rooms (suc f) room room′ k s q h g =
+    let r : Report = callStep true s (room k) q in
+    let r′ : Report = callStep true s (room′ k) q in
+    let behind : (ℕ → ℕ) → Report → Run = λ ρ x. atMost f ρ (suc k) (drop (x .consumed) s) (x .behind) in
+    let e : r ≡ r′ = step-room true s (room k) (room′ k) q (λ z. h (end-answer r (behind room r) z)) (λ z. g (end-answer r′ (behind room′ r′) z)) in
+    let g′ : onward r (behind room′ r) .answer ≡ 2 → ⊥ = λ z. g (sym (ap (λ (x : Report). onward x (behind room′ x) .answer) e) ∙ z) in
+    onward-same r (behind room r) (behind room′ r) (λ z. same-rooms f room room′ (suc k) (drop (r .consumed) s) (r .behind)
+    (λ y. h (on-answer r (behind room r) z ∙ y)) (λ y. g′ (on-answer r (behind room′ r) z ∙ y)))
+    ∙ ap (λ (x : Report). onward x (behind room′ x)) e
+
+-- Nor does it matter what room each event is given, unless a run ends for want of it (2).
+pub room-does-not-matter : (room room′ : ℕ → ℕ) (k : ℕ) (ps ps′ : List Bytes) (q : State) (n n′ : Run) → concat ps ≡ concat ps′
+    → Feeds room k [] ps q n → Feeds room′ k [] ps′ q n′ → (n .answer ≡ 2 → ⊥) → (n′ .answer ≡ 2 → ⊥) → n ≡ n′
+unfolding run
+room-does-not-matter room room′ k ps ps′ q n n′ e h g a b =
+    let u : n ≡ run room k (concat ps) q = as-one-piece h in
+    let v : n′ ≡ run room′ k (concat ps) q = as-one-piece g ∙ ap (λ (s : Bytes). run room′ k s q) (sym e) in
+    u ∙ (same-rooms (length (concat ps)) room room′ k (concat ps) q (λ z. a (ap (λ (x : Run). x .answer) u ∙ z)) (λ z. b (ap (λ (x : Run). x .answer) v ∙ z)) ∙ sym v)
 
 -- ---- every division has a run: that of a host that waits for the next piece only on 1
 
