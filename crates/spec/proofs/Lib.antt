@@ -13,8 +13,9 @@ pub mod Division
 pub mod Labels
 pub mod Subjects
 pub mod Lists
--- ---- limits
+-- ---- limits, and how elements stand
 pub mod Limits
+pub mod Nesting
 -- ---- lines
 pub mod Written
 pub mod Fine

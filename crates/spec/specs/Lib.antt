@@ -28,6 +28,7 @@ pub mod Opening
 pub mod EndTag
 pub mod RdfXml
 pub mod Within
+pub mod Nesting
 -- ---- the calls and the program
 pub mod Calls
 pub mod Pyx2nt
