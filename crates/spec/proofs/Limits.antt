@@ -17,7 +17,7 @@ use Rattle.spec.specs.Pyx.{Attribute, Event, opening, closing, text, ins
 use Rattle.spec.specs.Namespaces.{declared}
 use Rattle.spec.specs.NTriples.{Subject, Triple, digits, dropZeros, decimal}
 use Rattle.spec.specs.Rdf.{rdf}
-use Rattle.spec.specs.Document.{Value, default, collection, literal, other, Property, Kind, rdfRDF, nodeElement, propertyElement, xmlElement, Frame, Doc, fresh, withFrames, withLabels, withKind, inScope, Place, outside, nodes, nodesOrText, xml, properties, inValue, inKind, placeIn, changeValue, onValue, isXmlElement, heldBytes, fits}
+use Rattle.spec.specs.Document.{Value, default, collection, literal, other, Property, Kind, rdfRDF, nodeElement, propertyElement, xmlElement, Frame, Doc, fresh, withFrames, withLabels, withKind, inScope, Place, outside, nodes, nodesOrText, xml, properties, inValue, inKind, placeIn, changeValue, onValue, isXmlElement, frameBytes, heldBytes, fits}
 use Rattle.spec.specs.Document as D
 use Rattle.spec.specs.StartTag.{Tag, readTag, isShort, allShort}
 use Rattle.spec.specs.Productions.{Opened, openNode, openProperty, openRoot, isLi, propertyIri, ParseType, noParseType, asCollection, asResource, asLiteral, asOther}
@@ -533,6 +533,18 @@ always-within b d ts s h =
       everyId = k .0 .ids;
       everyFrame = k .0 .open-frames .every;
     }
+
+-- ---- one open element
+
+total-each : (n : ℕ) (fs : List Frame) → total frameBytes fs ≤ n → All (λ f. frameBytes f ≤ n) fs
+unfolding total
+total-each n [] h = tt
+total-each n (f ∷ fs) h = (omega arith, total-each n fs (omega arith))
+
+-- names as written, tags, labels and text have no limit of their own: what each open element holds is within the held bytes
+pub each-held : (d : Doc) → Within d → All (λ f. frameBytes f ≤ mostHeldBytes) (d .frames)
+unfolding heldBytes
+each-held d h = let le : heldBytes d ≤ mostHeldBytes = h .held in total-each mostHeldBytes (d .frames) (omega arith)
 
 -- ---- by calls
 

@@ -1,14 +1,15 @@
 -- Open elements stand in each other as the grammar says; so a property's subject is that of the node around it, and need not be kept twice.
 use mathlib.Core.Path.{_≡_, refl, sym, _∙_, ap, subst}
 use mathlib.Core.Bool.{Bool, true, false}
-use mathlib.Core.Option.{Option, none, some}
+use mathlib.Core.Option.{Option}
 use mathlib.Core.List.{List, [], _∷_}
-use Prim.Native.Nat.{ℕ, suc}
+use Prim.Native.Nat.{ℕ, _≤_}
+use native.Mathlib.Omega.{arith}
 use Rattle.spec.specs.Bytes.{Bytes, if_then_else_}
 use Rattle.spec.specs.Numbers.{Answer}
 use Rattle.spec.specs.Pyx.{Attribute, Event, opening, closing, text, instruction}
 use Rattle.spec.specs.NTriples.{Subject, Triple}
-use Rattle.spec.specs.Document.{Value, default, collection, literal, other, Property, Kind, rdfRDF, nodeElement, propertyElement, xmlElement, Frame, Doc, fresh, withFrames, withLabels, withKind, Place, outside, nodes, nodesOrText, xml, properties, inValue, inKind, placeIn, changeValue, onValue, isXmlElement}
+use Rattle.spec.specs.Document.{Value, default, collection, literal, other, Property, Kind, rdfRDF, nodeElement, propertyElement, xmlElement, Frame, Doc, fresh, withFrames, withLabels, withKind, Place, outside, nodes, nodesOrText, xml, properties, inValue, inKind, placeIn, changeValue, onValue, isXmlElement, subjectBytes, kindBytes, frameBytes}
 use Rattle.spec.specs.StartTag.{Tag}
 use Rattle.spec.specs.Productions.{Opened, openNode, openProperty, openRoot, ParseType, noParseType, asCollection, asResource, asLiteral, asOther}
 use Rattle.spec.specs.Productions as O
@@ -19,8 +20,11 @@ use Rattle.spec.specs.EndTag as C
 use Rattle.spec.specs.RdfXml.{next}
 use Rattle.spec.specs.RdfXml as X
 use Rattle.spec.specs.Lists.{After, here, event}
+use Rattle.spec.specs.Limits.{mostHeldBytes}
+use Rattle.spec.specs.Within.{All, Short?}
 use Rattle.spec.specs.Nesting.{Stands, Nested}
 use Rattle.spec.proofs.Always.{Always, always-bind, always-any, always-after, always-require, always-if}
+use Rattle.spec.proofs.Limits.{each-held, always-within}
 
 -- ---- what a start tag opens stands where it stood
 
@@ -57,15 +61,15 @@ open-root t n = always-if (Opens outside) _ _ _ (λ e. refl) (λ e. open-node ou
 
 -- ---- what changes around an element does not move it
 
+same-subject : {s t : Subject} {m n : ℕ} → properties s m ≡ properties t n → s ≡ t
+same-subject e = cc
+
 -- how many rdf:li the node around it has had
 stands-li : (k : Kind) (s : Subject) (li li′ : ℕ) → Stands k (properties s li) → Stands k (properties s li′)
 unfolding isXml
 stands-li rdfRDF s li li′ h = cc
 stands-li (nodeElement u m) s li li′ h = h
-stands-li (propertyElement o v) s li li′ (m, e) = (li′, ap (λ (x : Subject). properties x li′) (same e))
-  where
-    same : {s t : Subject} {m n : ℕ} → properties s m ≡ properties t n → s ≡ t
-    same e = cc
+stands-li (propertyElement o v) s li li′ (m, e) = (li′, ap (λ (x : Subject). properties x li′) (same-subject e))
 stands-li xmlElement s li li′ h = cc
 
 stands-counted : (k : Kind) (i : Bytes) (j : Kind) → Stands k (inKind j) → Stands k (inKind (G.counted i j))
@@ -227,3 +231,47 @@ pub always-nested : (b : Option Bytes) (d : Doc) (ts : List Triple) → After (f
 unfolding fresh
 always-nested b d ts here = tt
 always-nested b d ts (event {d = d₁} {ts = ts₁} before e d′ us q) = subst (λ (a : Answer Step). Always Behind a) q (step e d₁ (always-nested b d₁ ts₁ before))
+
+-- ---- a property's subject is held by the node around it
+
+node-bytes : (k : Kind) (s : Subject) (li : ℕ) → inKind k ≡ properties s li → subjectBytes s ≡ kindBytes k
+unfolding inKind inValue kindBytes
+node-bytes rdfRDF s li e = cc
+node-bytes (nodeElement u m) s li e = ap subjectBytes (same-subject (sym e))
+node-bytes (propertyElement p (default d o)) s li e = cc
+node-bytes (propertyElement p (collection cs)) s li e = cc
+node-bytes (propertyElement p (literal x)) s li e = cc
+node-bytes (propertyElement p other) s li e = cc
+node-bytes xmlElement s li e = cc
+
+place-held : (n : ℕ) (fs : List Frame) (s : Subject) (li : ℕ) → placeIn fs ≡ properties s li → All (λ f. frameBytes f ≤ n) fs → subjectBytes s ≤ n
+unfolding placeIn frameBytes
+place-held n [] s li e h = let z : _≡_ {A = ℕ} 0 1 = cc in absurd (omega arith)
+place-held n (f ∷ fs) s li e h =
+    let le : frameBytes f ≤ n = h .0 in
+    omega (arith, node-bytes (f .kind) s li e)
+
+-- the subjects that an open element has at hand
+abbrev HeldSubject : ℕ → Kind → Type 0
+HeldSubject n rdfRDF = Unit {0}
+HeldSubject n (nodeElement s li) = subjectBytes s ≤ n
+HeldSubject n (propertyElement p v) = subjectBytes (p .subject) ≤ n
+HeldSubject n xmlElement = Unit {0}
+
+held-subject : (n : ℕ) (k : Kind) (fs : List Frame) → kindBytes k ≤ n → Stands k (placeIn fs) → All (λ f. frameBytes f ≤ n) fs → HeldSubject n k
+unfolding kindBytes
+held-subject n rdfRDF fs b s h = tt
+held-subject n (nodeElement u li) fs b s h = b
+held-subject n (propertyElement p v) fs b s h = place-held n fs (p .subject) (s .0) (s .1) h
+held-subject n xmlElement fs b s h = tt
+
+held-subjects : (n : ℕ) (fs : List Frame) → Nested fs → All (λ f. frameBytes f ≤ n) fs → All (λ f. HeldSubject n (f .kind)) fs
+unfolding frameBytes
+held-subjects n [] s h = tt
+held-subjects n (f ∷ fs) s h =
+    let le : frameBytes f ≤ n = h .0 in
+    (held-subject n (f .kind) fs (omega arith) (s .0) (h .1), held-subjects n fs (s .1) (h .1))
+
+-- No subject, not even a label, which has no limit of its own, is longer than all held bytes.
+pub subjects-held : (b : Option Bytes) (d : Doc) (ts : List Triple) → Short? b → After (fresh b) d ts → All (λ f. HeldSubject mostHeldBytes (f .kind)) (d .frames)
+subjects-held b d ts s h = held-subjects mostHeldBytes (d .frames) (always-nested b d ts h) (each-held d (always-within b d ts s h))
