@@ -54,3 +54,7 @@ always-when P Q (good a) h = h
 pub always-map : {A : Type 0} (R Q : A → Type 0) (m : Answer A) → Always R m → ((a : A) → R a → Q a) → Always Q m
 always-map R Q (refuse n) h f = tt
 always-map R Q (good a) h f = f a h
+
+pub always-self : {A : Type 0} (m : Answer A) → Always (λ a. m ≡ good a) m
+always-self (refuse n) = tt
+always-self (good a) = refl

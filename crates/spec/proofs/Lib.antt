@@ -13,7 +13,8 @@ pub mod Division
 pub mod Labels
 pub mod Subjects
 pub mod Lists
--- ---- limits, and how elements stand
+-- ---- what events keep: limits, and how elements stand
+pub mod Changes
 pub mod Limits
 pub mod Nesting
 -- ---- lines
