@@ -1,5 +1,5 @@
 -- What holds of every answer that is no refusal.
-use mathlib.Core.Path.{_≡_, refl}
+use mathlib.Core.Path.{_≡_, refl, subst}
 use mathlib.Core.Bool.{Bool, true, false}
 use Rattle.spec.specs.Bytes.{if_then_else_, _>>=_, _>>_, require_or_}
 use Rattle.spec.specs.Numbers.{Answer, refuse, good}
@@ -46,11 +46,6 @@ unfolding if_then_else_
 always-if Q true m k h g = h refl
 always-if Q false m k h g = g refl
 
--- what holds of every answer on a condition
-pub always-when : {A : Type 0} (P : Type 0) (Q : A → Type 0) (m : Answer A) → (P → Always Q m) → Always (λ a. P → Q a) m
-always-when P Q (refuse n) h = tt
-always-when P Q (good a) h = h
-
 pub always-map : {A : Type 0} (R Q : A → Type 0) (m : Answer A) → Always R m → ((a : A) → R a → Q a) → Always Q m
 always-map R Q (refuse n) h f = tt
 always-map R Q (good a) h f = f a h
@@ -58,3 +53,6 @@ always-map R Q (good a) h f = f a h
 pub always-self : {A : Type 0} (m : Answer A) → Always (λ a. m ≡ good a) m
 always-self (refuse n) = tt
 always-self (good a) = refl
+
+pub always-good : {A : Type 0} (Q : A → Type 0) {m : Answer A} {a : A} → m ≡ good a → Always Q m → Q a
+always-good Q e h = subst (Always Q) e h

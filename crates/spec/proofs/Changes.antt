@@ -10,7 +10,7 @@ use Rattle.spec.specs.Numbers.{Answer, refuse, good}
 use Rattle.spec.specs.Pyx.{Attribute, Event, opening, closing, text, instruction}
 use Rattle.spec.specs.Namespaces.{declared}
 use Rattle.spec.specs.NTriples.{Subject, Triple}
-use Rattle.spec.specs.Document.{Value, default, collection, literal, other, Property, Kind, rdfRDF, nodeElement, propertyElement, xmlElement, Frame, Doc, fresh, withFrames, withLabels, Place, outside, nodes, nodesOrText, xml, properties, placeIn, changeValue, fits}
+use Rattle.spec.specs.Document.{Value, default, collection, literal, other, Property, Kind, rdfRDF, nodeElement, propertyElement, xmlElement, Frame, Doc, withFrames, withLabels, Place, outside, nodes, nodesOrText, xml, properties, placeIn, changeValue, fits}
 use Rattle.spec.specs.StartTag.{Tag, readTag, isShort}
 use Rattle.spec.specs.Productions.{Opened, openNode, openProperty, openRoot}
 use Rattle.spec.specs.XmlLiteral.{startTagXml, endTagXml, textXml, takesXml, addXml}

@@ -1,5 +1,5 @@
 -- After every accepted event all limits of document 01 hold of what is kept, so that arrays of these sizes have room for it.
-use mathlib.Core.Path.{_≡_, refl, sym, _∙_, ap, subst}
+use mathlib.Core.Path.{_≡_, refl, sym, _∙_, ap}
 use mathlib.Core.Bool.{Bool, true, false, _&&_, false≢true}
 use mathlib.Core.Option.{Option, none, some}
 use mathlib.Core.List.{List, [], _∷_, _++_, cons≢nil}
@@ -13,7 +13,7 @@ use Rattle.spec.specs.Bytes.{Bytes, if_then_else_, orElse, present, tota
 use Rattle.spec.specs.Bytes as B
 use Rattle.spec.specs.Numbers.{Answer, refuse, good}
 use Rattle.spec.specs.Limits.{mostOpenElements, mostAttributes, mostBindings, mostNameBytes, mostIds, mostIdBytes, mostHeldBytes, mostLabels}
-use Rattle.spec.specs.Pyx.{Attribute, Event, opening, closing, text, instruction}
+use Rattle.spec.specs.Pyx.{Attribute}
 use Rattle.spec.specs.Namespaces.{declared}
 use Rattle.spec.specs.NTriples.{Subject, Triple, digits, dropZeros, decimal}
 use Rattle.spec.specs.Rdf.{rdf}
@@ -22,19 +22,18 @@ use Rattle.spec.specs.Document as D
 use Rattle.spec.specs.StartTag.{Tag, readTag, isShort, allShort}
 use Rattle.spec.specs.Productions.{Opened, openNode, openProperty, openRoot, isLi, propertyIri, ParseType, noParseType, asCollection, asResource, asLiteral, asOther}
 use Rattle.spec.specs.Productions as O
-use Rattle.spec.specs.XmlLiteral.{takesXml, addXml}
-use Rattle.spec.specs.Opening.{Step}
+use Rattle.spec.specs.XmlLiteral.{takesXml}
 use Rattle.spec.specs.Opening as G
 use Rattle.spec.specs.EndTag as C
-use Rattle.spec.specs.RdfXml.{next}
 use Rattle.spec.specs.RdfXml as X
 use Rattle.spec.specs.Calls.{State, isOpen, isClosed, unlawful, mayStart, started, callStart, refused}
-use Rattle.spec.specs.Lists.{After, here, event}
+use Rattle.spec.specs.Lists.{After}
 use Rattle.spec.specs.Within.{All, Short, Short?, ShortSubject, ShortValue, ShortKind, ShortFrame, Within}
 use Rattle.spec.proofs.Booleans.{and-left, and-right}
-use Rattle.spec.proofs.Always.{Always, always-bind, always-any, always-then, always-after, always-test, always-require, always-if, always-when, always-map}
+use Rattle.spec.proofs.Always.{Always, always-bind, always-any, always-then, always-after, always-test, always-require, always-if, always-map, always-good}
 use Rattle.spec.proofs.Calls.{number-positive, Steps, written, always-lawful}
 use Rattle.spec.proofs.Lists.{labels-bound}
+use Rattle.spec.proofs.Changes.{Produces, copy, Change, stays, takes-text, takes-xml, copies, opens, ends-root, ends-node, ends-property, ends-xml, always-holds}
 
 -- ---- a start tag whose names are short
 
@@ -293,51 +292,44 @@ change-every g (f ∷ fs) s h = go (isXmlElement (f .kind)) (change-every g fs s
 change-frames : (g : Value → Value) (fs : List Frame) → Safe g → Frames fs → Frames (changeValue g fs)
 change-frames g fs s h = record { elements = rw change-length (h .elements); bindings = rw change-scope (h .bindings); every = change-every g fs s (h .every) }
 
-takes-xml : (x : Bytes) → Safe (takesXml x)
+xml-safe : (x : Bytes) → Safe (takesXml x)
 unfolding takesXml
-takes-xml x (default d o) h = h
-takes-xml x (collection cs) h = h
-takes-xml x (literal y) h = h
-takes-xml x other h = h
+xml-safe x (default d o) h = h
+xml-safe x (collection cs) h = h
+xml-safe x (literal y) h = h
+xml-safe x other h = h
 
-takes-node : (s : Subject) → ShortSubject s → Safe (C.takesNode s)
+node-safe : (s : Subject) → ShortSubject s → Safe (C.takesNode s)
 unfolding C.takesNode
-takes-node s k (default d o) h = (h .0, k)
-takes-node s k (collection cs) h = (k, h)
-takes-node s k (literal x) h = h
-takes-node s k other h = h
+node-safe s k (default d o) h = (h .0, k)
+node-safe s k (collection cs) h = (k, h)
+node-safe s k (literal x) h = h
+node-safe s k other h = h
 
-takes-text : (s : Bytes) → Safe (X.takesText s)
+text-safe : (s : Bytes) → Safe (X.takesText s)
 unfolding X.takesText
-takes-text s (default d o) h = (h .0, tt)
-takes-text s (collection cs) h = h
-takes-text s (literal x) h = h
-takes-text s other h = h
+text-safe s (default d o) h = (h .0, tt)
+text-safe s (collection cs) h = h
+text-safe s (literal x) h = h
+text-safe s other h = h
 
--- ---- events
+-- ---- every change that an event can make
 
--- what every event keeps
+-- what each change keeps
 record Kept (d : Doc) : Type 0 where
   base : Short? (d .startBase)
   ids : All Short (d .ids)
   open-frames : Frames (d .frames)
 
-abbrev Behind : Step → Type 0
-Behind s = Kept (s .1)
-
 with-frames : (d : Doc) (fs : List Frame) → Kept d → Frames fs → Kept (withFrames fs d)
 unfolding withFrames
 with-frames d fs h k = record { base = h .base; ids = h .ids; open-frames = k }
-
-changed : (g : Value → Value) (d : Doc) → Safe g → Kept d → Kept (withFrames (changeValue g (d .frames)) d)
-changed g d s h = with-frames d _ h (change-frames g (d .frames) s (h .open-frames))
 
 enter-short : (i : Option Bytes) (ids : List Bytes) → Short? i → All Short ids → All Short (G.enter i ids)
 unfolding G.enter
 enter-short none ids h k = k
 enter-short (some i) ids h k = (h, k)
 
--- the counts, judged before the place
 record Counts (as′ : List Attribute) (fs : List Frame) : Type 0 where
   elements : suc (length fs) ≤ mostOpenElements
   bindings : length (declared as′ ++ inScope fs) ≤ mostBindings
@@ -352,39 +344,6 @@ counts-fit as′ fs h =
       elements = leb-true (suc (length fs)) mostOpenElements (and-left a (b && c) h);
       bindings = leb-true (length (declared as′ ++ inScope fs)) mostBindings (and-right b c (and-right a (b && c) h));
     }
-
-open-element : (production : Tag → ℕ → Answer Opened) (m : Bytes) (as′ : List Attribute) (d : Doc) → Kept d → Counts as′ (d .frames)
-    → ((t : Tag) → ShortTag t → Always (Opens (placeIn (d .frames)) t) (production t (d .labels))) → Always Behind (G.openElement production m as′ d)
-unfolding G.openElement G.opened inScope
-open-element production m as′ d h c k =
-    always-bind (λ t. t .bindings ≡ declared as′) Behind _ _ (tag-bindings m as′ d) λ t e.
-    always-bind (λ o. ShortTag t → Opens (placeIn (d .frames)) t o) Behind _ _ (always-when (ShortTag t) (Opens (placeIn (d .frames)) t) (production t (d .labels)) (k t)) λ o g.
-    always-require Behind _ _ _ λ q.
-    (let s : ShortTag t = short-tag t q in
-    let r = g s in
-    record {
-      base = h .base;
-      ids = enter-short (t .id) (d .ids) (s .id) (h .ids);
-      open-frames = record {
-        elements = rw count-length (c .elements);
-        bindings = rw (e, count-scope) (c .bindings);
-        every = ((s .ownBase, r .1), count-every (t .iri) (d .frames) (r .0) (h .open-frames .every));
-      };
-    })
-
-copy-element : (m : Bytes) (as′ : List Attribute) (d : Doc) → Kept d → Counts as′ (d .frames) → Always Behind (G.copyElement m as′ d)
-unfolding G.copyElement withFrames addXml inScope
-copy-element m as′ d h c =
-    always-require Behind _ _ _ λ e.
-    always-after Behind _ _ (record {
-      base = h .base;
-      ids = h .ids;
-      open-frames = record {
-        elements = rw change-length (c .elements);
-        bindings = rw change-scope (c .bindings);
-        every = ((tt, tt), change-every _ (d .frames) (takes-xml _) (h .open-frames .every));
-      };
-    })
 
 -- a property's subject is the subject of the node around it
 abbrev ShortPlace : Place → Type 0
@@ -413,34 +372,36 @@ unfolding placeIn
 place-in [] h = tt
 place-in (f ∷ fs) h = in-kind (f .kind) (h .0 .1)
 
-open-in : (p : Place) (m : Bytes) (as′ : List Attribute) (d : Doc) → placeIn (d .frames) ≡ p → ShortPlace p → Kept d → Counts as′ (d .frames) → Always Behind (G.openIn p m as′ d)
-unfolding G.openIn
-open-in outside m as′ d e k h c = open-element openRoot m as′ d h c λ t s. rw e (open-root t (d .labels) s)
-open-in nodes m as′ d e k h c = open-element openNode m as′ d h c λ t s. rw e (open-node nodes t (d .labels) tt s)
-open-in nodesOrText m as′ d e k h c = open-element openNode m as′ d h c λ t s. rw e (open-node nodesOrText t (d .labels) tt s)
-open-in xml m as′ d e k h c = copy-element m as′ d h c
-open-in (properties u li) m as′ d e k h c = open-element (λ t. openProperty t u li) m as′ d h c λ t s. rw e (open-property t u li (d .labels) k s)
+produced : (p : Place) (t : Tag) (n : ℕ) (o : Opened) → ShortPlace p → ShortTag t → Produces p t n o → Opens p t o
+produced outside t n o k s q = always-good (Opens outside t) q (open-root t n s)
+produced nodes t n o k s q = always-good (Opens nodes t) q (open-node nodes t n tt s)
+produced nodesOrText t n o k s q = always-good (Opens nodesOrText t) q (open-node nodesOrText t n tt s)
+produced (properties u li) t n o k s q = always-good (Opens (properties u li) t) q (open-property t u li n k s)
+produced xml t n o k s q = absurd q
 
-on-opening : (m : Bytes) (as′ : List Attribute) (d : Doc) → Kept d → Always Behind (G.onOpening m as′ d)
-unfolding G.onOpening
-on-opening m as′ d h =
-    always-require Behind _ _ _ λ e₁.
-    always-require Behind _ _ _ λ e₂.
-    open-in (placeIn (d .frames)) m as′ d refl (place-in (d .frames) (h .open-frames .every)) h (counts-fit as′ (d .frames) e₂)
+open-kept : (m : Bytes) (as′ : List Attribute) (d : Doc) (t : Tag) (o : Opened) → Kept d → Counts as′ (d .frames) → readTag m as′ d ≡ good t
+    → Produces (placeIn (d .frames)) t (d .labels) o → ShortTag t → Kept (G.opened t d o .1)
+unfolding G.opened inScope
+open-kept m as′ d t o h c r q s =
+    let e : t .bindings ≡ declared as′ = always-good (λ (x : Tag). x .bindings ≡ declared as′) r (tag-bindings m as′ d) in
+    let p : Opens (placeIn (d .frames)) t o = produced (placeIn (d .frames)) t (d .labels) o (place-in (d .frames) (h .open-frames .every)) s q in
+    record {
+      base = h .base;
+      ids = enter-short (t .id) (d .ids) (s .id) (h .ids);
+      open-frames = record {
+        elements = rw count-length (c .elements);
+        bindings = rw (e, count-scope) (c .bindings);
+        every = ((s .ownBase, p .1), count-every (t .iri) (d .frames) (p .0) (h .open-frames .every));
+      };
+    }
 
-end-value : (p : Property) (v : Value) (l : Option Bytes) (d : Doc) → Kept d → Always Behind (C.endValue p v l d)
-unfolding C.endValue withLabels
-end-value p (default t o) l d h = h
-end-value p (collection cs) l d h = always-require Behind _ _ _ λ e. record { base = h .base; ids = h .ids; open-frames = h .open-frames }
-end-value p (literal x) l d h = always-require Behind _ _ _ λ e. h
-end-value p other l d h = h
-
-end-kind : (k : Kind) (m : Bytes) (l : Option Bytes) (d : Doc) → ShortKind k → Kept d → Always Behind (C.endKind k m l d)
-unfolding C.endKind addXml
-end-kind rdfRDF m l d s h = h
-end-kind (nodeElement u li) m l d s h = changed _ d (takes-node u (s .0)) h
-end-kind (propertyElement p v) m l d s h = end-value p v l d h
-end-kind xmlElement m l d s h = changed _ d (takes-xml _) h
+copy-frames : (m : Bytes) (as′ : List Attribute) (x : Bytes) (fs : List Frame) → Counts as′ fs → Frames fs → Frames (copy m as′ ∷ changeValue (takesXml x) fs)
+unfolding inScope
+copy-frames m as′ x fs c h = record {
+  elements = rw change-length (c .elements);
+  bindings = rw change-scope (c .bindings);
+  every = ((tt, tt), change-every (takesXml x) fs (xml-safe x) (h .every));
+}
 
 -- an element that closes leaves fewer
 fewer : (f : Frame) (fs : List Frame) → Frames (f ∷ fs) → Frames fs
@@ -454,30 +415,26 @@ fewer f fs h =
       every = h .every .1;
     }
 
-close-element : (m : Bytes) (fs : List Frame) (d : Doc) → Kept d → Frames fs → Always Behind (C.closeElement m fs d)
-unfolding C.closeElement
-close-element m [] d h k = tt
-close-element m (f ∷ fs) d h k =
-    always-require Behind _ _ _ λ e. end-kind (f .kind) m _ (withFrames fs d) (k .every .0 .1) (with-frames d fs h (fewer f fs k))
+-- the frames without the element that closes, and its kind
+without : (d : Doc) (f : Frame) (fs : List Frame) → d .frames ≡ f ∷ fs → Kept d → Frames fs × ShortKind (f .kind)
+without d f fs is h = let k : Frames (f ∷ fs) = rw is at (h .open-frames) in (fewer f fs k, k .every .0 .1)
 
-on-text : (p : Place) (v : Bytes) (d : Doc) → Kept d → Always Behind (X.onText p v d)
-unfolding X.onText if_then_else_ addXml
-on-text outside v d h = always-require Behind _ _ _ λ e. h
-on-text nodes v d h = always-require Behind _ _ _ λ e. h
-on-text (properties s li) v d h = always-require Behind _ _ _ λ e. h
-on-text nodesOrText v d h = go (X.isBlank v)
-  where
-    go : (b : Bool) → Behind ([], (if b then d else withFrames (changeValue (X.takesText v) (d .frames)) d))
-    go true = h
-    go false = changed _ d (takes-text v) h
-on-text xml v d h = changed _ d (takes-xml _) h
-
-on-event : (e : Event) (d : Doc) → Kept d → Always Behind (X.onEvent e d)
-unfolding X.onEvent
-on-event (opening m as′) d h = on-opening m as′ d h
-on-event (closing m) d h = close-element m (d .frames) d h (h .open-frames)
-on-event (text v) d h = on-text (placeIn (d .frames)) v d h
-on-event instruction d h = h
+kept : {d d′ : Doc} {us : List Triple} → Change d us d′ → Kept d → Kept d′
+unfolding withLabels
+kept stays h = h
+kept {d} (takes-text v e) h = with-frames d _ h (change-frames (X.takesText v) (d .frames) (text-safe v) (h .open-frames))
+kept {d} (takes-xml x e) h = with-frames d _ h (change-frames (takesXml x) (d .frames) (xml-safe x) (h .open-frames))
+kept {d} (copies m as′ x e c) h = with-frames d _ h (copy-frames m as′ x (d .frames) (counts-fit as′ (d .frames) c) (h .open-frames))
+kept {d} (opens m as′ t o c r q s) h = open-kept m as′ d t o h (counts-fit as′ (d .frames) c) r q (short-tag t s)
+kept {d} (ends-root f fs is k) h = with-frames d fs h (without d f fs is h .0)
+kept {d} (ends-node f fs s li is k) h =
+    let w = without d f fs is h in
+    let short : ShortKind (nodeElement s li) = rw k at (w .1) in
+    with-frames d _ h (change-frames (C.takesNode s) fs (node-safe s (short .0)) (w .0))
+kept {d} (ends-property f fs p v l ws n is k q) h =
+    let w : Kept (withFrames fs d) = with-frames d fs h (without d f fs is h .0) in
+    record { base = w .base; ids = w .ids; open-frames = w .open-frames }
+kept {d} (ends-xml f fs x is k) h = with-frames d _ h (change-frames (takesXml x) fs (xml-safe x) (without d f fs is h .0))
 
 -- ---- the theorem
 
@@ -499,28 +456,20 @@ fits-true d h =
       held = leb-true (heldBytes d) mostHeldBytes (and-right b c (and-right a (b && c) h));
     }
 
-abbrev Checked : Step → Type 0
-Checked s = Kept (s .1) × Fits (s .1)
-
-step : (e : Event) (d : Doc) → Kept d → Always Checked (next e d)
-unfolding next X.within
-step e d h = always-bind Behind Checked _ _ (on-event e d h) λ s k. always-require Checked _ _ _ λ g. (k, fits-true (s .1) g)
-
 start-fits : (b : Option Bytes) → Short? b → Fits (fresh b)
 unfolding fresh D.all
 start-fits none h = record { idCount = omega arith; idBytes = omega arith; held = omega arith }
 start-fits (some b) h = let le : length b ≤ 1_024 = h in record { idCount = omega arith; idBytes = omega arith; held = omega arith }
 
-after : (b : Option Bytes) (d : Doc) (ts : List Triple) → Short? b → After (fresh b) d ts → Kept d × Fits d
+start-kept : (b : Option Bytes) → Short? b → Kept (fresh b)
 unfolding fresh mostOpenElements mostBindings inScope
-after b d ts s here = (record { base = s; ids = tt; open-frames = record { elements = omega arith; bindings = omega arith; every = tt } }, start-fits b s)
-after b d ts s (event {d = d₁} {ts = ts₁} before e d′ us q) = subst (λ (a : Answer Step). Always Checked a) q (step e d₁ (after b d₁ ts₁ s before .0))
+start-kept b s = record { base = s; ids = tt; open-frames = record { elements = omega arith; bindings = omega arith; every = tt } }
 
 -- From a start with no base or a short one, all limits hold of what is kept behind every accepted event.
 pub always-within : (b : Option Bytes) (d : Doc) (ts : List Triple) → Short? b → After (fresh b) d ts → Within d
 unfolding fresh mostLabels
 always-within b d ts s h =
-    let k : Kept d × Fits d = after b d ts s h in
+    let k : Kept d × Fits d = always-holds (λ d. Kept d × Fits d) (λ d d′ us c f k. (kept c (k .0), fits-true d′ f)) (start-kept b s, start-fits b s) h in
     let le : d .labels < 100_000_000 = labels-bound (fresh b) d ts (omega arith) h in
     record {
       elements = k .0 .open-frames .elements;

@@ -6,24 +6,22 @@ use mathlib.Core.List.{List, [], _∷_}
 use Prim.Native.Nat.{ℕ, _≤_}
 use native.Mathlib.Omega.{arith}
 use Rattle.spec.specs.Bytes.{Bytes, if_then_else_}
-use Rattle.spec.specs.Numbers.{Answer}
-use Rattle.spec.specs.Pyx.{Attribute, Event, opening, closing, text, instruction}
 use Rattle.spec.specs.NTriples.{Subject, Triple}
 use Rattle.spec.specs.Document.{Value, default, collection, literal, other, Property, Kind, rdfRDF, nodeElement, propertyElement, xmlElement, Frame, Doc, fresh, withFrames, withLabels, withKind, Place, outside, nodes, nodesOrText, xml, properties, inValue, inKind, placeIn, changeValue, onValue, isXmlElement, subjectBytes, kindBytes, frameBytes}
 use Rattle.spec.specs.StartTag.{Tag}
 use Rattle.spec.specs.Productions.{Opened, openNode, openProperty, openRoot, ParseType, noParseType, asCollection, asResource, asLiteral, asOther}
 use Rattle.spec.specs.Productions as O
-use Rattle.spec.specs.XmlLiteral.{takesXml, addXml}
-use Rattle.spec.specs.Opening.{Step, isXml}
+use Rattle.spec.specs.XmlLiteral.{takesXml}
+use Rattle.spec.specs.Opening.{isXml}
 use Rattle.spec.specs.Opening as G
 use Rattle.spec.specs.EndTag as C
-use Rattle.spec.specs.RdfXml.{next}
 use Rattle.spec.specs.RdfXml as X
-use Rattle.spec.specs.Lists.{After, here, event}
+use Rattle.spec.specs.Lists.{After}
 use Rattle.spec.specs.Limits.{mostHeldBytes}
 use Rattle.spec.specs.Within.{All, Short?}
 use Rattle.spec.specs.Nesting.{Stands, Nested}
-use Rattle.spec.proofs.Always.{Always, always-bind, always-any, always-after, always-require, always-if}
+use Rattle.spec.proofs.Always.{Always, always-any, always-after, always-require, always-if, always-good}
+use Rattle.spec.proofs.Changes.{Produces, Change, stays, takes-text, takes-xml, copies, opens, ends-root, ends-node, ends-property, ends-xml, always-holds}
 use Rattle.spec.proofs.Limits.{each-held, always-within}
 
 -- ---- what a start tag opens stands where it stood
@@ -132,105 +130,58 @@ change-nested g (f ∷ fs) s h = go (isXmlElement (f .kind)) (change-nested g fs
     go true k = (subst (Stands (f .kind)) (sym (still-place g fs s)) (h .0), k)
     go false k = (changed-stands g (f .kind) (placeIn fs) (h .0), h .1)
 
-takes-xml : (x : Bytes) → Still (takesXml x)
+xml-still : (x : Bytes) → Still (takesXml x)
 unfolding takesXml inValue
-takes-xml x (default d o) = refl
-takes-xml x (collection cs) = refl
-takes-xml x (literal y) = refl
-takes-xml x other = refl
+xml-still x (default d o) = refl
+xml-still x (collection cs) = refl
+xml-still x (literal y) = refl
+xml-still x other = refl
 
-takes-node : (s : Subject) → Still (C.takesNode s)
+node-still : (s : Subject) → Still (C.takesNode s)
 unfolding C.takesNode inValue
-takes-node s (default d o) = refl
-takes-node s (collection cs) = refl
-takes-node s (literal x) = refl
-takes-node s other = refl
+node-still s (default d o) = refl
+node-still s (collection cs) = refl
+node-still s (literal x) = refl
+node-still s other = refl
 
-takes-text : (s : Bytes) → Still (X.takesText s)
+text-still : (s : Bytes) → Still (X.takesText s)
 unfolding X.takesText inValue
-takes-text s (default d o) = refl
-takes-text s (collection cs) = refl
-takes-text s (literal x) = refl
-takes-text s other = refl
+text-still s (default d o) = refl
+text-still s (collection cs) = refl
+text-still s (literal x) = refl
+text-still s other = refl
 
--- ---- events
+-- ---- every change that an event can make
 
-abbrev Behind : Step → Type 0
-Behind s = Nested (s .1 .frames)
+produced : (p : Place) (t : Tag) (n : ℕ) (o : Opened) → Produces p t n o → Stands (o .kind) p
+unfolding isXml
+produced outside t n o q = always-good (Opens outside) q (open-root t n)
+produced nodes t n o q = always-good (Opens nodes) q (open-node nodes t n refl)
+produced nodesOrText t n o q = always-good (Opens nodesOrText) q (open-node nodesOrText t n refl)
+produced (properties s li) t n o q = always-good (Opens (properties s li)) q (open-property t s li n)
+produced xml t n o q = absurd q
 
-open-element : (production : Tag → ℕ → Answer Opened) (m : Bytes) (as′ : List Attribute) (d : Doc) → Nested (d .frames)
-    → ((t : Tag) → Always (Opens (placeIn (d .frames))) (production t (d .labels))) → Always Behind (G.openElement production m as′ d)
-unfolding G.openElement G.opened
-open-element production m as′ d h k =
-    always-any Behind _ _ λ t.
-    always-bind (Opens (placeIn (d .frames))) Behind _ _ (k t) λ o g.
-    always-require Behind _ _ _ λ e. (stands-in-counted (o .kind) (t .iri) (d .frames) g, count-nested (t .iri) (d .frames) h)
+-- without the element that closes
+without : (f : Frame) (fs gs : List Frame) → gs ≡ f ∷ fs → Nested gs → Nested fs
+without f fs gs is h = let k : Nested (f ∷ fs) = rw is at h in k .1
 
-copy-element : (m : Bytes) (as′ : List Attribute) (d : Doc) → placeIn (d .frames) ≡ xml → Nested (d .frames) → Always Behind (G.copyElement m as′ d)
-unfolding G.copyElement withFrames addXml
-copy-element m as′ d e h =
-    always-require Behind _ _ _ λ a.
-    always-after Behind _ _ (still-place _ (d .frames) (takes-xml _) ∙ e, change-nested _ (d .frames) (takes-xml _) h)
-
-open-in : (p : Place) (m : Bytes) (as′ : List Attribute) (d : Doc) → placeIn (d .frames) ≡ p → Nested (d .frames) → Always Behind (G.openIn p m as′ d)
-unfolding G.openIn isXml
-open-in outside m as′ d e h = open-element openRoot m as′ d h λ t. rw e (open-root t (d .labels))
-open-in nodes m as′ d e h = open-element openNode m as′ d h λ t. rw e (open-node nodes t (d .labels) refl)
-open-in nodesOrText m as′ d e h = open-element openNode m as′ d h λ t. rw e (open-node nodesOrText t (d .labels) refl)
-open-in xml m as′ d e h = copy-element m as′ d e h
-open-in (properties u li) m as′ d e h = open-element (λ t. openProperty t u li) m as′ d h λ t. rw e (open-property t u li (d .labels))
-
-on-opening : (m : Bytes) (as′ : List Attribute) (d : Doc) → Nested (d .frames) → Always Behind (G.onOpening m as′ d)
-unfolding G.onOpening
-on-opening m as′ d h = always-require Behind _ _ _ λ e₁. always-require Behind _ _ _ λ e₂. open-in (placeIn (d .frames)) m as′ d refl h
-
-end-value : (p : Property) (v : Value) (l : Option Bytes) (d : Doc) → Nested (d .frames) → Always Behind (C.endValue p v l d)
-unfolding C.endValue withLabels
-end-value p (default t o) l d h = h
-end-value p (collection cs) l d h = always-require Behind _ _ _ λ e. h
-end-value p (literal x) l d h = always-require Behind _ _ _ λ e. h
-end-value p other l d h = h
-
-end-kind : (k : Kind) (m : Bytes) (l : Option Bytes) (d : Doc) → Nested (d .frames) → Always Behind (C.endKind k m l d)
-unfolding C.endKind withFrames addXml
-end-kind rdfRDF m l d h = h
-end-kind (nodeElement u li) m l d h = change-nested _ (d .frames) (takes-node u) h
-end-kind (propertyElement p v) m l d h = end-value p v l d h
-end-kind xmlElement m l d h = change-nested _ (d .frames) (takes-xml _) h
-
-close-element : (m : Bytes) (fs : List Frame) (d : Doc) → Nested fs → Always Behind (C.closeElement m fs d)
-unfolding C.closeElement withFrames
-close-element m [] d h = tt
-close-element m (f ∷ fs) d h = always-require Behind _ _ _ λ e. end-kind (f .kind) m _ (withFrames fs d) (h .1)
-
-on-text : (p : Place) (v : Bytes) (d : Doc) → Nested (d .frames) → Always Behind (X.onText p v d)
-unfolding X.onText withFrames if_then_else_ addXml
-on-text outside v d h = always-require Behind _ _ _ λ e. h
-on-text nodes v d h = always-require Behind _ _ _ λ e. h
-on-text (properties s li) v d h = always-require Behind _ _ _ λ e. h
-on-text nodesOrText v d h = go (X.isBlank v)
-  where
-    go : (b : Bool) → Behind ([], (if b then d else withFrames (changeValue (X.takesText v) (d .frames)) d))
-    go true = h
-    go false = change-nested _ (d .frames) (takes-text v) h
-on-text xml v d h = change-nested _ (d .frames) (takes-xml _) h
-
-on-event : (e : Event) (d : Doc) → Nested (d .frames) → Always Behind (X.onEvent e d)
-unfolding X.onEvent
-on-event (opening m as′) d h = on-opening m as′ d h
-on-event (closing m) d h = close-element m (d .frames) d h
-on-event (text v) d h = on-text (placeIn (d .frames)) v d h
-on-event instruction d h = h
-
-step : (e : Event) (d : Doc) → Nested (d .frames) → Always Behind (next e d)
-unfolding next X.within
-step e d h = always-bind Behind Behind _ _ (on-event e d h) λ s k. always-require Behind _ _ _ λ g. k
+nested : {d d′ : Doc} {us : List Triple} → Change d us d′ → Nested (d .frames) → Nested (d′ .frames)
+unfolding withFrames withLabels G.opened
+nested stays h = h
+nested {d} (takes-text v e) h = change-nested (X.takesText v) (d .frames) (text-still v) h
+nested {d} (takes-xml x e) h = change-nested (takesXml x) (d .frames) (xml-still x) h
+nested {d} (copies m as′ x e c) h = (still-place (takesXml x) (d .frames) (xml-still x) ∙ e, change-nested (takesXml x) (d .frames) (xml-still x) h)
+nested {d} (opens m as′ t o c r q s) h =
+    (stands-in-counted (o .kind) (t .iri) (d .frames) (produced (placeIn (d .frames)) t (d .labels) o q), count-nested (t .iri) (d .frames) h)
+nested {d} (ends-root f fs is k) h = without f fs (d .frames) is h
+nested {d} (ends-node f fs s li is k) h = change-nested (C.takesNode s) fs (node-still s) (without f fs (d .frames) is h)
+nested {d} (ends-property f fs p v l ws n is k q) h = without f fs (d .frames) is h
+nested {d} (ends-xml f fs x is k) h = change-nested (takesXml x) fs (xml-still x) (without f fs (d .frames) is h)
 
 -- Behind every accepted event, rdf:RDF is the outermost element, and each property stands directly in the node whose subject it has.
 pub always-nested : (b : Option Bytes) (d : Doc) (ts : List Triple) → After (fresh b) d ts → Nested (d .frames)
 unfolding fresh
-always-nested b d ts here = tt
-always-nested b d ts (event {d = d₁} {ts = ts₁} before e d′ us q) = subst (λ (a : Answer Step). Always Behind a) q (step e d₁ (always-nested b d₁ ts₁ before))
+always-nested b d ts h = always-holds (λ d. Nested (d .frames)) (λ d d′ us c f k. nested c k) tt h
 
 -- ---- a property's subject is held by the node around it
 
