@@ -2,7 +2,7 @@
 use mathlib.Core.Path.{_≡_, refl, sym, _∙_, ap, subst}
 use mathlib.Core.Logic.{_⊎_, inl, inr}
 use mathlib.Core.Bool.{Bool, true}
-use mathlib.Core.Option.{none}
+use mathlib.Core.Option.{Option, none}
 use mathlib.Core.List.{List, [], _∷_, _++_, append-assoc, append-nil, cons≢nil}
 use Prim.Native.Nat.{ℕ, zero, suc, _+_, _≤_, _<_}
 use native.Mathlib.Omega.{arith}
@@ -19,9 +19,8 @@ use Rattle.spec.specs.Feeding.{Run, ending, inFront, onward, atMost, run
 use Rattle.spec.specs.Limits.{programRoom}
 use Rattle.spec.specs.Pyx2nt.{lastLine, print, pyx2nt}
 use Rattle.spec.specs.Document.{Doc, fresh}
-use Rattle.spec.proofs.PyxCut.{cut-waits}
-use Rattle.spec.proofs.Refusals.{Why, no-event, given-only-when, given-when}
-use Rattle.spec.proofs.Calls.{Reported, did, gave, reported, number-positive, number-injective, ByTable, step-by-table, Takes, step-takes, step-room, step-final}
+use Rattle.spec.proofs.Refusals.{no-event, given-when, only-empty}
+use Rattle.spec.proofs.Calls.{Reported, did, gave, reported, number-positive, number-injective, ByTable, step-by-table, Takes, zero-counts, step-takes, step-room, step-final, Steps, at-start, and-step, Written, written}
 
 -- ---- a run is a step, and the run behind it
 
@@ -213,6 +212,24 @@ every-division-runs room k rest ps q =
     let w : Fed room k rest ps q = patient ps room k rest q in
     subst (λ (n : Run). Feeds room k rest ps q n) (as-one-piece (w .1)) (w .1)
 
+-- ---- a run is steps of a document
+
+feeds-steps : (b : Option Bytes) {room : ℕ → ℕ} {k : ℕ} {rest : Bytes} {ps : List Bytes} {q : State} {n : Run} (w : Bytes) → Feeds room k rest ps q n → Steps b q w → Steps b (n .behind) (w ++ n .output)
+unfolding inFront ending
+feeds-steps b w (gets h) s = feeds-steps b w h s
+feeds-steps b {rest = rest} {ps = ps} {q = q} w (again other a h) s = feeds-steps b w h (subst (λ (x : State). Steps b x w) (sym (same-state (isEmpty ps) rest other q a)) s)
+feeds-steps b {room} {k} {rest} {ps} {q} w (does {n = n} a h) s =
+    let r : Report = hostStep ps rest (room k) q in
+    subst (λ (x : Bytes). Steps b (n .behind) x) (append-assoc w (r .output) (n .output)) (feeds-steps b (w ++ r .output) h (and-step s (isEmpty ps) rest (room k)))
+feeds-steps b {room} {k} {rest} {ps} {q} w (ends a c) s =
+    let r : Report = hostStep ps rest (room k) q in
+    let e : r .output ≡ [] = zero-counts q r (step-by-table (isEmpty ps) rest (room k) q) a .1 in
+    subst (λ (x : Bytes). Steps b (r .behind) (w ++ x)) e (and-step s (isEmpty ps) rest (room k))
+
+-- What a host's run from a fresh document writes is the lines of its accepted events, which lead to the document behind it.
+pub run-writes : (b : Option Bytes) (room : ℕ → ℕ) (k : ℕ) (ps : List Bytes) (n : Run) → Feeds room k [] ps (isOpen (fresh b)) n → Written b (n .behind) (n .output)
+run-writes b room k ps n h = written b (n .behind) (n .output) (feeds-steps b [] h at-start)
+
 -- ---- the program pyx2nt
 
 printed-on : (k : ℕ) (r : Report) (n : Run) → printed k (inFront r n) ≡ r .output ++ printed (suc k) n
@@ -238,13 +255,6 @@ print-end f k b rest s h = go (callStep true (b ∷ rest) programRoom s .answer)
     go : (a : ℕ) → callStep true (b ∷ rest) programRoom s .answer ≡ a → print (suc f) k (b ∷ rest) s ≡ lastLine (callStep true (b ∷ rest) programRoom s .answer) k
     go zero e = absurd (h e)
     go (suc a) e = rw (e, print) refl
-
--- with "no more", a step answers 1 only for an empty rest
-only-empty : (b : ℕ) (rest : Bytes) (room : ℕ) (q : State) → callStep true (b ∷ rest) room q .answer ≡ 1 → ⊥
-only-empty b rest room q h = go q (given-only-when true (b ∷ rest) room q Incomplete refl h)
-  where
-    go : (q : State) → Why true (b ∷ rest) room q Incomplete → ⊥
-    go q (no-event d e) = cons≢nil (cut-waits (b ∷ rest) e)
 
 -- a document that goes on is open
 goes-on-open : (d : Doc) (r : Report) → Reported d r → r .answer ≡ 0 → (d′ : Doc) × (r .behind ≡ isOpen d′)
@@ -282,7 +292,7 @@ print-step f k b rest d h ih = go (callStep true (b ∷ rest) programRoom (isOpe
         let no : r .answer ≡ 0 → ⊥ = λ z. omega (arith, z, e) in
         let whole : programRun k (b ∷ rest) (isOpen d) ≡ ending r =
         run-onward (λ i. programRoom) k (b ∷ rest) (isOpen d) ∙ onward-end r _ no in
-        print-end f k b rest (isOpen d) no ∙ sym (ap (printed k) whole ∙ printed-end k r (only-empty b rest programRoom (isOpen d)))
+        print-end f k b rest (isOpen d) no ∙ sym (ap (printed k) whole ∙ printed-end k r λ z. cons≢nil (only-empty (b ∷ rest) programRoom (isOpen d) z))
 
 print-run : (f k : ℕ) (rest : Bytes) (d : Doc) → length rest < f → print f k rest (isOpen d) ≡ printed k (programRun k rest (isOpen d))
 print-run zero k rest d h = absurd (omega arith)

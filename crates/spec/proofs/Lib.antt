@@ -11,6 +11,7 @@ pub mod Refusals
 pub mod Division
 -- ---- labels, subjects, lists
 pub mod Labels
+pub mod Decimal
 pub mod Subjects
 pub mod Lists
 -- ---- what events keep: limits, and how elements stand

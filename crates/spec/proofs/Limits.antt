@@ -2,11 +2,10 @@
 use mathlib.Core.Path.{_≡_, refl, sym, _∙_, ap}
 use mathlib.Core.Bool.{Bool, true, false, _&&_, false≢true}
 use mathlib.Core.Option.{Option, none, some}
-use mathlib.Core.List.{List, [], _∷_, _++_, cons≢nil}
-use Prim.Native.Nat.{ℕ, zero, suc, _+_, _*_, _/_, _%_, _^_, _≤_, _<_}
+use mathlib.Core.List.{List, [], _∷_, _++_}
+use Prim.Native.Nat.{ℕ, suc, _≤_, _<_}
 use native.Mathlib.Omega.{arith}
-use native.Mathlib.Nat.{pow-suc}
-use lib.Dec.{eqb, leb}
+use lib.Dec.{leb}
 use lib.ListN.{length, length-append}
 use borrow.Author.Tests.{ltb-true, leb-true}
 use Rattle.spec.specs.Bytes.{Bytes, if_then_else_, orElse, present, total}
@@ -15,7 +14,7 @@ use Rattle.spec.specs.Numbers.{Answer, refuse, good}
 use Rattle.spec.specs.Limits.{mostOpenElements, mostAttributes, mostBindings, mostNameBytes, mostIds, mostIdBytes, mostHeldBytes, mostLabels}
 use Rattle.spec.specs.Pyx.{Attribute}
 use Rattle.spec.specs.Namespaces.{declared}
-use Rattle.spec.specs.NTriples.{Subject, Triple, digits, dropZeros, decimal}
+use Rattle.spec.specs.NTriples.{Subject, Triple, decimal}
 use Rattle.spec.specs.Rdf.{rdf}
 use Rattle.spec.specs.Document.{Value, default, collection, literal, other, Property, Kind, rdfRDF, nodeElement, propertyElement, xmlElement, Frame, Doc, fresh, withFrames, withLabels, withKind, inScope, Place, outside, nodes, nodesOrText, xml, properties, inValue, inKind, placeIn, changeValue, onValue, isXmlElement, frameBytes, heldBytes, fits}
 use Rattle.spec.specs.Document as D
@@ -32,6 +31,7 @@ use Rattle.spec.specs.Within.{All, Short, Short?, ShortSubject, ShortVal
 use Rattle.spec.proofs.Booleans.{and-left, and-right}
 use Rattle.spec.proofs.Always.{Always, always-bind, always-any, always-then, always-after, always-test, always-require, always-if, always-map, always-good}
 use Rattle.spec.proofs.Calls.{number-positive, Steps, written, always-lawful}
+use Rattle.spec.proofs.Decimal.{decimal-length}
 use Rattle.spec.proofs.Lists.{labels-bound}
 use Rattle.spec.proofs.Changes.{Produces, copy, Change, stays, takes-text, takes-xml, copies, opens, ends-root, ends-node, ends-property, ends-xml, always-holds}
 
@@ -81,50 +81,7 @@ tag-bindings n as′ d =
     always-any _ _ _ λ datatype′.
     always-any _ _ _ λ type′. refl
 
--- ---- rdf:_k is short: a number below 10ʲ has at most j digits
-
-drop-zeros-end : (c : ℕ) (s : Bytes) → length (dropZeros (s ++ (c ∷ []))) ≤ length (dropZeros s) + 1
-unfolding dropZeros
-drop-zeros-end c [] = go (eqb c (B.byte "0"))
-  where
-    go : (b : Bool) → length {A = ℕ} (elim b [ true ↦ [] | false ↦ c ∷ [] ]) ≤ 1
-    go true = omega arith
-    go false = omega arith
-drop-zeros-end c (a ∷ s) = go (eqb a (B.byte "0")) (drop-zeros-end c s)
-  where
-    go : (b : Bool) → length (dropZeros (s ++ (c ∷ []))) ≤ length (dropZeros s) + 1
-        → length {A = ℕ} (elim b [ true ↦ dropZeros (s ++ (c ∷ [])) | false ↦ a ∷ (s ++ (c ∷ [])) ]) ≤ length {A = ℕ} (elim b [ true ↦ dropZeros s | false ↦ a ∷ s ]) + 1
-    go true h = h
-    go false h = simp length-append (omega arith)
-
-drop-zeros-zero : (s : Bytes) → dropZeros s ≡ [] → dropZeros (s ++ (48 ∷ [])) ≡ []
-unfolding dropZeros B.byte
-drop-zeros-zero [] h = refl
-drop-zeros-zero (a ∷ s) h = go (eqb a 48) (drop-zeros-zero s) h
-  where
-    go : (b : Bool) → (dropZeros s ≡ [] → dropZeros (s ++ (48 ∷ [])) ≡ []) → _≡_ {A = Bytes} (elim b [ true ↦ dropZeros s | false ↦ a ∷ s ]) []
-        → _≡_ {A = Bytes} (elim b [ true ↦ dropZeros (s ++ (48 ∷ [])) | false ↦ a ∷ (s ++ (48 ∷ [])) ]) []
-    go true f h = f h
-    go false f h = absurd (cons≢nil h)
-
-no-digits : (k : ℕ) → dropZeros (digits k 0) ≡ []
-unfolding digits dropZeros
-no-digits zero = refl
-no-digits (suc k) = drop-zeros-zero (digits k 0) (no-digits k)
-
-few-digits : (j k n : ℕ) → n < 10 ^ j → length (dropZeros (digits k n)) ≤ j
-unfolding digits dropZeros
-few-digits zero k n h = let z : n ≡ 0 = omega arith in rw (z, no-digits k) (omega arith)
-few-digits (suc j) zero n h = omega arith
-few-digits (suc j) (suc k) n h =
-    let h′ : n < 10 ^ j * 10 = rw (pow-suc 10 j) at h in
-    let ih : length (dropZeros (digits k (n / 10))) ≤ j = few-digits j k (n / 10) (omega arith) in
-    omega (arith, drop-zeros-end (48 + n % 10) (digits k (n / 10)))
-
--- a number below 10ʲ is written in at most j digits
-pub decimal-length : (j n : ℕ) → n < 10 ^ j → length (decimal n) ≤ j
-unfolding decimal
-decimal-length j n h = few-digits j 20 n h
+-- ---- rdf:_k is short
 
 property-iri-short : (i : Bytes) (li : ℕ) → Short i → (isLi i ≡ true → li < mostLabels) → Short (propertyIri i (suc li))
 unfolding propertyIri if_then_else_ rdf B.ascii mostNameBytes mostLabels

@@ -28,6 +28,7 @@ use Rattle.spec.specs.RdfXml.{next}
 use Rattle.spec.specs.RdfXml as X
 use Rattle.spec.specs.PyxCut.{Cut, wait, unended, tooLong, whole, cut}
 use Rattle.spec.specs.Calls.{State, isOpen, isClosed, unlawful, Accepted, accept, firstEvent, stepped, callStep, refused, refusedIn}
+use Rattle.spec.proofs.PyxCut.{cut-waits}
 use Rattle.spec.proofs.Calls.{number-injective, number-positive}
 
 -- ---- an answer that is no refusal, or one that closes
@@ -312,3 +313,10 @@ given-when last rest room q x no-state = refl
 given-when last rest room q x (was-closed d) = refl
 given-when last rest room q x (no-event d e) = simp e
 given-when last rest room q x (no-room d b e (event, us, d′, p, n, lt)) = simp (e, p, n, lt-leb (length (write us)) room lt)
+
+-- with "no more", 1 is given only for an empty rest
+pub only-empty : (rest : Bytes) (room : ℕ) (q : State) → callStep true rest room q .answer ≡ 1 → rest ≡ []
+only-empty rest room q h = go q (given-only-when true rest room q Incomplete refl h)
+  where
+    go : (q : State) → Why true rest room q Incomplete → rest ≡ []
+    go q (no-event d e) = cut-waits rest e
