@@ -14,6 +14,7 @@ use Rattle.spec.specs.Bytes.{Bytes, _>>=_, _>>_, require_or_}
 use Rattle.spec.specs.Numbers.{number, Effect, stays-open, unchanged, becomes-closed, effect, closes, Answer, refuse, good}
 use Rattle.spec.specs.declared.Refusal.{Refusal}
 use Rattle.spec.specs.declared.Refusal.the-variants.{Incomplete, NoRoom, BadState, Closed, NotPyx, NotWellFormed, OverLimit, NoNamespace, NotNcName, BadLanguage, BadIri, RepeatedId, BadLabel, Reserved, TwoNames, StrayText, EmptyLiteral, LabelsSpent}
+use Rattle.spec.specs.Limits.{mostEventBytes}
 use Rattle.spec.specs.Pyx.{Event, readEvent}
 use Rattle.spec.specs.PyxCut.{Cut, wait, unended, tooLong, whole, cut}
 use Rattle.spec.specs.NTriples.{Triple, write, line}
@@ -22,7 +23,7 @@ use Rattle.spec.specs.RdfXml.{next, finish}
 use Rattle.spec.specs.Lists.{After, here, event}
 use Rattle.spec.specs.Calls.{State, isOpen, isClosed, unlawful, Report, markClosed, markedBy, refused, refusedIn, mayStart, started, callStart, firstEvent, Accepted, accept, stepped, callStep, finished, callFinish}
 use Rattle.spec.proofs.Always.{Always, always-any, always-require}
-use Rattle.spec.proofs.PyxCut.{cut-final, cut-front}
+use Rattle.spec.proofs.PyxCut.{cut-final, Front, cut-front}
 
 -- ---- a step on an open document
 
@@ -154,6 +155,18 @@ start-answer lengths b t = go (callStart lengths b t) (start-by-table lengths b 
     go r (inl e) = omega arith
     go r (inr (x, e)) = rw e (numbered x .1)
 
+-- the number tells all of the report
+pub told : (t : State) (r : Report) (x : Refusal) → ByTable t r → r .answer ≡ number x → r ≡ refusedIn t x
+unfolding refusedIn refused
+told t r x (inl e) h = absurd (number-positive x (sym h ∙ e))
+told t r x (inr (y, e)) h = e ∙ ap (refusedIn t) (number-injective y x (sym (ap (λ (z : Report). z .answer) e) ∙ h))
+
+-- 1 and 2 leave the state as it was
+pub same-state : (last : Bool) (s : Bytes) (room : ℕ) (t : State) → (callStep last s room t .answer ≡ 1) ⊎ (callStep last s room t .answer ≡ 2) → callStep last s room t .behind ≡ t
+unfolding refusedIn refused markedBy
+same-state last s room t (inl h) = ap (λ (z : Report). z .behind) (told t (callStep last s room t) Incomplete (step-by-table last s room t) h)
+same-state last s room t (inr h) = ap (λ (z : Report). z .behind) (told t (callStep last s room t) NoRoom (step-by-table last s room t) h)
+
 -- every non-zero answer consumes 0 and writes 0
 pub zero-counts : (t : State) (r : Report) → ByTable t r → (r .answer ≡ 0 → ⊥) → (r .consumed ≡ 0) × (r .output ≡ [])
 unfolding refusedIn refused
@@ -185,9 +198,12 @@ accept-size : (bytes : Bytes) (room : ℕ) (d : Doc) → Always (λ a. a .size �
 unfolding accept
 accept-size bytes room d = always-any _ _ _ λ e. always-any _ _ _ λ s. always-require _ _ _ _ λ h. refl
 
--- at least one byte, at most all, and exactly the first event
-abbrev pub Takes : Bool → Bytes → ℕ → Type 0
-Takes last rest n = (1 ≤ n) × (n ≤ length rest) × (cut last rest ≡ whole (take n rest))
+-- at least one byte, at most all, no more than an event may have, and exactly the first event
+pub record Takes (last : Bool) (rest : Bytes) (n : ℕ) : Type 0 where
+  pub some : 1 ≤ n
+  pub atMost : n ≤ length rest
+  pub inLimit : n ≤ mostEventBytes
+  pub event : cut last rest ≡ whole (take n rest)
 
 -- an accepted step consumes the first event of the rest, byte for byte
 pub step-takes : (last : Bool) (rest : Bytes) (room : ℕ) (t : State) → callStep last rest room t .answer ≡ 0 → Takes last rest (callStep last rest room t .consumed)
@@ -199,11 +215,14 @@ step-takes last rest room (isOpen d) h = go (cut last rest) refl h
     on-accept : (b : Bytes) (a : Answer Accepted) → cut last rest ≡ whole b → Always (λ a. a .size ≡ length b) a → stepped d a .answer ≡ 0 → Takes last rest (stepped d a .consumed)
     on-accept b (refuse r) e s h = absurd (number-positive r h)
     on-accept b (good a) e s h =
-        let f : (1 ≤ length b) × ((t : Bytes) × (rest ≡ b ++ t)) = cut-front last rest b e in
-        let t : Bytes = f .1 .0 in
-        let split : rest ≡ b ++ t = f .1 .1 in
-        let front : take (length b) rest ≡ b = ap (take (length b)) split ∙ take-append-seam b t in
-        rw s (f .0, omega (arith, ap length split, length-append b t), e ∙ ap whole (sym front))
+        let f : Front rest b = cut-front last rest b e in
+        let front : take (length b) rest ≡ b = ap (take (length b)) (f .split) ∙ take-append-seam b (f .rest) in
+        rw s (record {
+          some = f .some;
+          atMost = omega (arith, ap length (f .split), length-append b (f .rest));
+          inLimit = f .inLimit;
+          event = e ∙ ap whole (sym front);
+        })
 
     go : (c : Cut) → cut last rest ≡ c → stepped d (firstEvent c >>= λ bytes. accept bytes room d) .answer ≡ 0
         → Takes last rest (stepped d (firstEvent c >>= λ bytes. accept bytes room d) .consumed)

@@ -10,9 +10,7 @@ use lib.ListN.{length, drop, length-drop}
 use lib.Seq.{drop-append-le}
 use borrow.Author.Tests.{ne-eqb}
 use Rattle.spec.specs.Bytes.{Bytes, if_then_else_, isEmpty, concat, require_or_}
-use Rattle.spec.specs.Numbers.{number}
-use Rattle.spec.specs.declared.Refusal.{Refusal}
-use Rattle.spec.specs.declared.Refusal.the-variants.{Incomplete, NoRoom}
+use Rattle.spec.specs.declared.Refusal.the-variants.{Incomplete}
 use Rattle.spec.specs.Calls.{State, isOpen, mayStart, started, callStart, Report, markedBy, refused, refusedIn, callStep}
 use Rattle.spec.specs.PyxCut.{cut}
 use Rattle.spec.specs.Feeding.{Run, ending, inFront, onward, atMost, run, hostStep, Feeds, gets, again, does, ends, printed}
@@ -20,7 +18,7 @@ use Rattle.spec.specs.Limits.{programRoom}
 use Rattle.spec.specs.Pyx2nt.{lastLine, print, pyx2nt}
 use Rattle.spec.specs.Document.{Doc, fresh}
 use Rattle.spec.proofs.Refusals.{no-event, given-when, only-empty}
-use Rattle.spec.proofs.Calls.{Reported, did, gave, reported, number-positive, number-injective, ByTable, step-by-table, Takes, zero-counts, step-takes, step-room, step-final, Steps, at-start, and-step, Written, written}
+use Rattle.spec.proofs.Calls.{Reported, did, gave, reported, number-positive, step-by-table, same-state, Takes, zero-counts, step-takes, step-room, step-final, Steps, at-start, and-step, Written, written}
 
 -- ---- a run is a step, and the run behind it
 
@@ -48,16 +46,16 @@ onward-same r n m h = go (r .answer) refl
 nothing-done : (last : Bool) (room : ℕ) (q : State) → callStep last [] room q .answer ≡ 0 → ⊥
 nothing-done last room q h =
     let t : Takes last [] (callStep last [] room q .consumed) = step-takes last [] room q h in
-    let a : 1 ≤ callStep last [] room q .consumed = t .0 in
-    let b : callStep last [] room q .consumed ≤ 0 = t .1 in
+    let a : 1 ≤ callStep last [] room q .consumed = t .some in
+    let b : callStep last [] room q .consumed ≤ 0 = t .atMost in
     omega arith
 
 -- a step that does an event leaves less of the rest
 less : (last : Bool) (s : Bytes) (room : ℕ) (q : State) → callStep last s room q .answer ≡ 0 → length (drop (callStep last s room q .consumed) s) < length s
 less last s room q h =
     let t : Takes last s (callStep last s room q .consumed) = step-takes last s room q h in
-    let a : 1 ≤ callStep last s room q .consumed = t .0 in
-    let b : callStep last s room q .consumed ≤ length s = t .1 in
+    let a : 1 ≤ callStep last s room q .consumed = t .some in
+    let b : callStep last s room q .consumed ≤ length s = t .atMost in
     simp length-drop (omega arith)
 
 -- the number of events allowed does not matter, if it is no less than the number of bytes
@@ -100,7 +98,7 @@ run-does room k rest ps q h =
     let e : callStep true (rest ++ concat ps) (room k) q ≡ r = whole-step rest ps (room k) q λ z. absurd (omega (arith, h, z)) in
     let behind : Report → Run = λ x. onward x (run room (suc k) (drop (x .consumed) (rest ++ concat ps)) (x .behind)) in
     run-onward room k (rest ++ concat ps) q ∙ (ap behind e ∙ (onward-on r _ h
-    ∙ ap (λ (s : Bytes). inFront r (run room (suc k) s (r .behind))) (drop-append-le (r .consumed) rest (concat ps) (t .1))))
+    ∙ ap (λ (s : Bytes). inFront r (run room (suc k) s (r .behind))) (drop-append-le (r .consumed) rest (concat ps) (t .atMost))))
 
 -- a refusal ends the run over all of the input
 pub run-ends : (room : ℕ → ℕ) (k : ℕ) (rest : Bytes) (ps : List Bytes) (q : State) → (hostStep ps rest (room k) q .answer ≡ 0 → ⊥)
@@ -111,19 +109,7 @@ run-ends room k rest ps q h g =
     let behind : Report → Run = λ x. onward x (run room (suc k) (drop (x .consumed) (rest ++ concat ps)) (x .behind)) in
     run-onward room k (rest ++ concat ps) q ∙ (ap behind e ∙ onward-end r _ h)
 
--- ---- answers 1 and 2 leave the state as it was
-
-refused-by : (q : State) (r : Report) (x : Refusal) → ByTable q r → r .answer ≡ number x → r ≡ refusedIn q x
-unfolding refusedIn refused
-refused-by q r x (inl e) h = absurd (number-positive x (sym h ∙ e))
-refused-by q r x (inr (y, e)) h = e ∙ ap (refusedIn q) (number-injective y x (sym (ap (λ (z : Report). z .answer) e) ∙ h))
-
-pub same-state : (last : Bool) (s : Bytes) (room : ℕ) (q : State) → (callStep last s room q .answer ≡ 1) ⊎ (callStep last s room q .answer ≡ 2) → callStep last s room q .behind ≡ q
-unfolding refusedIn refused markedBy
-same-state last s room q (inl h) = ap (λ (z : Report). z .behind) (refused-by q (callStep last s room q) Incomplete (step-by-table last s room q) h)
-same-state last s room q (inr h) = ap (λ (z : Report). z .behind) (refused-by q (callStep last s room q) NoRoom (step-by-table last s room q) h)
-
--- ---- the theorems
+-- ---- every host's run is the run over all of its input
 
 -- A host's run, in whatever pieces its input comes, is the run over all of the input at once.
 pub as-one-piece : {room : ℕ → ℕ} {k : ℕ} {rest : Bytes} {ps : List Bytes} {q : State} {n : Run} → Feeds room k rest ps q n → n ≡ run room k (rest ++ concat ps) q
@@ -132,11 +118,6 @@ as-one-piece {room} {k} {rest} {q = q} (gets {p = p} {ps = ps} h) = as-one-piece
 as-one-piece {room} {k} {rest} {ps} {q} (again other a h) = as-one-piece h ∙ ap (run room k (rest ++ concat ps)) (same-state (isEmpty ps) rest other q a)
 as-one-piece {room} {k} {rest} {ps} {q} (does a h) = ap (inFront (hostStep ps rest (room k) q)) (as-one-piece h) ∙ sym (run-does room k rest ps q a)
 as-one-piece {room} {k} {rest} {ps} {q} (ends a b) = sym (run-ends room k rest ps q a b)
-
--- For every division of the same bytes: the same output, the same last answer, as many events, the same state behind.
-pub division-does-not-matter : (room : ℕ → ℕ) (k : ℕ) (ps ps′ : List Bytes) (q : State) (n n′ : Run) → concat ps ≡ concat ps′
-    → Feeds room k [] ps q n → Feeds room k [] ps′ q n′ → n ≡ n′
-division-does-not-matter room k ps ps′ q n n′ e h g = as-one-piece h ∙ (ap (λ (s : Bytes). run room k s q) e ∙ sym (as-one-piece g))
 
 -- ---- the room
 
@@ -161,15 +142,6 @@ same-rooms (suc f) room room′ k s q h g =
     onward-same r (behind room r) (behind room′ r) (λ z. same-rooms f room room′ (suc k) (drop (r .consumed) s) (r .behind)
     (λ y. h (on-answer r (behind room r) z ∙ y)) (λ y. g′ (on-answer r (behind room′ r) z ∙ y)))
     ∙ ap (λ (x : Report). onward x (behind room′ x)) e
-
--- Nor does it matter what room each event is given, unless a run ends for want of it (2).
-pub room-does-not-matter : (room room′ : ℕ → ℕ) (k : ℕ) (ps ps′ : List Bytes) (q : State) (n n′ : Run) → concat ps ≡ concat ps′
-    → Feeds room k [] ps q n → Feeds room′ k [] ps′ q n′ → (n .answer ≡ 2 → ⊥) → (n′ .answer ≡ 2 → ⊥) → n ≡ n′
-unfolding run
-room-does-not-matter room room′ k ps ps′ q n n′ e h g a b =
-    let u : n ≡ run room k (concat ps) q = as-one-piece h in
-    let v : n′ ≡ run room′ k (concat ps) q = as-one-piece g ∙ ap (λ (s : Bytes). run room′ k s q) (sym e) in
-    u ∙ (same-rooms (length (concat ps)) room room′ k (concat ps) q (λ z. a (ap (λ (x : Run). x .answer) u ∙ z)) (λ z. b (ap (λ (x : Run). x .answer) v ∙ z)) ∙ sym v)
 
 -- ---- every division has a run: that of a host that waits for the next piece only on 1
 
@@ -303,6 +275,22 @@ print-run (suc f) k (b ∷ rest) d h = print-step f k b rest d h λ s d′. prin
 pub pyx2nt-run : (s : Bytes) → pyx2nt s ≡ printed 1 (programRun 1 s (isOpen (fresh none)))
 unfolding pyx2nt callStart started mayStart require_or_
 pyx2nt-run s = print-run (suc (length s)) 1 s (fresh none) (omega arith)
+
+-- ---- the theorems
+
+-- For every division of the same bytes: the same output, the same last answer, as many events, the same state behind.
+pub division-does-not-matter : (room : ℕ → ℕ) (k : ℕ) (ps ps′ : List Bytes) (q : State) (n n′ : Run) → concat ps ≡ concat ps′
+    → Feeds room k [] ps q n → Feeds room k [] ps′ q n′ → n ≡ n′
+division-does-not-matter room k ps ps′ q n n′ e h g = as-one-piece h ∙ (ap (λ (s : Bytes). run room k s q) e ∙ sym (as-one-piece g))
+
+-- Nor does it matter what room each event is given, unless a run ends for want of it (2).
+pub room-does-not-matter : (room room′ : ℕ → ℕ) (k : ℕ) (ps ps′ : List Bytes) (q : State) (n n′ : Run) → concat ps ≡ concat ps′
+    → Feeds room k [] ps q n → Feeds room′ k [] ps′ q n′ → (n .answer ≡ 2 → ⊥) → (n′ .answer ≡ 2 → ⊥) → n ≡ n′
+unfolding run
+room-does-not-matter room room′ k ps ps′ q n n′ e h g a b =
+    let u : n ≡ run room k (concat ps) q = as-one-piece h in
+    let v : n′ ≡ run room′ k (concat ps) q = as-one-piece g ∙ ap (λ (s : Bytes). run room′ k s q) (sym e) in
+    u ∙ (same-rooms (length (concat ps)) room room′ k (concat ps) q (λ z. a (ap (λ (x : Run). x .answer) u ∙ z)) (λ z. b (ap (λ (x : Run). x .answer) v ∙ z)) ∙ sym v)
 
 -- So pyx2nt may print as it reads: in whatever pieces its input comes, it is to print what its steps give, then the refusal if any.
 pub pyx2nt-in-pieces : (ps : List Bytes) (n : Run) → Feeds (λ i. programRoom) 1 [] ps (isOpen (fresh none)) n → pyx2nt (concat ps) ≡ printed 1 n

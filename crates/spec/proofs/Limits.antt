@@ -3,7 +3,7 @@ use mathlib.Core.Path.{_≡_, refl, sym, _∙_, ap}
 use mathlib.Core.Bool.{Bool, true, false, _&&_, false≢true}
 use mathlib.Core.Option.{Option, none, some}
 use mathlib.Core.List.{List, [], _∷_, _++_}
-use Prim.Native.Nat.{ℕ, suc, _≤_, _<_}
+use Prim.Native.Nat.{ℕ, suc, _*_, _≤_, _<_}
 use native.Mathlib.Omega.{arith}
 use lib.Dec.{leb}
 use lib.ListN.{length, length-append}
@@ -16,7 +16,7 @@ use Rattle.spec.specs.Pyx.{Attribute}
 use Rattle.spec.specs.Namespaces.{declared}
 use Rattle.spec.specs.NTriples.{Subject, Triple, decimal}
 use Rattle.spec.specs.Rdf.{rdf}
-use Rattle.spec.specs.Document.{Value, default, collection, literal, other, Property, Kind, rdfRDF, nodeElement, propertyElement, xmlElement, Frame, Doc, fresh, withFrames, withLabels, withKind, inScope, Place, outside, nodes, nodesOrText, xml, properties, inValue, inKind, placeIn, changeValue, onValue, isXmlElement, frameBytes, heldBytes, fits}
+use Rattle.spec.specs.Document.{Value, default, collection, literal, other, Property, Kind, rdfRDF, nodeElement, propertyElement, xmlElement, Frame, Doc, fresh, withFrames, withLabels, withKind, inScope, Place, outside, nodes, nodesOrText, xml, properties, inValue, inKind, placeIn, changeValue, onValue, isXmlElement, valueBytes, frameBytes, heldBytes, fits}
 use Rattle.spec.specs.Document as D
 use Rattle.spec.specs.StartTag.{Tag, readTag, isShort, allShort}
 use Rattle.spec.specs.Productions.{Opened, openNode, openProperty, openRoot, isLi, propertyIri, ParseType, noParseType, asCollection, asResource, asLiteral, asOther}
@@ -451,6 +451,12 @@ total-each n (f ∷ fs) h = (omega arith, total-each n fs (omega arith))
 pub each-held : (d : Doc) → Within d → All (λ f. frameBytes f ≤ mostHeldBytes) (d .frames)
 unfolding heldBytes
 each-held d h = let le : heldBytes d ≤ mostHeldBytes = h .held in total-each mostHeldBytes (d .frames) (omega arith)
+
+-- so many children has a Collection at most, by its bytes
+pub children-held : (cs : List Subject) → 4 * length cs ≤ valueBytes (collection cs)
+unfolding valueBytes total
+children-held [] = omega arith
+children-held (c ∷ cs) = omega (arith, children-held cs)
 
 -- ---- by calls
 
