@@ -17,7 +17,7 @@ use Rattle.spec.specs.Feeding.{Run, ending, inFront, onward, atMost, run
 use Rattle.spec.specs.Limits.{programRoom}
 use Rattle.spec.specs.Pyx2nt.{lastLine, print, pyx2nt}
 use Rattle.spec.specs.Document.{Doc, fresh}
-use Rattle.spec.proofs.Refusals.{no-event, given-when, only-empty}
+use Rattle.spec.proofs.Refusals.{no-event, given-when, only-empty, more-room}
 use Rattle.spec.proofs.Calls.{Reported, did, gave, reported, number-positive, step-by-table, same-state, Takes, zero-counts, step-takes, step-room, step-final, Steps, at-start, and-step, Written, written}
 
 -- ---- a run is a step, and the run behind it
@@ -82,30 +82,47 @@ run-onward room k s q =
 -- ---- more input behind the rest
 
 -- what a step answers, but 1 with pieces to come, it would answer with all of them at hand
-whole-step : (rest : Bytes) (ps : List Bytes) (room : ℕ) (q : State) → (hostStep ps rest room q .answer ≡ 1 → ps ≡ [])
+with-pieces : (rest : Bytes) (ps : List Bytes) (room : ℕ) (q : State) → (hostStep ps rest room q .answer ≡ 1 → ps ≡ [])
     → callStep true (rest ++ concat ps) room q ≡ hostStep ps rest room q
 unfolding isEmpty concat
-whole-step rest [] room q h = rw append-nil
-whole-step rest (p ∷ ps) room q h = step-final true rest (p ++ concat ps) room q λ e. cons≢nil (h e)
+with-pieces rest [] room q h = rw append-nil
+with-pieces rest (p ∷ ps) room q h = step-final true rest (p ++ concat ps) room q λ e. cons≢nil (h e)
+
+-- and but 2 with more room to give, it would answer with the most room
+with-room : (last : Bool) (s : Bytes) (free room : ℕ) (q : State) → free ≤ room → (callStep last s free q .answer ≡ 2 → free ≡ room) → callStep last s room q ≡ callStep last s free q
+with-room last s free room q le h = go (callStep last s free q .answer) refl
+  where
+    go : (a : ℕ) → callStep last s free q .answer ≡ a → callStep last s room q ≡ callStep last s free q
+    go zero e = more-room last s free room q le λ z. omega (arith, e, z)
+    go (suc zero) e = more-room last s free room q le λ z. omega (arith, e, z)
+    go (suc (suc zero)) e = ap (λ (n : ℕ). callStep last s n q) (sym (h e))
+    go (suc (suc (suc a))) e = more-room last s free room q le λ z. omega (arith, e, z)
+
+whole-step : (rest : Bytes) (ps : List Bytes) (free room : ℕ) (q : State) → free ≤ room → (hostStep ps rest free q .answer ≡ 1 → ps ≡ [])
+    → (hostStep ps rest free q .answer ≡ 2 → free ≡ room) → callStep true (rest ++ concat ps) room q ≡ hostStep ps rest free q
+whole-step rest ps free room q le h g =
+    let e : callStep true (rest ++ concat ps) free q ≡ hostStep ps rest free q = with-pieces rest ps free q h in
+    with-room true (rest ++ concat ps) free room q le (λ z. g (sym (ap (λ (r : Report). r .answer) e) ∙ z)) ∙ e
 
 -- an event done is done in the run over all of the input
-pub run-does : (room : ℕ → ℕ) (k : ℕ) (rest : Bytes) (ps : List Bytes) (q : State) → hostStep ps rest (room k) q .answer ≡ 0
+pub run-does : (room : ℕ → ℕ) (k : ℕ) (rest : Bytes) (ps : List Bytes) (q : State) (free : ℕ) → free ≤ room k → hostStep ps rest free q .answer ≡ 0
     → run room k (rest ++ concat ps) q
-    ≡ inFront (hostStep ps rest (room k) q) (run room (suc k) (drop (hostStep ps rest (room k) q .consumed) rest ++ concat ps) (hostStep ps rest (room k) q .behind))
-run-does room k rest ps q h =
-    let r : Report = hostStep ps rest (room k) q in
-    let t : Takes (isEmpty ps) rest (r .consumed) = step-takes (isEmpty ps) rest (room k) q h in
-    let e : callStep true (rest ++ concat ps) (room k) q ≡ r = whole-step rest ps (room k) q λ z. absurd (omega (arith, h, z)) in
+    ≡ inFront (hostStep ps rest free q) (run room (suc k) (drop (hostStep ps rest free q .consumed) rest ++ concat ps) (hostStep ps rest free q .behind))
+run-does room k rest ps q free le h =
+    let r : Report = hostStep ps rest free q in
+    let t : Takes (isEmpty ps) rest (r .consumed) = step-takes (isEmpty ps) rest free q h in
+    let e : callStep true (rest ++ concat ps) (room k) q ≡ r = whole-step rest ps free (room k) q le (λ z. absurd (omega (arith, h, z))) (λ z. absurd (omega (arith, h, z))) in
     let behind : Report → Run = λ x. onward x (run room (suc k) (drop (x .consumed) (rest ++ concat ps)) (x .behind)) in
     run-onward room k (rest ++ concat ps) q ∙ (ap behind e ∙ (onward-on r _ h
     ∙ ap (λ (s : Bytes). inFront r (run room (suc k) s (r .behind))) (drop-append-le (r .consumed) rest (concat ps) (t .atMost))))
 
 -- a refusal ends the run over all of the input
-pub run-ends : (room : ℕ → ℕ) (k : ℕ) (rest : Bytes) (ps : List Bytes) (q : State) → (hostStep ps rest (room k) q .answer ≡ 0 → ⊥)
-    → (hostStep ps rest (room k) q .answer ≡ 1 → ps ≡ []) → run room k (rest ++ concat ps) q ≡ ending (hostStep ps rest (room k) q)
-run-ends room k rest ps q h g =
-    let r : Report = hostStep ps rest (room k) q in
-    let e : callStep true (rest ++ concat ps) (room k) q ≡ r = whole-step rest ps (room k) q g in
+pub run-ends : (room : ℕ → ℕ) (k : ℕ) (rest : Bytes) (ps : List Bytes) (q : State) (free : ℕ) → free ≤ room k → (hostStep ps rest free q .answer ≡ 0 → ⊥)
+    → (hostStep ps rest free q .answer ≡ 1 → ps ≡ []) → (hostStep ps rest free q .answer ≡ 2 → free ≡ room k)
+    → run room k (rest ++ concat ps) q ≡ ending (hostStep ps rest free q)
+run-ends room k rest ps q free le h g f =
+    let r : Report = hostStep ps rest free q in
+    let e : callStep true (rest ++ concat ps) (room k) q ≡ r = whole-step rest ps free (room k) q le g f in
     let behind : Report → Run = λ x. onward x (run room (suc k) (drop (x .consumed) (rest ++ concat ps)) (x .behind)) in
     run-onward room k (rest ++ concat ps) q ∙ (ap behind e ∙ onward-end r _ h)
 
@@ -115,9 +132,9 @@ run-ends room k rest ps q h g =
 pub as-one-piece : {room : ℕ → ℕ} {k : ℕ} {rest : Bytes} {ps : List Bytes} {q : State} {n : Run} → Feeds room k rest ps q n → n ≡ run room k (rest ++ concat ps) q
 unfolding concat
 as-one-piece {room} {k} {rest} {q = q} (gets {p = p} {ps = ps} h) = as-one-piece h ∙ ap (λ (s : Bytes). run room k s q) (append-assoc rest p (concat ps))
-as-one-piece {room} {k} {rest} {ps} {q} (again other a h) = as-one-piece h ∙ ap (run room k (rest ++ concat ps)) (same-state (isEmpty ps) rest other q a)
-as-one-piece {room} {k} {rest} {ps} {q} (does a h) = ap (inFront (hostStep ps rest (room k) q)) (as-one-piece h) ∙ sym (run-does room k rest ps q a)
-as-one-piece {room} {k} {rest} {ps} {q} (ends a b) = sym (run-ends room k rest ps q a b)
+as-one-piece {room} {k} {rest} {ps} {q} (again free a h) = as-one-piece h ∙ ap (run room k (rest ++ concat ps)) (same-state (isEmpty ps) rest free q a)
+as-one-piece {room} {k} {rest} {ps} {q} (does free le a h) = ap (inFront (hostStep ps rest free q)) (as-one-piece h) ∙ sym (run-does room k rest ps q free le a)
+as-one-piece {room} {k} {rest} {ps} {q} (ends free le a b c) = sym (run-ends room k rest ps q free le a b c)
 
 -- ---- the room
 
@@ -154,15 +171,18 @@ one-step : (room : ℕ → ℕ) (k : ℕ) (rest : Bytes) (ps : List Bytes) (q : 
     → Fed room k rest ps q
 one-step room k rest ps q on-0 on-1 = go (hostStep ps rest (room k) q .answer) refl
   where
+    all-of-it : room k ≤ room k
+    all-of-it = omega arith
+
     stopped : (hostStep ps rest (room k) q .answer ≡ 0 → ⊥) → (hostStep ps rest (room k) q .answer ≡ 1 → ps ≡ []) → Fed room k rest ps q
-    stopped h g = (ending (hostStep ps rest (room k) q), ends h g)
+    stopped h g = (ending (hostStep ps rest (room k) q), ends (room k) all-of-it h g (λ z. refl))
 
     waited : hostStep ps rest (room k) q .answer ≡ 1 → (ps ≡ []) ⊎ Fed room k rest ps (hostStep ps rest (room k) q .behind) → Fed room k rest ps q
     waited e (inl z) = stopped (λ a. omega (arith, a, e)) (λ a. z)
     waited e (inr w) = (w .0, again (room k) (inl e) (w .1))
 
     go : (a : ℕ) → hostStep ps rest (room k) q .answer ≡ a → Fed room k rest ps q
-    go zero e = let w = on-0 e in (inFront (hostStep ps rest (room k) q) (w .0), does e (w .1))
+    go zero e = let w = on-0 e in (inFront (hostStep ps rest (room k) q) (w .0), does (room k) all-of-it e (w .1))
     go (suc zero) e = waited e (on-1 e)
     go (suc (suc a)) e = stopped (λ z. omega (arith, z, e)) (λ z. absurd (omega (arith, z, e)))
 
@@ -189,14 +209,14 @@ every-division-runs room k rest ps q =
 feeds-steps : (b : Option Bytes) {room : ℕ → ℕ} {k : ℕ} {rest : Bytes} {ps : List Bytes} {q : State} {n : Run} (w : Bytes) → Feeds room k rest ps q n → Steps b q w → Steps b (n .behind) (w ++ n .output)
 unfolding inFront ending
 feeds-steps b w (gets h) s = feeds-steps b w h s
-feeds-steps b {rest = rest} {ps = ps} {q = q} w (again other a h) s = feeds-steps b w h (subst (λ (x : State). Steps b x w) (sym (same-state (isEmpty ps) rest other q a)) s)
-feeds-steps b {room} {k} {rest} {ps} {q} w (does {n = n} a h) s =
-    let r : Report = hostStep ps rest (room k) q in
-    subst (λ (x : Bytes). Steps b (n .behind) x) (append-assoc w (r .output) (n .output)) (feeds-steps b (w ++ r .output) h (and-step s (isEmpty ps) rest (room k)))
-feeds-steps b {room} {k} {rest} {ps} {q} w (ends a c) s =
-    let r : Report = hostStep ps rest (room k) q in
-    let e : r .output ≡ [] = zero-counts q r (step-by-table (isEmpty ps) rest (room k) q) a .1 in
-    subst (λ (x : Bytes). Steps b (r .behind) (w ++ x)) e (and-step s (isEmpty ps) rest (room k))
+feeds-steps b {rest = rest} {ps = ps} {q = q} w (again free a h) s = feeds-steps b w h (subst (λ (x : State). Steps b x w) (sym (same-state (isEmpty ps) rest free q a)) s)
+feeds-steps b {rest = rest} {ps = ps} {q = q} w (does {n = n} free le a h) s =
+    let r : Report = hostStep ps rest free q in
+    subst (λ (x : Bytes). Steps b (n .behind) x) (append-assoc w (r .output) (n .output)) (feeds-steps b (w ++ r .output) h (and-step s (isEmpty ps) rest free))
+feeds-steps b {rest = rest} {ps = ps} {q = q} w (ends free le a c g) s =
+    let r : Report = hostStep ps rest free q in
+    let e : r .output ≡ [] = zero-counts q r (step-by-table (isEmpty ps) rest free q) a .1 in
+    subst (λ (x : Bytes). Steps b (r .behind) (w ++ x)) e (and-step s (isEmpty ps) rest free)
 
 -- What a host's run from a fresh document writes is the lines of its accepted events, which lead to the document behind it.
 pub run-writes : (b : Option Bytes) (room : ℕ → ℕ) (k : ℕ) (ps : List Bytes) (n : Run) → Feeds room k [] ps (isOpen (fresh b)) n → Written b (n .behind) (n .output)
@@ -234,7 +254,7 @@ unfolding refusedIn refused
 goes-on-open d r (did bytes e us d′ p q) h = (d′, refl)
 goes-on-open d r (gave x) h = absurd (number-positive x h)
 
-abbrev programRun : ℕ → Bytes → State → Run
+abbrev pub programRun : ℕ → Bytes → State → Run
 programRun k s q = run (λ i. programRoom) k s q
 
 print-empty : (f k : ℕ) (d : Doc) → print (suc f) k [] (isOpen d) ≡ printed k (programRun k [] (isOpen d))

@@ -4,7 +4,8 @@ use mathlib.Core.Bool.{Bool, true, false, true≢false}
 use mathlib.Core.Logic.{_⊎_, inl, inr}
 use mathlib.Core.Option.{Option, none, some}
 use mathlib.Core.List.{List, [], _∷_}
-use Prim.Native.Nat.{ℕ, _<_}
+use Prim.Native.Nat.{ℕ, _≤_, _<_}
+use native.Mathlib.Omega.{arith}
 use lib.Dec.{eqb, leb}
 use lib.ListN.{length}
 use borrow.Author.Tests.{leb-false, lt-leb}
@@ -27,9 +28,9 @@ use Rattle.spec.specs.EndTag as C
 use Rattle.spec.specs.RdfXml.{next}
 use Rattle.spec.specs.RdfXml as X
 use Rattle.spec.specs.PyxCut.{Cut, wait, unended, tooLong, whole, cut}
-use Rattle.spec.specs.Calls.{State, isOpen, isClosed, unlawful, Accepted, accept, firstEvent, stepped, callStep, refused, refusedIn}
+use Rattle.spec.specs.Calls.{State, Report, isOpen, isClosed, unlawful, Accepted, accept, firstEvent, stepped, callStep, refused, refusedIn}
 use Rattle.spec.proofs.PyxCut.{cut-waits}
-use Rattle.spec.proofs.Calls.{number-injective, number-positive}
+use Rattle.spec.proofs.Calls.{step-room, number-injective, number-positive}
 
 -- ---- an answer that is no refusal, or one that closes
 
@@ -320,3 +321,12 @@ only-empty rest room q h = go q (given-only-when true rest room q Incomplete ref
   where
     go : (q : State) → Why true rest room q Incomplete → rest ≡ []
     go q (no-event d e) = cut-waits rest e
+
+-- more room than enough changes nothing
+pub more-room : (last : Bool) (rest : Bytes) (room room′ : ℕ) (q : State) → room ≤ room′ → (callStep last rest room q .answer ≡ 2 → ⊥) → callStep last rest room′ q ≡ callStep last rest room q
+unfolding refusedIn refused
+more-room last rest room room′ q le h = step-room last rest room′ room q (λ z. go q (given-only-when last rest room′ q NoRoom refl z) h) h
+  where
+    go : (q : State) → Why last rest room′ q NoRoom → (callStep last rest room q .answer ≡ 2 → ⊥) → ⊥
+    go q (no-room d b e (event, us, d′, p, n, lt)) h =
+        h (ap (λ (r : Report). r .answer) (given-when last rest room q NoRoom (no-room d b e (event, us, d′, p, n, omega (arith, le, lt)))))

@@ -3,7 +3,7 @@ use mathlib.Core.Path.{_≡_}
 use mathlib.Core.Logic.{_⊎_}
 use mathlib.Core.Bool.{true}
 use mathlib.Core.List.{List, [], _∷_, _++_}
-use Prim.Native.Nat.{ℕ, zero, suc, _+_}
+use Prim.Native.Nat.{ℕ, zero, suc, _+_, _≤_}
 use lib.Dec.{eqb}
 use lib.ListN.{length, drop}
 use Rattle.spec.specs.Bytes.{Bytes, if_then_else_, isEmpty}
@@ -51,22 +51,22 @@ run room k s q = atMost (length s) room k s q
 abbrev pub hostStep : List Bytes → Bytes → ℕ → State → Report
 hostStep ps rest room q = callStep (isEmpty ps) rest room q
 
--- a host's run from event k on, over a rest and the pieces to come
+-- a host's run from event k on, over a rest and the pieces to come; room k is the most room that event k is given
 pub data Feeds (room : ℕ → ℕ) : ℕ → Bytes → List Bytes → State → Run → Type 0 where
   -- it puts the next piece behind the rest, whenever it likes
   gets : {k : ℕ} {rest : Bytes} {p : Bytes} {ps : List Bytes} {q : State} {n : Run} → Feeds room k (rest ++ p) ps q n → Feeds room k rest (p ∷ ps) q n
-  -- a step, with any room, answers 1 or 2: it calls again, with more input or more room
-  again : {k : ℕ} {rest : Bytes} {ps : List Bytes} {q : State} {n : Run} (other : ℕ)
-      → (hostStep ps rest other q .answer ≡ 1) ⊎ (hostStep ps rest other q .answer ≡ 2)
-      → Feeds room k rest ps (hostStep ps rest other q .behind) n → Feeds room k rest ps q n
+  -- a step answers 1 or 2: it calls again, with more input or more room
+  again : {k : ℕ} {rest : Bytes} {ps : List Bytes} {q : State} {n : Run} (free : ℕ)
+      → (hostStep ps rest free q .answer ≡ 1) ⊎ (hostStep ps rest free q .answer ≡ 2)
+      → Feeds room k rest ps (hostStep ps rest free q .behind) n → Feeds room k rest ps q n
   -- a step does an event: the next is handed the rest from where the event ended
-  does : {k : ℕ} {rest : Bytes} {ps : List Bytes} {q : State} {n : Run} → hostStep ps rest (room k) q .answer ≡ 0
-      → Feeds room (suc k) (drop (hostStep ps rest (room k) q .consumed) rest) ps (hostStep ps rest (room k) q .behind) n
-      → Feeds room k rest ps q (inFront (hostStep ps rest (room k) q) n)
-  -- a step refuses: the run ends there, but never at a 1 while pieces are to come
-  ends : {k : ℕ} {rest : Bytes} {ps : List Bytes} {q : State} → (hostStep ps rest (room k) q .answer ≡ 0 → ⊥)
-      → (hostStep ps rest (room k) q .answer ≡ 1 → ps ≡ [])
-      → Feeds room k rest ps q (ending (hostStep ps rest (room k) q))
+  does : {k : ℕ} {rest : Bytes} {ps : List Bytes} {q : State} {n : Run} (free : ℕ) → free ≤ room k → hostStep ps rest free q .answer ≡ 0
+      → Feeds room (suc k) (drop (hostStep ps rest free q .consumed) rest) ps (hostStep ps rest free q .behind) n
+      → Feeds room k rest ps q (inFront (hostStep ps rest free q) n)
+  -- a step refuses: the run ends there, but at a 1 only if no piece is to come, and at a 2 only if it gave the most room
+  ends : {k : ℕ} {rest : Bytes} {ps : List Bytes} {q : State} (free : ℕ) → free ≤ room k → (hostStep ps rest free q .answer ≡ 0 → ⊥)
+      → (hostStep ps rest free q .answer ≡ 1 → ps ≡ []) → (hostStep ps rest free q .answer ≡ 2 → free ≡ room k)
+      → Feeds room k rest ps q (ending (hostStep ps rest free q))
 
 -- what pyx2nt prints of its run from event k on: all lines, then the refusal, where a step or finish refused
 unfoldable pub printed : ℕ → Run → Bytes

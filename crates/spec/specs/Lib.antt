@@ -27,6 +27,7 @@ pub mod XmlLiteral
 pub mod Opening
 pub mod EndTag
 pub mod RdfXml
+-- ---- what holds of the open elements and of all that is kept
 pub mod Within
 pub mod Nesting
 -- ---- the calls and the program
