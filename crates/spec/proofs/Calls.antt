@@ -5,21 +5,25 @@ use mathlib.Core.Logic.{_⊎_, inl, inr}
 use mathlib.Core.Bool.{Bool, true, false}
 use mathlib.Core.Option.{Option}
 use mathlib.Core.List.{List, [], _∷_, _++_, append-assoc, append-nil}
-use Prim.Native.Nat.{ℕ}
+use Prim.Native.Nat.{ℕ, _-_, _≤_}
+use native.Mathlib.Omega.{arith}
 use lib.Dec.{leb}
-use lib.ListN.{length}
+use lib.ListN.{length, getD, take, length-append}
+use lib.Seq.{take-append-seam}
 use Rattle.spec.specs.Bytes.{Bytes, _>>=_, _>>_, require_or_}
-use Rattle.spec.specs.Numbers.{Effect, stays-open, unchanged, becomes-closed, effect, closes, Answer, refuse, good}
+use Rattle.spec.specs.Numbers.{number, Effect, stays-open, unchanged, becomes-closed, effect, closes, Answer, refuse, good}
 use Rattle.spec.specs.declared.Refusal.{Refusal}
-use Rattle.spec.specs.declared.Refusal.the-variants.{Incomplete, NoRoom, BadState, Closed, NotPyx, OverLimit}
+use Rattle.spec.specs.declared.Refusal.the-variants.{Incomplete, NoRoom, BadState, Closed, NotPyx, NotWellFormed, OverLimit, NoNamespace, NotNcName, BadLanguage, BadIri, RepeatedId, BadLabel, Reserved, TwoNames, StrayText, EmptyLiteral, LabelsSpent}
+use Rattle.spec.specs.Limits.{mostEventBytes}
 use Rattle.spec.specs.Pyx.{Event, readEvent}
 use Rattle.spec.specs.PyxCut.{Cut, wait, unended, tooLong, whole, cut}
 use Rattle.spec.specs.NTriples.{Triple, write, line}
 use Rattle.spec.specs.Document.{Doc, fresh}
 use Rattle.spec.specs.RdfXml.{next, finish}
 use Rattle.spec.specs.Lists.{After, here, event}
-use Rattle.spec.specs.Calls.{State, isOpen, isClosed, unlawful, Report, markClosed, markedBy, refused, refusedIn, mayStart, started, callStart, firstEvent, accept, stepped, callStep, finished, callFinish}
-use Rattle.spec.proofs.PyxCut.{cut-final}
+use Rattle.spec.specs.Calls.{State, isOpen, isClosed, unlawful, Report, markClosed, markedBy, refused, refusedIn, mayStart, started, callStart, firstEvent, Accepted, accept, stepped, callStep, finished, callFinish}
+use Rattle.spec.proofs.Always.{Always, always-any, always-require}
+use Rattle.spec.proofs.PyxCut.{cut-final, Front, cut-front}
 
 -- ---- a step on an open document
 
@@ -62,6 +66,46 @@ reported last s room d = go (cut last s) refl
     go unended e = gave NotPyx
     go (whole bytes) e = accept-reported bytes room d (last, s, e)
 
+-- ---- the answer tells the refusal
+
+-- in the order of their numbers
+refusals : List Refusal
+refusals =
+    Incomplete ∷ NoRoom ∷ BadState ∷ Closed ∷ NotPyx ∷ NotWellFormed ∷ OverLimit ∷ NoNamespace ∷ NotNcName ∷
+    BadLanguage ∷ BadIri ∷ RepeatedId ∷ BadLabel ∷ Reserved ∷ TwoNames ∷ StrayText ∷ EmptyLiteral ∷ LabelsSpent ∷ []
+
+abbrev Numbered : Refusal → Type 0
+Numbered r = (1 ≤ number r) × (number r ≤ 18) × (getD refusals (number r - 1) Incomplete ≡ r)
+
+numbered : (r : Refusal) → Numbered r
+unfolding refusals
+numbered Incomplete = (omega arith, omega arith, refl)
+numbered NoRoom = (omega arith, omega arith, refl)
+numbered BadState = (omega arith, omega arith, refl)
+numbered Closed = (omega arith, omega arith, refl)
+numbered NotPyx = (omega arith, omega arith, refl)
+numbered NotWellFormed = (omega arith, omega arith, refl)
+numbered OverLimit = (omega arith, omega arith, refl)
+numbered NoNamespace = (omega arith, omega arith, refl)
+numbered NotNcName = (omega arith, omega arith, refl)
+numbered BadLanguage = (omega arith, omega arith, refl)
+numbered BadIri = (omega arith, omega arith, refl)
+numbered RepeatedId = (omega arith, omega arith, refl)
+numbered BadLabel = (omega arith, omega arith, refl)
+numbered Reserved = (omega arith, omega arith, refl)
+numbered TwoNames = (omega arith, omega arith, refl)
+numbered StrayText = (omega arith, omega arith, refl)
+numbered EmptyLiteral = (omega arith, omega arith, refl)
+numbered LabelsSpent = (omega arith, omega arith, refl)
+
+-- no refusal has the number 0, which is "done"
+pub number-positive : (r : Refusal) → number r ≡ 0 → ⊥
+number-positive r h = let le : 1 ≤ number r = numbered r .0 in omega arith
+
+-- different refusals have different numbers
+pub number-injective : (q r : Refusal) → number q ≡ number r → q ≡ r
+number-injective q r h = sym (numbered q .2) ∙ (ap (λ (n : ℕ). getD refusals (n - 1) Incomplete) h ∙ numbered r .2)
+
 -- ---- every call, by the table
 
 -- done, or a refusal that consumes 0, writes 0, and leaves the state as the column "Document" says
@@ -97,6 +141,38 @@ start-by-table lengths b t = go (mayStart lengths b)
     go (refuse x) = inr (x, refl)
     go (good u) = inl refl
 
+-- every call answers 0 to 18
+by-table-answer : (t : State) (r : Report) → ByTable t r → r .answer ≤ 18
+unfolding refusedIn refused
+by-table-answer t r (inl e) = omega arith
+by-table-answer t r (inr (x, e)) = rw e (numbered x .1)
+
+pub step-answer : (last : Bool) (s : Bytes) (room : ℕ) (t : State) → callStep last s room t .answer ≤ 18
+step-answer last s room t = by-table-answer t _ (step-by-table last s room t)
+
+pub finish-answer : (t : State) → callFinish t .answer ≤ 18
+finish-answer t = by-table-answer t _ (finish-by-table t)
+
+pub start-answer : (lengths : Bool) (b : Option Bytes) (t : State) → callStart lengths b t .answer ≤ 18
+unfolding refused
+start-answer lengths b t = go (callStart lengths b t) (start-by-table lengths b t)
+  where
+    go : (r : Report) → (r .answer ≡ 0) ⊎ ((x : Refusal) × (r ≡ refused x t)) → r .answer ≤ 18
+    go r (inl e) = omega arith
+    go r (inr (x, e)) = rw e (numbered x .1)
+
+-- the number tells all of the report
+pub told : (t : State) (r : Report) (x : Refusal) → ByTable t r → r .answer ≡ number x → r ≡ refusedIn t x
+unfolding refusedIn refused
+told t r x (inl e) h = absurd (number-positive x (sym h ∙ e))
+told t r x (inr (y, e)) h = e ∙ ap (refusedIn t) (number-injective y x (sym (ap (λ (z : Report). z .answer) e) ∙ h))
+
+-- 1 and 2 leave the state as it was
+pub same-state : (last : Bool) (s : Bytes) (room : ℕ) (t : State) → (callStep last s room t .answer ≡ 1) ⊎ (callStep last s room t .answer ≡ 2) → callStep last s room t .behind ≡ t
+unfolding refusedIn refused markedBy
+same-state last s room t (inl h) = ap (λ (z : Report). z .behind) (told t (callStep last s room t) Incomplete (step-by-table last s room t) h)
+same-state last s room t (inr h) = ap (λ (z : Report). z .behind) (told t (callStep last s room t) NoRoom (step-by-table last s room t) h)
+
 -- every non-zero answer consumes 0 and writes 0
 pub zero-counts : (t : State) (r : Report) → ByTable t r → (r .answer ≡ 0 → ⊥) → (r .consumed ≡ 0) × (r .output ≡ [])
 unfolding refusedIn refused
@@ -121,6 +197,45 @@ only-the-mark t x = go (effect x) refl
     go stays-open e = inr (rw e, rw e)
     go unchanged e = inr (rw e, rw e)
     go becomes-closed e = inl (rw e, rw e)
+
+-- ---- what an accepted step consumes
+
+accept-size : (bytes : Bytes) (room : ℕ) (d : Doc) → Always (λ a. a .size ≡ length bytes) (accept bytes room d)
+unfolding accept
+accept-size bytes room d = always-any _ _ _ λ e. always-any _ _ _ λ s. always-require _ _ _ _ λ h. refl
+
+-- at least one byte, at most all, no more than an event may have, and exactly the first event
+pub record Takes (last : Bool) (rest : Bytes) (n : ℕ) : Type 0 where
+  pub some : 1 ≤ n
+  pub atMost : n ≤ length rest
+  pub inLimit : n ≤ mostEventBytes
+  pub event : cut last rest ≡ whole (take n rest)
+
+-- an accepted step consumes the first event of the rest, byte for byte
+pub step-takes : (last : Bool) (rest : Bytes) (room : ℕ) (t : State) → callStep last rest room t .answer ≡ 0 → Takes last rest (callStep last rest room t .consumed)
+unfolding callStep stepped firstEvent refusedIn refused _>>=_
+step-takes last rest room unlawful h = absurd (number-positive BadState h)
+step-takes last rest room (isClosed d) h = absurd (number-positive Closed h)
+step-takes last rest room (isOpen d) h = go (cut last rest) refl h
+  where
+    on-accept : (b : Bytes) (a : Answer Accepted) → cut last rest ≡ whole b → Always (λ a. a .size ≡ length b) a → stepped d a .answer ≡ 0 → Takes last rest (stepped d a .consumed)
+    on-accept b (refuse r) e s h = absurd (number-positive r h)
+    on-accept b (good a) e s h =
+        let f : Front rest b = cut-front last rest b e in
+        let front : take (length b) rest ≡ b = ap (take (length b)) (f .split) ∙ take-append-seam b (f .rest) in
+        rw s (record {
+          some = f .some;
+          atMost = omega (arith, ap length (f .split), length-append b (f .rest));
+          inLimit = f .inLimit;
+          event = e ∙ ap whole (sym front);
+        })
+
+    go : (c : Cut) → cut last rest ≡ c → stepped d (firstEvent c >>= λ bytes. accept bytes room d) .answer ≡ 0
+        → Takes last rest (stepped d (firstEvent c >>= λ bytes. accept bytes room d) .consumed)
+    go wait e h = absurd (number-positive Incomplete h)
+    go unended e h = absurd (number-positive NotPyx h)
+    go tooLong e h = absurd (number-positive OverLimit h)
+    go (whole b) e h = on-accept b (accept b room d) e (accept-size b room d) h
 
 -- ---- what a document's steps write
 
@@ -187,3 +302,46 @@ step-final last s t room (isClosed d) h = refl
 step-final last s t room (isOpen d) h =
     let step : Cut → Report = λ c. stepped d (firstEvent c >>= λ bytes. accept bytes room d) in
     ap step (cut-final last s t λ e. h (ap (λ (c : Cut). step c .answer) e))
+
+-- ---- the room
+
+-- an event's lines, and whether they fit
+abbrev given : Bytes → Bool → List Triple × Doc → Answer Accepted
+given bytes b s = (require b or NoRoom) >> good (record { size = length bytes; lines = write (s .0); behind = s .1 })
+
+abbrev fitted : Bytes → ℕ → Answer (List Triple × Doc) → Answer Accepted
+fitted bytes room a = a >>= λ s. given bytes (leb (length (write (s .0))) room) s
+
+abbrev Not-2 : Doc → Answer Accepted → Type 0
+Not-2 d a = stepped d a .answer ≡ 2 → ⊥
+
+accept-room : (bytes : Bytes) (room room′ : ℕ) (d : Doc) → Not-2 d (accept bytes room d) → Not-2 d (accept bytes room′ d) → accept bytes room d ≡ accept bytes room′ d
+unfolding accept stepped refusedIn refused _>>=_ _>>_ require_or_
+accept-room bytes room room′ d = on-read (readEvent bytes)
+  where
+    on-room : (s : List Triple × Doc) (b b′ : Bool) → Not-2 d (given bytes b s) → Not-2 d (given bytes b′ s) → given bytes b s ≡ given bytes b′ s
+    on-room s true true h k = refl
+    on-room s false b′ h k = absurd (h refl)
+    on-room s true false h k = absurd (k refl)
+
+    on-next : (a : Answer (List Triple × Doc)) → Not-2 d (fitted bytes room a) → Not-2 d (fitted bytes room′ a) → fitted bytes room a ≡ fitted bytes room′ a
+    on-next (refuse r) h k = refl
+    on-next (good s) h k = on-room s (leb (length (write (s .0))) room) (leb (length (write (s .0))) room′) h k
+
+    on-read : (a : Answer Event) → Not-2 d (a >>= λ e. fitted bytes room (next e d)) → Not-2 d (a >>= λ e. fitted bytes room′ (next e d))
+        → (a >>= λ e. fitted bytes room (next e d)) ≡ (a >>= λ e. fitted bytes room′ (next e d))
+    on-read (refuse r) h k = refl
+    on-read (good e) h k = on-next (next e d) h k
+
+-- the room decides only whether the answer is 2
+pub step-room : (last : Bool) (s : Bytes) (room room′ : ℕ) (q : State) → (callStep last s room q .answer ≡ 2 → ⊥) → (callStep last s room′ q .answer ≡ 2 → ⊥)
+    → callStep last s room q ≡ callStep last s room′ q
+unfolding callStep _>>=_
+step-room last s room room′ unlawful h k = refl
+step-room last s room room′ (isClosed d) h k = refl
+step-room last s room room′ (isOpen d) h k = go (firstEvent (cut last s)) h k
+  where
+    go : (a : Answer Bytes) → Not-2 d (a >>= λ bytes. accept bytes room d) → Not-2 d (a >>= λ bytes. accept bytes room′ d)
+        → stepped d (a >>= λ bytes. accept bytes room d) ≡ stepped d (a >>= λ bytes. accept bytes room′ d)
+    go (refuse r) h k = refl
+    go (good bytes) h k = ap (stepped d) (accept-room bytes room room′ d h k)

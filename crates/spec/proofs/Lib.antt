@@ -13,8 +13,11 @@ pub mod LanguageTags
 -- ---- events and calls
 pub mod PyxCut
 pub mod Calls
+pub mod Refusals
+pub mod Division
 -- ---- labels, subjects, lists
 pub mod Labels
+pub mod Decimal
 pub mod Subjects
 pub mod Lists
 pub mod NewLabels
@@ -26,6 +29,10 @@ pub mod Statements
 pub mod Numbering
 pub mod Inherited
 pub mod Languages
+-- ---- what events keep: limits, and how elements stand
+pub mod Changes
+pub mod Limits
+pub mod Nesting
 -- ---- lines
 pub mod Written
 pub mod Fine

@@ -371,6 +371,7 @@ pub grows-after : (d d′ : Doc) (ts : List Triple) → d .labels < 100_000_000 
 unfolding any-label
 grows-after d d′ ts le h = kept any-label d d′ ts (omega arith) le (trivial-frames (d .frames)) h .grows
 
+-- no document generates a 100,000,000th label
 pub bound-after : (d d′ : Doc) (ts : List Triple) → d .labels < 100_000_000 → After d d′ ts → d′ .labels < 100_000_000
 unfolding any-label
 bound-after d d′ ts le h = kept any-label d d′ ts (omega arith) le (trivial-frames (d .frames)) h .bound

@@ -27,9 +27,13 @@ pub mod XmlLiteral
 pub mod Opening
 pub mod EndTag
 pub mod RdfXml
+-- ---- what holds of the open elements and of all that is kept
+pub mod Within
+pub mod Nesting
 -- ---- the calls and the program
 pub mod Calls
 pub mod Pyx2nt
+pub mod Feeding
 -- ---- worked examples
 pub mod Examples
 -- ---- demand 3
