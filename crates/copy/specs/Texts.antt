@@ -7,36 +7,9 @@ use native.Mathlib.Omega.{arith}
 use lib.Dec.{eqb}
 use lib.ListN.{length, take, drop, getD}
 use borrow.Author.Tests.{eq-eqb, eqb-true}
-use Rattle.spec.specs.Bytes.{Bytes, if_then_else_, same, begins, after, upTo, from}
-use Rattle.spec.proofs.Booleans.{and-left, and-right, and-both}
-
--- ---- the same text
-
-pub same-true : (u v : Bytes) → same u v ≡ true → u ≡ v
-unfolding same
-same-true [] [] h = refl
-same-true [] (b ∷ v) h = absurd (false≢true h)
-same-true (a ∷ u) [] h = absurd (false≢true h)
-same-true (a ∷ u) (b ∷ v) h =
-    let p : a ≡ b = eqb-true a b (and-left (eqb a b) (same u v) h) in
-    let q : u ≡ v = same-true u v (and-right (eqb a b) (same u v) h) in
-    cc
-
-pub same-refl : (u : Bytes) → same u u ≡ true
-unfolding same
-same-refl [] = refl
-same-refl (a ∷ u) = and-both (eqb a a) (same u u) (eq-eqb a a refl) (same-refl u)
-
-no-true : (t : Bool) → (t ≡ true → ⊥) → t ≡ false
-no-true true h = absurd (h refl)
-no-true false h = refl
-
-pub same-false : (u v : Bytes) → (u ≡ v → ⊥) → same u v ≡ false
-same-false u v f = no-true (same u v) λ e. f (same-true u v e)
-
--- texts of different lengths differ
-pub same-lengths : (u v : Bytes) → (length u ≡ length v → ⊥) → same u v ≡ false
-same-lengths u v f = same-false u v λ e. f (ap length e)
+use Rattle.spec.specs.Bytes.{Bytes, if_then_else_, begins, after, upTo, from}
+use Rattle.spec.proofs.Booleans.{and-left, and-right, and-both, no-true}
+pub use Rattle.spec.proofs.Bytes.{same-true, same-refl, same-false, same-lengths}
 
 -- ---- what a text begins with
 

@@ -2,15 +2,16 @@
 use mathlib.Core.Path.{_≡_, refl, sym, ap, _∙_}
 use mathlib.Core.Bool.{Bool, true, false}
 use mathlib.Core.List.{List, [], _∷_, _++_, append-nil, append-assoc}
-use Prim.Native.Nat.{ℕ, zero, suc, _+_, _-_, _/_, _%_, _<_, _≤_}
+use Prim.Native.Nat.{ℕ, suc, _+_, _-_, _/_, _%_, _<_, _≤_}
 use native.Mathlib.Numerals.{add-one}
 use native.Mathlib.Omega.{arith}
 use lib.Dec.{eqb}
-use lib.ListN.{length, drop, getD, set, length-append, length-set, drop-of-length-le}
+use lib.ListN.{length, drop, getD, set, length-set, drop-of-length-le}
 use lib.Seq.{drop-cons, drop-length, drop-set-lt, getD-set-same}
 use borrow.Author.Tests.{ne-eqb, le-leb, lt-leb}
 use Rattle.spec.specs.Bytes.{byte, between}
 use Rattle.spec.specs.NTriples.{digits, dropZeros, decimal}
+pub use Rattle.spec.proofs.Labels.{length-digits}
 
 -- `from` is behind the leading zeros of `s`
 pub record Zeros (s : List ℕ) (from : ℕ) : Type 0 where
@@ -23,11 +24,6 @@ pub record Decimals (v : ℕ) (ds : List ℕ) (from : ℕ) : Type 0 where
   pub size : length ds ≡ 20
   pub within : from ≤ 20
   pub text : drop from ds ≡ decimal v
-
-pub length-digits : (k v : ℕ) → length (digits k v) ≡ k
-unfolding digits
-length-digits zero v = refl
-length-digits (suc k) v = length-append (digits k (v / 10)) ((48 + v % 10) ∷ []) ∙ (ap (_+ 1) (length-digits k (v / 10)) ∙ omega arith)
 
 length-dropZeros : (s : List ℕ) → length (dropZeros s) ≤ length s
 unfolding dropZeros

@@ -3,7 +3,7 @@
 use mathlib.Core.Path.{_≡_, refl}
 use mathlib.Core.Bool.{Bool, true, false}
 use mathlib.Core.List.{List, [], _∷_, _++_}
-use Rattle.spec.specs.Bytes.{if_then_else_, _>>=_, _>>_, require_or_, each}
+use Rattle.spec.specs.Bytes.{if_then_else_, _>>=_, _>>_, require_or_, each, All}
 use Rattle.spec.specs.Numbers.{Answer, refuse, good}
 use Rattle.spec.specs.declared.Refusal.{Refusal}
 use Rattle.spec.specs.Examples.Proved
@@ -67,10 +67,6 @@ pub always-good : {A : Type 0} (Q : A → Type 0) {m : Answer A} {a : A} → Alw
 always-good Q h e = rw e at h
 
 -- ---- of every element
-
-abbrev pub All : {A : Type 0} → (A → Type 0) → List A → Type 0
-All P [] = Unit {0}
-All P (a ∷ l) = P a × All P l
 
 pub always-each : {A B : Type 0} (P : A → Type 0) (Q : B → Type 0) (f : A → Answer B) → ((a : A) → P a → Always Q (f a)) → (l : List A) → All P l → Always (All Q) (each f l)
 unfolding each

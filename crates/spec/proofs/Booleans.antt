@@ -26,3 +26,7 @@ and-right false b h = absurd (false≢true h)
 pub and-both : (a b : Bool) → a ≡ true → b ≡ true → (a && b) ≡ true
 and-both true b p q = q
 and-both false b p q = p
+
+pub no-true : (t : Bool) → (t ≡ true → ⊥) → t ≡ false
+no-true true h = absurd (h refl)
+no-true false h = refl

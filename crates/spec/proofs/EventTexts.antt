@@ -6,14 +6,14 @@ use mathlib.Core.List.{List, [], _∷_, _++_, append-assoc, append-nil, dropLast
 use Prim.Native.Nat.{ℕ}
 use lib.Dec.{eqb}
 use borrow.Author.Tests.{eqb-true}
-use Rattle.spec.specs.Bytes.{Bytes, ascii, byte, if_then_else_, begins, after, upTo, from, among, every, onto, split, concat, _>>=_}
+use Rattle.spec.specs.Bytes.{Bytes, ascii, byte, if_then_else_, begins, after, upTo, from, among, every, onto, split, concat, _>>=_, All}
 use Rattle.spec.specs.Numbers.{good}
 use Rattle.spec.specs.Utf8.{asCharacters}
 use Rattle.spec.specs.XmlNames.{isChar, isName, isNCName, isQName, noColon, prefixOf, localOf}
 use Rattle.spec.specs.Pyx.{Attribute, attribute, Event, opening, closing, text, instruction, escaped, unescape, name, readAttribute, readOpening, readClosing, readText, readLines, readEvent}
 use Rattle.spec.specs.PyxCut.{goesOn, inFront, reach, whole, cut}
 use Rattle.spec.proofs.Booleans.{and-left, and-right, or-cases}
-use Rattle.spec.proofs.Always.{Always, always-bind, always-require, always-if, always-each, All}
+use Rattle.spec.proofs.Always.{Always, always-bind, always-require, always-if, always-each}
 use Rattle.spec.proofs.Utf8.{isAscii, Text, decoded-text, join, byte-text, empty-text, cut-at}
 use Rattle.spec.proofs.Cuts.{From, nothing, found, from-view, up-to-from, among-low, past-text}
 use Rattle.spec.proofs.PyxCut.{cut-reach}

@@ -67,7 +67,7 @@ unfolding between isAscii
 ascii-digits k n =
     every-map (between 48 57) isAscii (λ c h. let le : c ≤ 57 = leb-true c 57 (and-right (leb 48 c) (leb c 57) h) in lt-ltb c 128 (omega arith)) (digits k n) (all-digits k n)
 
-length-digits : (k n : ℕ) → length (digits k n) ≡ k
+pub length-digits : (k n : ℕ) → length (digits k n) ≡ k
 unfolding digits
 length-digits zero n = refl
 length-digits (suc k) n = length-append (digits k (n / 10)) ((48 + n % 10) ∷ []) ∙ (ap (_+ 1) (length-digits k (n / 10)) ∙ omega arith)

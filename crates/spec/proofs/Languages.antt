@@ -28,7 +28,7 @@ use Rattle.spec.specs.Inside.{Element}
 use Rattle.spec.specs.XmlLiteral.{addXml}
 use Rattle.spec.proofs.Booleans.{and-left, and-right}
 use borrow.Author.Tests.{not-true}
-use Rattle.spec.proofs.Lists.{same-true}
+use Rattle.spec.proofs.Bytes.{same-true}
 use Rattle.spec.proofs.Always.{Always, always-bind, always-any, always-after, always-require, always-if, always-map, always-good}
 use Rattle.spec.proofs.Frames.{scopeOf, Read, tag-read, always-next}
 use Rattle.spec.proofs.Inherited.{said-count, said-value, same-language, last-language}

@@ -1,6 +1,7 @@
 -- The theorems about the definitions, in reading order.
 -- ---- tools
 pub mod Booleans
+pub mod Bytes
 pub mod Always
 -- ---- grammars
 pub mod Grammar

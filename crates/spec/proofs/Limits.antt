@@ -8,7 +8,7 @@ use native.Mathlib.Omega.{arith}
 use lib.Dec.{leb}
 use lib.ListN.{length, length-append}
 use borrow.Author.Tests.{ltb-true, leb-true}
-use Rattle.spec.specs.Bytes.{Bytes, if_then_else_, orElse, present, total}
+use Rattle.spec.specs.Bytes.{Bytes, if_then_else_, orElse, present, total, All}
 use Rattle.spec.specs.Bytes as B
 use Rattle.spec.specs.Numbers.{Answer, refuse, good}
 use Rattle.spec.specs.Limits.{mostOpenElements, mostAttributes, mostBindings, mostNameBytes, mostIds, mostIdBytes, mostHeldBytes, mostLabels}
@@ -27,7 +27,7 @@ use Rattle.spec.specs.EndTag as C
 use Rattle.spec.specs.RdfXml as X
 use Rattle.spec.specs.Calls.{State, isOpen, isClosed, unlawful, mayStart, started, callStart, refused}
 use Rattle.spec.specs.Lists.{After}
-use Rattle.spec.specs.Within.{All, Short, Short?, ShortSubject, ShortValue, ShortKind, ShortFrame, Within}
+use Rattle.spec.specs.Within.{Short, Short?, ShortSubject, ShortValue, ShortKind, ShortFrame, Within}
 use Rattle.spec.proofs.Booleans.{and-left, and-right}
 use Rattle.spec.proofs.Always.{Always, always-bind, always-any, always-then, always-after, always-test, always-require, always-if, always-map, always-good}
 use Rattle.spec.proofs.Calls.{number-positive, Steps, written, always-lawful}

@@ -1,17 +1,15 @@
 -- Demand 3: lists can be read back.
 use mathlib.Core.Path.{_≡_, refl, sym, _∙_, ap, subst}
 use mathlib.Core.Logic.{_⊎_, inl, inr}
-use mathlib.Core.Bool.{Bool, true, false, false≢true, true≢false}
+use mathlib.Core.Bool.{Bool, true, false, true≢false}
 use mathlib.Core.Option.{Option, none, some}
 use mathlib.Core.List.{List, [], _∷_, _++_, reverseAux, reverse, append-assoc}
 use Prim.Native.Nat.{ℕ, suc, _+_, _≤_, _<_}
 use native.Mathlib.Omega.{arith}
-use lib.Dec.{eqb}
 use lib.ListN.{length}
-use borrow.Author.Tests.{eqb-true, eq-eqb, leb-true}
-use Rattle.spec.specs.Bytes.{Bytes, if_then_else_, same}
+use borrow.Author.Tests.{leb-true}
+use Rattle.spec.specs.Bytes.{Bytes, if_then_else_}
 use Rattle.spec.specs.Numbers.{Answer, good}
-use Rattle.spec.proofs.Booleans.{and-left, and-right, and-both}
 use Rattle.spec.specs.Pyx.{Event, closing}
 use Rattle.spec.specs.NTriples.{Subject, named, blank, Term, node, Triple, triple, label}
 use Rattle.spec.specs.Rdf.{rdf}
@@ -26,32 +24,9 @@ use Rattle.spec.specs.RdfXml.{next}
 use Rattle.spec.specs.RdfXml as X
 use Rattle.spec.proofs.Always.{Always, always-bind, always-require}
 use Rattle.spec.specs.Lists.{sameSubject, linesOf, After, here, event, Cell, Reads}
+use Rattle.spec.proofs.Bytes.{same-refl, same-false}
 use Rattle.spec.proofs.Labels.{label-inj, label-generated}
 use Rattle.spec.proofs.Subjects.{Rule, Of?, OfChildren, OfObject, OfValue, OfKind, OfFrames, OfLines, no-line, with-line, lines-append, Outcome, step, statement-lines, cell-lines}
-
--- ---- equality of texts
-
-pub same-true : (u v : Bytes) → same u v ≡ true → u ≡ v
-unfolding same
-same-true [] [] h = refl
-same-true [] (b ∷ v) h = absurd (false≢true h)
-same-true (a ∷ u) [] h = absurd (false≢true h)
-same-true (a ∷ u) (b ∷ v) h =
-    let p : a ≡ b = eqb-true a b (and-left (eqb a b) (same u v) h) in
-    let q : u ≡ v = same-true u v (and-right (eqb a b) (same u v) h) in
-    cc
-
-same-refl : (u : Bytes) → same u u ≡ true
-unfolding same
-same-refl [] = refl
-same-refl (a ∷ u) = and-both (eqb a a) (same u u) (eq-eqb a a refl) (same-refl u)
-
-same-false : (u v : Bytes) → (u ≡ v → ⊥) → same u v ≡ false
-same-false u v f = go (same u v) refl
-  where
-    go : (b : Bool) → same u v ≡ b → b ≡ false
-    go true e = absurd (f (same-true u v e))
-    go false e = refl
 
 -- ---- subjects that are not a given label
 

@@ -4,7 +4,7 @@ use mathlib.Core.Bool.{Bool, true}
 use mathlib.Core.Option.{Option, none, some}
 use mathlib.Core.List.{List, [], _++_}
 use native.Mathlib.Omega.{arith}
-use Rattle.spec.specs.Bytes.{Bytes, ascii}
+use Rattle.spec.specs.Bytes.{Bytes, ascii, All}
 use Rattle.spec.specs.Numbers.{good}
 use Rattle.spec.specs.Grammar.{accepts}
 use Rattle.spec.specs.Rfc3987.{IRI, isIri}
@@ -15,7 +15,7 @@ use Rattle.spec.specs.Document.{Doc, fresh}
 use Rattle.spec.specs.RdfXml.{next}
 use Rattle.spec.specs.Lists.{After, here, event}
 use Rattle.spec.specs.Calls.{mayStart, State, isOpen, isClosed, unlawful}
-use Rattle.spec.proofs.Always.{Always, always-test, always-require, always-good, All, all-append}
+use Rattle.spec.proofs.Always.{Always, always-test, always-require, always-good, all-append}
 use Rattle.spec.proofs.Utf8.{decoded-text}
 use Rattle.spec.proofs.Cuts.{Text?}
 use Rattle.spec.proofs.Spelled.{In}

@@ -5,7 +5,7 @@ use mathlib.Core.Option.{Option}
 use mathlib.Core.List.{List, [], _∷_}
 use Prim.Native.Nat.{ℕ, _≤_}
 use native.Mathlib.Omega.{arith}
-use Rattle.spec.specs.Bytes.{Bytes, if_then_else_}
+use Rattle.spec.specs.Bytes.{Bytes, if_then_else_, All}
 use Rattle.spec.specs.NTriples.{Subject, Triple}
 use Rattle.spec.specs.Document.{Value, default, collection, literal, other, Property, Kind, rdfRDF, nodeElement, propertyElement, xmlElement, Frame, Doc, fresh, withFrames, withLabels, withKind, Place, outside, nodes, nodesOrText, xml, properties, inValue, inKind, placeIn, changeValue, onValue, isXmlElement, subjectBytes, kindBytes, frameBytes}
 use Rattle.spec.specs.StartTag.{Tag}
@@ -18,7 +18,7 @@ use Rattle.spec.specs.EndTag as C
 use Rattle.spec.specs.RdfXml as X
 use Rattle.spec.specs.Lists.{After}
 use Rattle.spec.specs.Limits.{mostHeldBytes}
-use Rattle.spec.specs.Within.{All, Short?}
+use Rattle.spec.specs.Within.{Short?}
 use Rattle.spec.specs.Nesting.{Stands, Nested}
 use Rattle.spec.proofs.Always.{Always, always-any, always-after, always-require, always-if, always-good}
 use Rattle.spec.proofs.Changes.{Produces, Change, stays, takes-text, takes-xml, copies, opens, ends-root, ends-node, ends-property, ends-xml, always-holds}

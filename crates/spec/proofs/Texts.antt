@@ -9,7 +9,7 @@ use Prim.Native.String.{String}
 use native.Mathlib.Omega.{arith}
 use lib.Dec.{eqb}
 use borrow.Author.Tests.{ne-eqb}
-use Rattle.spec.specs.Bytes.{Bytes, ascii, byte, if_then_else_, same, those, every, orElse, isEmpty}
+use Rattle.spec.specs.Bytes.{Bytes, ascii, byte, if_then_else_, same, those, every, orElse, isEmpty, All}
 use Rattle.spec.specs.Bytes as B
 use Rattle.spec.specs.Numbers.{Answer}
 use Rattle.spec.specs.XmlNames.{noColon, prefixOf, localOf}
@@ -31,7 +31,7 @@ use Rattle.spec.specs.EndTag as C
 use Rattle.spec.specs.RdfXml.{next}
 use Rattle.spec.specs.RdfXml as X
 use Rattle.spec.proofs.Booleans.{and-right}
-use Rattle.spec.proofs.Always.{Always, always-bind, always-after, always-require, always-if, All, always-each, all-append}
+use Rattle.spec.proofs.Always.{Always, always-bind, always-after, always-require, always-if, always-each, all-append}
 use Rattle.spec.proofs.Utf8.{isAscii, Text, join, ascii-text, empty-text}
 use Rattle.spec.proofs.Cuts.{Text?, past-text}
 use Rattle.spec.proofs.Spelled.{coded-text}

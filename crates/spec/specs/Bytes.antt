@@ -84,6 +84,11 @@ unfoldable pub inRanges : List (ℕ × ℕ) → ℕ → Bool
 inRanges [] c = false
 inRanges (r ∷ rs) c = between (r .0) (r .1) c || inRanges rs c
 
+-- what holds of every element
+abbrev pub All : {A : Type 0} → (A → Type 0) → List A → Type 0
+All P [] = Unit {0}
+All P (a ∷ l) = P a × All P l
+
 -- does a text stand more than once in a list?
 unfoldable pub repeats : List Bytes → Bool
 repeats [] = false

@@ -3,15 +3,10 @@ use mathlib.Core.Option.{Option, none, some}
 use mathlib.Core.List.{List, [], _∷_}
 use Prim.Native.Nat.{_≤_}
 use lib.ListN.{length}
-use Rattle.spec.specs.Bytes.{Bytes, total}
+use Rattle.spec.specs.Bytes.{Bytes, total, All}
 use Rattle.spec.specs.Limits.{mostOpenElements, mostBindings, mostNameBytes, mostIds, mostIdBytes, mostHeldBytes, mostLabels}
 use Rattle.spec.specs.NTriples.{Subject, named, blank}
 use Rattle.spec.specs.Document.{Object, noObject, nodeObject, textObject, Value, default, collection, literal, other, Kind, rdfRDF, nodeElement, propertyElement, xmlElement, Frame, Doc, inScope, heldBytes}
-
--- of each element of a list
-abbrev pub All : {A : Type 0} → (A → Type 0) → List A → Type 0
-All P [] = Unit {0}
-All P (a ∷ l) = P a × All P l
 
 -- "any expanded name, IRI or base 1,024 bytes"
 abbrev pub Short : Bytes → Type 0
