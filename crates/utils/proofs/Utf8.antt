@@ -183,12 +183,12 @@ upTo-on (a ∷ s) = by (goesOn a) refl (upTo-on s)
     by true e h = rw e h
     by false e h = refl
 
-take-upTo : (s : Bytes) → take (length (upTo ends s)) s ≡ upTo ends s
+pub take-upTo : (p : ℕ → Bool) (s : Bytes) → take (length (upTo p s)) s ≡ upTo p s
 unfolding upTo if_then_else_
-take-upTo [] = refl
-take-upTo (a ∷ s) = by (ends a) (take-upTo s)
+take-upTo p [] = refl
+take-upTo p (a ∷ s) = by (p a) (take-upTo p s)
   where
-    by : (t : Bool) → take (length (upTo ends s)) s ≡ upTo ends s → take (length (if t then [] else (a ∷ upTo ends s))) (a ∷ s) ≡ (if t then [] else (a ∷ upTo ends s))
+    by : (t : Bool) → take (length (upTo p s)) s ≡ upTo p s → take (length (if t then [] else (a ∷ upTo p s))) (a ∷ s) ≡ (if t then [] else (a ∷ upTo p s))
     by true h = refl
     by false h = ap (_∷_ a) h
 
@@ -269,18 +269,23 @@ front-scalar {n = n} {s = s} f = alone-scalar (take n s) (f .alone)
 
 -- ---- tests on all characters
 
--- a test on each character, from the front
-pub front-every : {c n : ℕ} {s : Bytes} (p : ℕ → Bool) → Front c n s → asCharacters (every p) s ≡ (p c && asCharacters (every p) (drop n s))
-unfolding asCharacters holdsOf inFront every
-front-every {c} {n} {s} p f = rw (front-characters f) (by (characters (drop n s)))
+-- a test of the characters that goes by the first and the rest
+pub front-holds : {c n : ℕ} {s : Bytes} (f g : List ℕ → Bool) (p : ℕ → Bool) → ((d : ℕ) (ds : List ℕ) → f (d ∷ ds) ≡ (p d && g ds)) → Front c n s → asCharacters f s ≡ (p c && asCharacters g (drop n s))
+unfolding asCharacters holdsOf inFront
+front-holds {c} {n} {s} f g p e h = rw (front-characters h) (by (characters (drop n s)))
   where
     no : (t : Bool) → false ≡ (t && false)
     no true = refl
     no false = refl
 
-    by : (o : Option (List ℕ)) → holdsOf (every p) (inFront (some c) o) ≡ (p c && holdsOf (every p) o)
+    by : (o : Option (List ℕ)) → holdsOf f (inFront (some c) o) ≡ (p c && holdsOf g o)
     by none = no (p c)
-    by (some cs) = refl
+    by (some cs) = e c cs
+
+-- a test of each character
+pub front-every : {c n : ℕ} {s : Bytes} (p : ℕ → Bool) → Front c n s → asCharacters (every p) s ≡ (p c && asCharacters (every p) (drop n s))
+unfolding every
+front-every p h = front-holds (every p) (every p) p (λ d ds. refl) h
 
 -- no test passes where no beginning is a character
 pub stuck-fails : {s : Bytes} (p : List ℕ → Bool) → Stuck s → asCharacters p s ≡ false
@@ -288,10 +293,10 @@ unfolding asCharacters holdsOf
 stuck-fails p h = rw (stuck-characters h)
 
 -- nothing to test
-pub empty-every : (p : ℕ → Bool) (s : Bytes) → length s ≡ 0 → asCharacters (every p) s ≡ true
-unfolding asCharacters holdsOf every
-empty-every p [] h = rw no-bytes
-empty-every p (b ∷ u) h = absurd (omega arith)
+pub empty-holds : (f : List ℕ → Bool) (s : Bytes) → length s ≡ 0 → asCharacters f s ≡ f []
+unfolding asCharacters holdsOf
+empty-holds f [] h = rw no-bytes
+empty-holds f (b ∷ u) h = absurd (omega arith)
 
 -- ---- tests on bytes
 

@@ -1,4 +1,4 @@
-use Rattle.utils.proofs.FirstByte.{inverted}
+use Rattle.utils.proofs.Computed.{inverted}
 use native.Mathlib.Omega.{arith}
 use borrow.Author.Needs.{needs}
 use Rattle.utils.proofs.sequence_length.Statement.{statement}
