@@ -1,7 +1,7 @@
 -- XML's characters and names: the steps of the tests, and what an answer of `qname` says.
 use mathlib.Core.Path.{_≡_, refl, sym, ap, _∙_}
 use mathlib.Core.Logic.{_⊎_, inl, inr, ⊎-elim}
-use mathlib.Core.Bool.{Bool, true, false, _&&_, _||_, not}
+use mathlib.Core.Bool.{Bool, true, false, _&&_, _||_, not, false≢true}
 use mathlib.Core.List.{List, [], _∷_}
 use Prim.Native.Nat.{ℕ, suc, _+_, _<_, _≤_}
 use native.Mathlib.Omega.{arith}
@@ -13,6 +13,7 @@ use borrow.Author.Tests.{le-leb, lt-leb, eq-eqb, ne-eqb, eqb-true, eqb-false}
 use Rattle.spec.specs.Bytes.{Bytes, ascii, byte, if_then_else_, after, among, upTo, from, every, between, inRanges}
 use Rattle.spec.specs.Utf8.{asCharacters}
 use Rattle.spec.specs.XmlNames.{isChar, isNameStart, isNameChar, isName, noColon, isNCName, prefixOf, localOf, isQName}
+use Rattle.utils.specs.declared.Name.{Name}
 use Rattle.utils.specs.declared.Name.the-variants.{NotName, Local, Prefixed}
 use Rattle.utils.specs.Decoding.{Front, Stuck}
 use Rattle.utils.specs.Names.{nameOf, isNCRest}
@@ -212,3 +213,57 @@ module _ (s : Bytes) {k : ℕ} (e : k ≡ before s) where
     pub name-no-local : true ≡ isNCName (take k s) → false ≡ isNCName (drop (k + 1) s) → NotName ≡ nameOf s
     unfolding nameOf if_then_else_
     name-no-local p q = rw (parts-are, ← p, ← q)
+
+-- ---- what callers cite of a name
+
+pub record NoPrefix (s : Bytes) : Type 0 where
+  pub name : isQName s ≡ true
+  pub colon : noColon s ≡ true
+  pub prefix : prefixOf s ≡ []
+  pub local : localOf s ≡ s
+
+pub record HasPrefix (k : ℕ) (s : Bytes) : Type 0 where
+  pub name : isQName s ≡ true
+  pub colon : noColon s ≡ false
+  pub within : k < length s
+  pub prefix : prefixOf s ≡ take k s
+  pub local : localOf s ≡ drop (k + 1) s
+
+-- by whether it is a name, and has no colon
+shape : Bool → Bool → ℕ → Name
+shape q n k = if q then if n then Local else Prefixed k else NotName
+
+pub not-name : (s : Bytes) → NotName ≡ nameOf s → isQName s ≡ false
+unfolding nameOf shape if_then_else_
+not-name s e = by (isQName s) (noColon s) e
+  where
+    by : (q n : Bool) → NotName ≡ shape q n (before s) → q ≡ false
+    by true true e = absurd (let z : _≡_ {A = ℕ} 0 1 = cc in omega arith)
+    by true false e = absurd (let z : _≡_ {A = ℕ} 0 1 = cc in omega arith)
+    by false n e = refl
+
+pub no-prefix : (s : Bytes) → Local ≡ nameOf s → NoPrefix s
+unfolding nameOf shape prefixOf localOf if_then_else_
+no-prefix s e =
+    let p = by (isQName s) (noColon s) e in
+    record { name = p .0; colon = p .1; prefix = rw (p .1); local = rw (p .1) }
+  where
+    by : (q n : Bool) → Local ≡ shape q n (before s) → (q ≡ true) × (n ≡ true)
+    by true true e = (refl, refl)
+    by true false e = absurd (let z : _≡_ {A = ℕ} 0 1 = cc in omega arith)
+    by false n e = absurd (let z : _≡_ {A = ℕ} 0 1 = cc in omega arith)
+
+pub has-prefix : (s : Bytes) {k : ℕ} → Prefixed k ≡ nameOf s → HasPrefix k s
+unfolding nameOf shape if_then_else_
+has-prefix s {k} e = of (by (isQName s) (noColon s) e) (colon s)
+  where
+    by : (q n : Bool) → Prefixed k ≡ shape q n (before s) → (q ≡ true) × (n ≡ false) × (k ≡ before s)
+    by true true e = absurd (let z : _≡_ {A = ℕ} 0 1 = cc in omega arith)
+    by true false e = (refl, refl, cc)
+    by false n e = absurd (let z : _≡_ {A = ℕ} 0 1 = cc in omega arith)
+
+    of : (isQName s ≡ true) × (noColon s ≡ false) × (k ≡ before s) → Colon s → HasPrefix k s
+    of p (without n l) = absurd (false≢true (sym (p .1) ∙ n))
+    of p (with-one n l) =
+        let h : k < length s = omega arith in
+        record { name = p .0; colon = n; within = h; prefix = prefix-is s (p .2) h; local = local-is s (p .2) h }

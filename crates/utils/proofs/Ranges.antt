@@ -11,23 +11,23 @@ use borrow.Author.Tests.{le-leb, lt-leb, leb-true}
 use Rattle.spec.specs.Bytes.{byte, between, inRanges}
 use Rattle.spec.specs.XmlNames.{startRanges, furtherRanges}
 use Rattle.spec.proofs.Booleans.{and-left, and-right}
-use Rattle.utils.specs.Ranges.{table, ranges, ascendingFrom}
+use Rattle.utils.specs.Ranges.{bounds, table, ranges, ascendingFrom}
 
 -- the sixteen start ranges and the six further ranges stand in the table, in ascending order
 pub table-start : ranges table 0 16 ≡ startRanges
-unfolding ranges table startRanges byte
+unfolding ranges table bounds startRanges furtherRanges byte
 table-start = refl
 
 pub table-further : ranges table 16 6 ≡ furtherRanges
-unfolding ranges table furtherRanges byte
+unfolding ranges table bounds startRanges furtherRanges byte
 table-further = refl
 
 pub start-ascending : ascendingFrom 0 (ranges table 0 16) ≡ true
-unfolding ranges table ascendingFrom
+unfolding ranges table bounds startRanges furtherRanges byte ascendingFrom
 start-ascending = refl
 
 pub further-ascending : ascendingFrom 0 (ranges table 16 6) ≡ true
-unfolding ranges table ascendingFrom
+unfolding ranges table bounds startRanges furtherRanges byte ascendingFrom
 further-ascending = refl
 
 -- a number before the first of some ascending ranges is in none

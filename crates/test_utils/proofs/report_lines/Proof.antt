@@ -1,6 +1,6 @@
 use lib.Seq.{length-take-le}
 use mathlib.Core.Path.{sym}
-use lib.ListN.{length, length-set, length-take}
+use lib.ListN.{length, length-set}
 use Prim.Native.Nat.{_-_, _≤_}
 use mathlib.Core.Path.{_≡_}
 use mathlib.Core.Logic.{⊎-elim}
@@ -8,10 +8,6 @@ use native.Mathlib.Omega.{arith}
 use borrow.Author.Needs.{needs}
 use Rattle.test_utils.proofs.report_lines.Statement.{statement}
 use Rattle.test_utils.proofs.report_lines.Tie as tie
-use Rattle.test_utils.proofs.report_lines.Reads as reads
-use Rattle.test_utils.proofs.report_lines.Lts as lts
-use Rattle.test_utils.proofs.digit.Reads as digit-reads
-use Rattle.test_utils.proofs.report.Reads as report-reads
 
 abbrev Inv-loop : tie.InvT-loop
 Inv-loop input bytes₀ n₀ i₀ bytes n i = (i ≤ length input) × (n ≤ 32) × (length bytes ≡ 32)
@@ -19,87 +15,66 @@ Inv-loop input bytes₀ n₀ i₀ bytes n i = (i ≤ length input) × (n ≤ 32)
 abbrev μ-loop : tie.MeasureT-loop
 μ-loop input bytes₀ n₀ i₀ bytes n i = length input - i
 
--- src/main.rt:20:5
 loop-holds : tie.Need-loop-holds Inv-loop μ-loop
 loop-holds c = search needs
 
--- src/main.rt:20:11
 add-loop : tie.Need-add-loop Inv-loop μ-loop
 add-loop c = search needs
 
--- src/main.rt:22:13
 returns : tie.Need-returns Inv-loop μ-loop
 returns c = search needs
 
--- src/main.rt:24:26
 shared-slice-read-digit : tie.Need-shared-slice-read-digit Inv-loop μ-loop
 shared-slice-read-digit c = search needs
 
--- src/main.rt:24:20
 digit-requires : tie.Need-digit-requires Inv-loop μ-loop
 digit-requires c κs = search needs
 
--- src/main.rt:24:20
 mul-bytes : tie.Need-mul-bytes Inv-loop μ-loop
 mul-bytes c = search needs
 
--- src/main.rt:24:55
 add-digit : tie.Need-add-digit Inv-loop μ-loop
 add-digit c = search needs
 
--- src/main.rt:24:49
 shared-slice-read-digit-2 : tie.Need-shared-slice-read-digit-2 Inv-loop μ-loop
 shared-slice-read-digit-2 c = search needs
 
--- src/main.rt:24:43
 digit-requires-2 : tie.Need-digit-requires-2 Inv-loop μ-loop
 digit-requires-2 c κs = search needs
 
--- src/main.rt:24:20
 add-bytes : tie.Need-add-bytes Inv-loop μ-loop
 add-bytes c = search needs
 
--- src/main.rt:24:9
 array-write-bytes : tie.Need-array-write-bytes Inv-loop μ-loop
 array-write-bytes c = search needs
 
--- src/main.rt:25:9
 add-n : tie.Need-add-n Inv-loop μ-loop
 add-n c = search needs
 
--- src/main.rt:26:18
 add-if2 : tie.Need-add-if2 Inv-loop μ-loop
 add-if2 c = search needs
 
--- src/main.rt:26:12
 shared-slice-read-if2 : tie.Need-shared-slice-read-if2 Inv-loop μ-loop
 shared-slice-read-if2 c = search needs
 
--- src/main.rt:27:20
 array-share-prefix-bytes : tie.Need-array-share-prefix-bytes Inv-loop μ-loop
 array-share-prefix-bytes c = simp length-set (omega arith)
 
--- src/main.rt:27:20
 slice-aggregate-report : tie.Need-slice-aggregate-report Inv-loop μ-loop
 slice-aggregate-report c = sym (length-take-le _ _ (simp length-set (omega arith)))
 
--- src/main.rt:27:13
 report-requires : tie.Need-report-requires Inv-loop μ-loop
 report-requires c κs = search needs
 
--- src/main.rt:30:9
 add-i : tie.Need-add-i Inv-loop μ-loop
 add-i c = search needs
 
--- src/main.rt:20:5
 loop-less : tie.Need-loop-less Inv-loop μ-loop
 loop-less c = search needs
 
--- src/main.rt:20:5
 loop-again : tie.Need-loop-again Inv-loop μ-loop
 loop-again c = (omega arith, ⊎-elim (λ w. omega arith) (λ w. omega arith) (c .if2 .came), simp length-set (omega arith))
 
--- src/main.rt:16:1
 returns-2 : tie.Need-returns-2 Inv-loop μ-loop
 returns-2 c = search needs
 
