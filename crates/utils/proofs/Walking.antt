@@ -9,7 +9,7 @@ use lib.Seq.{drop-cons, drop-drop, take-length}
 use Rattle.spec.specs.Bytes.{Bytes, every}
 use Rattle.spec.specs.Utf8.{asCharacters}
 use Rattle.utils.specs.Decoding.{Front, Stuck}
-use Rattle.utils.proofs.Utf8.{front-every, stuck-fails, empty-holds}
+use Rattle.utils.proofs.Front.{front-every, stuck-fails, empty-holds}
 
 -- a part up to the end
 pub to-end : (s : Bytes) (i : ℕ) → take (length s - i) (drop i s) ≡ drop i s

@@ -1,3 +1,4 @@
+-- `print_bytes`. The invariant: i is within the bytes.
 use lib.ListN.{length}
 use Prim.Native.Nat.{_-_, _≤_}
 use borrow.Author.Needs.{needs}

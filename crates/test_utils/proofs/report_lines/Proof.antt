@@ -1,3 +1,4 @@
+-- `report_lines`. The invariant: i is within the input, and at most 32 bytes are gathered.
 use lib.Seq.{length-take-le}
 use mathlib.Core.Path.{sym}
 use lib.ListN.{length, length-set}

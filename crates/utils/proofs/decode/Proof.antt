@@ -1,3 +1,4 @@
+-- `decode`: what the first byte says leads to each answer, by the laws of Decoding.
 use Rattle.utils.proofs.Decoding.{begins, front-one, stuck-first}
 use mathlib.Core.Path.{sym, _∙_}
 use Rattle.spec.specs.Bytes.{if_then_else_}

@@ -1,3 +1,4 @@
+-- `goes_on`: a byte goes on where it has one leading one bit.
 use Rattle.spec.specs.Utf8.{goesOn}
 use borrow.Author.Needs.{needs}
 use Rattle.utils.proofs.goes_on.Statement.{statement}

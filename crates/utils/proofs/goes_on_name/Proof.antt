@@ -1,3 +1,4 @@
+-- `goes_on_name`: in one of the start ranges, or else in one of the further ranges.
 use Rattle.utils.proofs.Ranges.{start-asked, start-found, further-asked, name-start, name-found}
 use mathlib.Core.Path.{sym, _∙_}
 use Rattle.utils.proofs.goes_on_name.Statement.{statement}

@@ -1,3 +1,4 @@
+-- `in_ranges`. The invariant: the ranges from the ith on decide, and they ascend.
 use Rattle.utils.proofs.Ranges.{Searching, search-begins, search-before, search-hit, search-more, search-done}
 use Prim.Native.Nat.{_-_}
 use native.Mathlib.Omega.{arith}

@@ -1,3 +1,4 @@
+-- `is_blank`. The invariant: the bytes passed are whitespace, so the rest decides.
 use Rattle.spec.specs.Bytes.{ascii, among, every}
 use Rattle.spec.specs.RdfXml.{isBlank}
 use Rattle.utils.proofs.Walking.{Walked, walked-begins, bytes-fail, bytes-more, bytes-pass}

@@ -1,3 +1,4 @@
+-- `is_char`: below the space by a computed test, from it on by the ranges.
 use Rattle.utils.proofs.Computed.{controls}
 use Rattle.utils.proofs.Names.{char-high}
 use Rattle.utils.proofs.is_char.Statement.{statement}

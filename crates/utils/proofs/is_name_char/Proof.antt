@@ -1,3 +1,4 @@
+-- `is_name_char`: the code's table is that of document 01.
 use Rattle.spec.specs.Bytes.{byte}
 use Rattle.spec.specs.XmlNames.{startRanges, furtherRanges}
 use Rattle.utils.specs.Ranges.{bounds, table}

@@ -1,3 +1,4 @@
+-- `is_name_start_char`: the code's table is that of document 01, and its first sixteen ranges are searched.
 use Rattle.spec.specs.Bytes.{byte}
 use Rattle.spec.specs.XmlNames.{startRanges, furtherRanges}
 use Rattle.utils.specs.Ranges.{bounds, table}

@@ -1,3 +1,4 @@
+-- `is_nc_name`: by the first character and the rest, or false where there is none.
 use denote.Ref.{now}
 use Rattle.utils.specs.Decoding.{Front}
 use Rattle.utils.proofs.Walking.{to-end}

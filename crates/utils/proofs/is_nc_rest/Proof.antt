@@ -1,6 +1,7 @@
+-- `is_nc_rest`. The invariant: the characters passed are good, so the rest decides; and the table is that of document 01.
 use Rattle.spec.specs.XmlNames.{isNameChar}
 use Rattle.utils.specs.Names.{isNCRest}
-use Rattle.utils.proofs.Utf8.{front-some}
+use Rattle.utils.proofs.Front.{front-some}
 use Rattle.utils.proofs.Walking.{to-end, Walked, walked-begins, walked-within, walked-fails, walked-more, walked-stuck, walked-ends, walked-passes}
 use Rattle.utils.proofs.Names.{rest-by, colon-fails, other-keeps}
 use mathlib.Core.Path.{_≡_, refl, sym, _∙_}

@@ -1,3 +1,4 @@
+-- `is_scalar`: the tests of the definition.
 use Rattle.spec.specs.Bytes.{between}
 use Rattle.spec.specs.Utf8.{isScalar}
 use borrow.Author.Needs.{needs}

@@ -1,9 +1,10 @@
+-- `is_text`. The invariant: the characters passed are XML's, so the rest decides.
 use denote.Ref.{now}
 use Rattle.utils.specs.Decoding.{Front}
 use Rattle.spec.specs.Bytes.{every}
 use Rattle.spec.specs.Utf8.{asCharacters}
 use Rattle.spec.specs.XmlNames.{isChar}
-use Rattle.utils.proofs.Utf8.{front-some}
+use Rattle.utils.proofs.Front.{front-some}
 use Rattle.utils.proofs.Walking.{to-end, Walked, walked-begins, every-by, walked-within, walked-fails, walked-more, walked-stuck, walked-ends, walked-passes}
 use mathlib.Core.Path.{sym, _∙_}
 use borrow.Author.Tests.{not-true, not-false}

@@ -1,3 +1,4 @@
+-- `is_whitespace`: by a computed test of every byte.
 use Rattle.utils.proofs.Computed.{whitespace}
 use native.Mathlib.Omega.{arith}
 use Rattle.utils.proofs.is_whitespace.Statement.{statement}

@@ -1,3 +1,4 @@
+-- `join`. The invariant: what is left, joined to the value so far, gives what the whole does.
 use mathlib.Core.Path.{sym, _∙_}
 use borrow.Author.Tests.{not-true, not-false}
 use Rattle.utils.proofs.Decoding.{Joining, joining-begins, joining-small, joining-broken, joining-more, joining-done}

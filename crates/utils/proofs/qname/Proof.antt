@@ -1,3 +1,4 @@
+-- `qname`: by the first colon, and whether the parts before and behind it are NCNames.
 use lib.Seq.{length-take-le}
 use Rattle.utils.proofs.Walking.{to-end}
 use Rattle.utils.proofs.Names.{name-local, name-none, name-prefixed, name-no-prefix, name-no-local}

@@ -1,3 +1,4 @@
+-- `sequence`: too short, broken, overlong, no scalar value, or a character.
 use denote.Ref.{now}
 use mathlib.Core.Bool.{true}
 use Rattle.spec.specs.Bytes.{every}

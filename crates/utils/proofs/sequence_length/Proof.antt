@@ -1,3 +1,4 @@
+-- `sequence_length`: by a computed test of every byte.
 use Rattle.utils.proofs.Computed.{inverted}
 use native.Mathlib.Omega.{arith}
 use Rattle.utils.proofs.sequence_length.Statement.{statement}

@@ -1,3 +1,4 @@
+-- `up_to_colon`. The invariant: no colon is passed, so those before it are i and those in the rest.
 use Rattle.utils.proofs.Names.{Scanned, scanned-begins, scanned-colon, scanned-more, scanned-done}
 use lib.ListN.{length}
 use Prim.Native.Nat.{_-_}
