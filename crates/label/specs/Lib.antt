@@ -1,0 +1,3 @@
+-- What the calls promise, and the laws of digits and labels.
+pub mod Digits
+pub mod Label
