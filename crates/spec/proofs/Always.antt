@@ -51,3 +51,16 @@ pub always-if : {B : Type 0} (Q : B → Type 0) (b : Bool) (m k : Answer B) → 
 unfolding if_then_else_
 always-if Q true m k h g = h refl
 always-if Q false m k h g = g refl
+
+pub always-map : {A : Type 0} (R Q : A → Type 0) (m : Answer A) → Always R m → ((a : A) → R a → Q a) → Always Q m
+always-map R Q (refuse n) h k = tt
+always-map R Q (good a) h k = k a h
+
+-- an answer that is no refusal is what it is
+pub always-self : {A : Type 0} (m : Answer A) → Always (λ (a : A). m ≡ good a) m
+always-self (refuse n) = tt
+always-self (good a) = refl
+
+-- what always holds of an answer, of a good one
+pub always-good : {A : Type 0} (Q : A → Type 0) {m : Answer A} {a : A} → Always Q m → m ≡ good a → Q a
+always-good Q h e = rw e at h

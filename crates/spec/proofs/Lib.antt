@@ -11,6 +11,15 @@ pub mod Calls
 pub mod Labels
 pub mod Subjects
 pub mod Lists
+pub mod NewLabels
+-- ---- inside an element
+pub mod Frames
+pub mod Inside
+pub mod Children
+pub mod Statements
+pub mod Numbering
+pub mod Inherited
+pub mod Languages
 -- ---- lines
 pub mod Written
 pub mod Fine

@@ -31,7 +31,7 @@ use Rattle.spec.proofs.Subjects.{Rule, Of?, OfChildren, OfObject, OfVal
 
 -- ---- equality of texts
 
-same-true : (u v : Bytes) → same u v ≡ true → u ≡ v
+pub same-true : (u v : Bytes) → same u v ≡ true → u ≡ v
 unfolding same
 same-true [] [] h = refl
 same-true [] (b ∷ v) h = absurd (false≢true h)
@@ -55,7 +55,7 @@ same-false u v f = go (same u v) refl
 
 -- ---- subjects that are not a given label
 
-abbrev Not : ℕ → Subject → Type 0
+abbrev pub Not : ℕ → Subject → Type 0
 Not k s = sameSubject (blank (label k)) s ≡ false
 
 not-named : (k : ℕ) (i : Bytes) → Not k (named i)
@@ -72,18 +72,18 @@ not-label k m p q f = same-false (label k) (label m) λ e. f (label-inj k m p q 
 
 -- ---- subjects known when n labels have been generated
 
-abbrev Known : ℕ → Subject → Type 0
+abbrev pub Known : ℕ → Subject → Type 0
 Known n (named i) = Unit {0}
 Known n (blank l) = (isGenerated l ≡ false) ⊎ ((k : ℕ) × (k ≤ n) × (l ≡ label k))
 
-known-not : (n k : ℕ) (s : Subject) → n < k → k < 100_000_000 → Known n s → Not k s
+pub known-not : (n k : ℕ) (s : Subject) → n < k → k < 100_000_000 → Known n s → Not k s
 known-not n k (named i) p q h = not-named k i
 known-not n k (blank l) p q (inl g) = not-other k l g
 known-not n k (blank l) p q (inr h) =
     let le : h .0 ≤ n = h .1 in
     rw (h .2) (not-label k (h .0) q (omega arith) λ z. omega arith)
 
-known-more : (n n′ : ℕ) (s : Subject) → n ≤ n′ → Known n s → Known n′ s
+pub known-more : (n n′ : ℕ) (s : Subject) → n ≤ n′ → Known n s → Known n′ s
 known-more n n′ (named i) p h = tt
 known-more n n′ (blank l) p (inl g) = inl g
 known-more n n′ (blank l) p (inr h) = let le : h .0 ≤ n = h .1 in inr (h .0, omega arith, h .2)
@@ -260,7 +260,7 @@ lines-split x (triple s p o ∷ ts) us = go (sameSubject x s) (lines-split x ts 
 
 -- ---- the cells of a list
 
-same-self : (k : ℕ) → sameSubject (blank (label k)) (blank (label k)) ≡ true
+pub same-self : (k : ℕ) → sameSubject (blank (label k)) (blank (label k)) ≡ true
 unfolding sameSubject
 same-self k = same-refl (label k)
 
@@ -303,16 +303,16 @@ reads-cells lo hi n rest (c ∷ cs) rs A B low high le a b h =
 -- a document whose innermost open element f is a Collection with these children
 module _ (f : Frame) (p : Property) (cs : List Subject) (is : f .kind ≡ propertyElement p (collection cs))
     (fs : List Frame) (b : Option Bytes) (r : Bool) (n : ℕ) (ids : List Bytes) where
-  abbrev inCollection : Doc
+  abbrev pub inCollection : Doc
   inCollection = record { startBase = b; frames = f ∷ fs; rooted = r; labels = n; ids = ids }
 
-  abbrev behind : Doc
+  abbrev pub behind : Doc
   behind = record { startBase = b; frames = fs; rooted = r; labels = n + length cs; ids = ids }
 
   abbrev nil : Subject
   nil = named (rdf "nil")
 
-  abbrev Closed : Step → Type 0
+  abbrev pub Closed : Step → Type 0
   Closed o = (o .0 ≡ cells n nil cs ++ statement p (node (headCell n nil cs))) × (o .1 ≡ behind) × (n + length cs < 100_000_000)
 
   ends : (k : Kind) (m : Bytes) (l : Option Bytes) → k ≡ propertyElement p (collection cs) → Always Closed (C.endKind k m l (withFrames fs inCollection))
@@ -320,7 +320,7 @@ module _ (f : Frame) (p : Property) (cs : List Subject) (is : f .kind ≡ proper
   ends k m l e = rw e (always-require Closed _ _ _ λ g.
       (refl, refl, (let le : n + length cs ≤ 99_999_999 = leb-true (n + length cs) 99_999_999 g in omega arith)))
 
-  closes : (m : Bytes) → Always Closed (next (closing m) inCollection)
+  pub closes : (m : Bytes) → Always Closed (next (closing m) inCollection)
   unfolding next X.onEvent C.closeElement X.within
   closes m =
       always-bind Closed Closed _ _ (always-require Closed _ _ _ λ e. ends (f .kind) m _ is) λ s k. always-require Closed _ _ _ λ g. k
@@ -367,9 +367,13 @@ any-label = record {
   fresh = λ n n′ lo le k p q. tt;
 }
 
-grows-after : (d d′ : Doc) (ts : List Triple) → d .labels < 100_000_000 → After d d′ ts → d .labels ≤ d′ .labels
+pub grows-after : (d d′ : Doc) (ts : List Triple) → d .labels < 100_000_000 → After d d′ ts → d .labels ≤ d′ .labels
 unfolding any-label
 grows-after d d′ ts le h = kept any-label d d′ ts (omega arith) le (trivial-frames (d .frames)) h .grows
+
+pub bound-after : (d d′ : Doc) (ts : List Triple) → d .labels < 100_000_000 → After d d′ ts → d′ .labels < 100_000_000
+unfolding any-label
+bound-after d d′ ts le h = kept any-label d d′ ts (omega arith) le (trivial-frames (d .frames)) h .bound
 
 -- labels only ever go up, so the cells of a list that closes later are others
 pub no-cell-in-two-lists : (d₂ d₃ : Doc) (vs : List Triple) (lo len : ℕ) (x : Subject) → d₂ .labels < 100_000_000 → After d₂ d₃ vs

@@ -129,7 +129,7 @@ first-tag ms = first-of GoodTag xml-lang ms λ q i v h. h .1
 neither : (q : Role) (i v : Bytes) → sameRole rdf-nodeID q ≡ false → sameRole xml-lang q ≡ false → Fair (means q i v)
 neither q i v h k = ((λ e. absurd (false≢true (sym h ∙ e))), (λ e. absurd (false≢true (sym k ∙ e))))
 
-judge-fair : (q : Role) (i v : Bytes) → Always (λ u. Fair (means q i v)) (judge q v)
+pub judge-fair : (q : Role) (i v : Bytes) → Always (λ u. Fair (means q i v)) (judge q v)
 unfolding judge sameRole roleNumber
 judge-fair nothing i v = neither nothing i v refl refl
 judge-fair xml-lang i v = always-test _ _ _ λ h. ((λ e. absurd (false≢true e)), (λ e. h))

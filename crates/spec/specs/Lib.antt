@@ -34,3 +34,5 @@ pub mod Pyx2nt
 pub mod Examples
 -- ---- demand 3
 pub mod Lists
+pub mod Inside
+pub mod Languages
