@@ -34,12 +34,14 @@ impl BlankNodeIdGenerator {
     // The labels of a document, and the rdf:li of a node: eight digits hold no more.
     pub const MOST_LABELS: u64 = 99_999_999;
 
+    // Before any label.
     pub fn new() -> Self
         ensures { λ r. ⌜ r .counter ≡ 0 ⌝ }
     {
         Self { counter: 0 }
     }
 
+    // The next label, and the generator behind it.
     pub fn generate(self) -> Generated
         ensures { λ r. ⌜ Generates (self .counter) r ⌝ }
     {
@@ -109,6 +111,7 @@ pub fn ends_in_stop(s: &[u8]) -> bool
     s[s.len() - 1] == b'.'
 }
 
+// How many `0` it begins with.
 fn leading_zeros(s: &[u8]) -> usize
     ensures { λ r. ⌜ Zeros (now (s .entry)) r ⌝ }
 {
@@ -122,6 +125,7 @@ fn leading_zeros(s: &[u8]) -> usize
     i
 }
 
+// Is every byte a digit?
 fn are_digits(s: &[u8]) -> bool
     ensures { λ r. ⌜ r ≡ every (between (byte "0") (byte "9")) (now (s .entry)) ⌝ }
 {
