@@ -11,8 +11,8 @@ ghost use Rattle.ids.specs.Adding.{Fresh, Adds};
 pub struct IdTable {
     pub count: usize,
     pub used: usize,
-    pub at: [u32; 512],
-    pub len: [u32; 512],
+    pub at: [u32; IdTable::MOST],
+    pub len: [u32; IdTable::MOST],
 }
 
 // What `add` answers: whether the ID was entered, and the table's two numbers behind it.
@@ -37,14 +37,20 @@ impl IdTable {
         Self {
             count: 0,
             used: 0,
-            at: [0; 512],
-            len: [0; 512],
+            at: [0; Self::MOST],
+            len: [0; Self::MOST],
         }
     }
 }
 
 // Is this a table that `new` and `add` can have left, beside a store of `n` bytes?
-pub fn valid(count: usize, used: usize, at: &[u32; 512], len: &[u32; 512], n: usize) -> bool
+pub fn valid(
+    count: usize,
+    used: usize,
+    at: &[u32; IdTable::MOST],
+    len: &[u32; IdTable::MOST],
+    n: usize,
+) -> bool
     ensures { λ r. ⌜ r ≡ validIds count used (now (at .entry)) (now (len .entry)) n ⌝ }
 {
     if n != IdTable::BYTES {
@@ -74,7 +80,13 @@ pub fn valid(count: usize, used: usize, at: &[u32; 512], len: &[u32; 512], n: us
 }
 
 // Was this ID used before? The newest is compared first.
-pub fn find(count: usize, at: &[u32; 512], len: &[u32; 512], store: &[u8], id: &[u8]) -> bool
+pub fn find(
+    count: usize,
+    at: &[u32; IdTable::MOST],
+    len: &[u32; IdTable::MOST],
+    store: &[u8],
+    id: &[u8],
+) -> bool
     ensures { λ r. ⌜ r ≡ found count (now (at .entry)) (now (len .entry)) (now (store .entry)) (now (id .entry)) ⌝ }
 {
     if IdTable::MOST < count {
@@ -83,7 +95,9 @@ pub fn find(count: usize, at: &[u32; 512], len: &[u32; 512], store: &[u8], id: &
     let mut i = count;
     while 0 < i {
         i -= 1;
-        if is_at(store, wide(at[i]), wide(len[i]), id) {
+        let start = wide(at[i]);
+        let size = wide(len[i]);
+        if is_at(store, start, size, id) {
             return true;
         }
     }
@@ -110,8 +124,8 @@ pub fn room(count: usize, used: usize, n: usize) -> bool
 pub fn add(
     count: usize,
     used: usize,
-    at: &mut [u32; 512],
-    len: &mut [u32; 512],
+    at: &mut [u32; IdTable::MOST],
+    len: &mut [u32; IdTable::MOST],
     store: &mut [u8],
     id: &[u8],
 ) -> Added
