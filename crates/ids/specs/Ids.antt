@@ -1,6 +1,6 @@
 -- What a table of rdf:IDs means, when it is valid, and whether there is room for one more.
 use Prim.Native.Nat.{ℕ, zero, suc, _+_, _-_, _<_, _≤_}
-use mathlib.Core.Path.{_≡_, refl, sym, ap}
+use mathlib.Core.Path.{_≡_, refl, sym, ap, _∙_}
 use mathlib.Core.Bool.{Bool, true, false, _&&_}
 use mathlib.Core.List.{List, [], _∷_}
 use native.Mathlib.Omega.{arith}
@@ -102,9 +102,11 @@ module _ {count used : ℕ} {at len store : List ℕ} (v : ValidIds count used a
   unfolding idStoreBytes mostIdBytes
   used-stored = omega (arith, v .whole, v .within)
 
+  -- `used` is what the IDs have in bytes, as `count` is how many they are
   pub total-ids : total length (idsOf at len store count) ≡ used
   total-ids = total-linked at len store count used (v .linked) used-stored
 
+  -- the answer of `find`
   pub found-means : (id : Bytes) → found count at len store id ≡ member id (idsOf at len store count)
   unfolding found
   found-means id = rw (le-leb _ _ (v .few))
@@ -118,6 +120,15 @@ module _ {count used : ℕ} {at len store : List ℕ} (v : ValidIds count used a
   room-means id =
       let bytes : length id + total length (idsOf at len store count) ≡ used + length id = omega (arith, total-ids) in
       rw (length-ids at len store count, bytes)
+
+  -- the same of an ID that is known to keep the limit on IRIs, as `fits` of Document has it
+  pub room-fits : (id : Bytes) → length id ≤ mostNameBytes
+      → roomFor count used (length id) ≡ (leb (length (id ∷ idsOf at len store count)) mostIds && leb (total length (id ∷ idsOf at len store count)) mostIdBytes)
+  room-fits id short = room-means id ∙ rw (le-leb (length id) mostNameBytes short)
+
+  -- the IDs of a valid table keep the limits
+  pub valid-fits : (leb (length (idsOf at len store count)) mostIds && leb (total length (idsOf at len store count)) mostIdBytes) ≡ true
+  valid-fits = rw (length-ids at len store count, total-ids, le-leb _ _ (v .few)) (le-leb _ _ (v .within))
 
 -- ---- the tests of `room`, one after the other
 

@@ -1,10 +1,10 @@
 -- The loops over the places in use, from the newest to the oldest.
 use Prim.Native.Nat.{ℕ, suc, _+_, _-_, _<_, _≤_}
 use mathlib.Core.Path.{_≡_, refl, sym, ap, _∙_}
-use mathlib.Core.Bool.{Bool, true, false, _||_}
+use mathlib.Core.Bool.{Bool, true, false, _&&_, _||_}
 use mathlib.Core.List.{List, [], _∷_}
 use native.Mathlib.Omega.{arith}
-use lib.Dec.{eqb}
+use lib.Dec.{eqb, leb}
 use lib.ListN.{length, getD, take, drop, length-drop, drop-of-length-le}
 use lib.Seq.{take-all, take-nil}
 use borrow.Author.Tests.{eq-eqb, ne-eqb, le-leb, lt-leb}
@@ -44,24 +44,24 @@ pub walked-begins : {at len : List ℕ} {count used : ℕ} → Walked at len cou
 walked-begins = record { upto = omega arith; rest = refl }
 
 module _ {at len : List ℕ} {count used i end : ℕ} (w : Walked at len count used i end) where
-  here : 0 < i → endToEnd at len count used ≡ endToEnd at len (suc (i - 1)) end
-  here h = w .rest ∙ ap (λ (k : ℕ). endToEnd at len k end) (before i h)
-
-  pub walked-long : 0 < i → mostNameBytes < getD len (i - 1) 0 → false ≡ endToEnd at len count used
-  unfolding endToEnd
-  walked-long h l = sym (here h ∙ rw (lt-leb _ _ l))
-
-  pub walked-apart : 0 < i → getD len (i - 1) 0 ≤ mostNameBytes → (getD at (i - 1) 0 + getD len (i - 1) 0 ≡ end → ⊥) → false ≡ endToEnd at len count used
-  unfolding endToEnd
-  walked-apart h l e = sym (here h ∙ rw (le-leb _ _ l, ne-eqb _ _ e))
-
-  pub walked-more : 0 < i → getD len (i - 1) 0 ≤ mostNameBytes → getD at (i - 1) 0 + getD len (i - 1) 0 ≡ end → Walked at len count used (i - 1) (getD at (i - 1) 0)
-  unfolding endToEnd
-  walked-more h l e = record { upto = omega (arith, w .upto); rest = here h ∙ rw (le-leb _ _ l, eq-eqb _ _ e) }
-
   pub walked-done : i ≤ 0 → eqb end 0 ≡ endToEnd at len count used
   unfolding endToEnd
   walked-done h = let e : i ≡ 0 = omega arith in sym (w .rest ∙ ap (λ (k : ℕ). endToEnd at len k end) e)
+
+  -- `start` and `size` are what was read at place `i - 1`
+  module _ {start size : ℕ} (h : 0 < i) (p : start ≡ getD at (i - 1) 0) (q : size ≡ getD len (i - 1) 0) where
+    here : endToEnd at len count used ≡ (leb size mostNameBytes && (eqb (start + size) end && endToEnd at len (i - 1) start))
+    unfolding endToEnd
+    here = w .rest ∙ ap (λ (k : ℕ). endToEnd at len k end) (before i h) ∙ rw (p, q)
+
+    pub walked-long : mostNameBytes < size → false ≡ endToEnd at len count used
+    walked-long l = sym (here ∙ rw (lt-leb _ _ l))
+
+    pub walked-apart : size ≤ mostNameBytes → (start + size ≡ end → ⊥) → false ≡ endToEnd at len count used
+    walked-apart l e = sym (here ∙ rw (le-leb _ _ l, ne-eqb _ _ e))
+
+    pub walked-more : size ≤ mostNameBytes → start + size ≡ end → Walked at len count used (i - 1) start
+    walked-more l e = record { upto = omega (arith, w .upto); rest = here ∙ rw (le-leb _ _ l, eq-eqb _ _ e) }
 
 -- the tests before it
 module _ (count used : ℕ) (at len : List ℕ) (n : ℕ) where
@@ -101,8 +101,8 @@ module _ {at len store : List ℕ} {id : Bytes} {count i : ℕ} (w : Sought at l
   unfolding idsOf member
   sought-done h = let e : i ≡ 0 = omega arith in sym (w .rest ∙ ap (λ (k : ℕ). member id (idsOf at len store k)) e)
 
-  -- `from` and `n` are what was read at place `i - 1`
-  module _ {from n : ℕ} {r : Bool} (h : 0 < i) (p : from ≡ getD at (i - 1) 0) (q : n ≡ getD len (i - 1) 0) (e : r ≡ same id (part store from n)) where
+  -- `start` and `size` are what was read at place `i - 1`
+  module _ {start size : ℕ} {r : Bool} (h : 0 < i) (p : start ≡ getD at (i - 1) 0) (q : size ≡ getD len (i - 1) 0) (e : r ≡ same id (part store start size)) where
     there : found count at len store id ≡ (r || member id (idsOf at len store (i - 1)))
     unfolding idsOf member
     there = w .rest ∙ ap (λ (k : ℕ). member id (idsOf at len store k)) (before i h) ∙ rw (e, p, q)

@@ -43,7 +43,7 @@ impl IdTable {
     }
 }
 
-// Is this a table that `new` and `add` can have left, beside a store of `n` bytes?
+// Is the table one to go on from, beside a store of `n` bytes? docs/STATE.md has the rules.
 pub fn valid(
     count: usize,
     used: usize,
@@ -168,6 +168,7 @@ fn is_at(store: &[u8], from: usize, n: usize, id: &[u8]) -> bool
     copy::equal(id, &store[from..from + n])
 }
 
+// A word of the table as a number.
 fn wide(x: u32) -> usize
     ensures { λ r. ⌜ (r ≡ x) × (r < 4294967296) ⌝ }
 {

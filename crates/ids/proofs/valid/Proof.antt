@@ -50,21 +50,21 @@ wide-requires-2 c κs = search needs
 
 returns-4 : tie.Need-returns-4 Inv-loop μ-loop
 unfolding idStoreBytes mostIds mostIdBytes mostNameBytes
-returns-4 c = spans-decide _ _ _ _ _ (omega arith) (omega arith) (omega arith) (walked-long (c .before .before .before .before .before .before .loop .inv) (omega arith) (omega arith))
+returns-4 c = spans-decide _ _ _ _ _ (omega arith) (omega arith) (omega arith) (walked-long (c .before .before .before .before .before .before .loop .inv) (omega arith) (c .before .before .before .wide .ensures .0) (c .before .wide2 .ensures .0) (omega arith))
 
 add-if5 : tie.Need-add-if5 Inv-loop μ-loop
 add-if5 c = search needs
 
 returns-5 : tie.Need-returns-5 Inv-loop μ-loop
 unfolding idStoreBytes mostIds mostIdBytes mostNameBytes
-returns-5 c = spans-decide _ _ _ _ _ (omega arith) (omega arith) (omega arith) (walked-apart (c .before .before .before .before .before .before .before .loop .inv) (omega arith) (omega arith) (λ e. omega arith))
+returns-5 c = spans-decide _ _ _ _ _ (omega arith) (omega arith) (omega arith) (walked-apart (c .before .before .before .before .before .before .before .loop .inv) (omega arith) (c .before .before .before .before .wide .ensures .0) (c .before .before .wide2 .ensures .0) (omega arith) (c .if5 .taken))
 
 loop-less : tie.Need-loop-less Inv-loop μ-loop
 loop-less c = search needs
 
 loop-again : tie.Need-loop-again Inv-loop μ-loop
 unfolding mostNameBytes
-loop-again c = rw (c .before .before .before .before .wide .ensures .0) (walked-more (c .before .before .before .before .before .before .before .loop .inv) (omega arith) (omega arith) (omega arith))
+loop-again c = walked-more (c .before .before .before .before .before .before .before .loop .inv) (omega arith) (c .before .before .before .before .wide .ensures .0) (c .before .before .wide2 .ensures .0) (omega arith) (omega arith)
 
 returns-6 : tie.Need-returns-6 Inv-loop μ-loop
 unfolding idStoreBytes mostIds mostIdBytes
