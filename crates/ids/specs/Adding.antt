@@ -3,16 +3,16 @@ use Prim.Native.Nat.{ℕ, zero, suc, _+_, _<_, _≤_}
 use mathlib.Core.Path.{_≡_, refl, sym, ap, _∙_}
 use mathlib.Core.Bool.{Bool, true, false, _&&_, false≢true}
 use mathlib.Core.List.{List, [], _∷_}
-use mathlib.Core.Logic.{inl}
 use native.Mathlib.Numerals.{add-one}
+use native.Mathlib.Nat.{zero-add}
 use native.Mathlib.Omega.{arith}
 use lib.Dec.{leb}
-use lib.ListN.{length, getD, set, replicate, length-set, length-replicate}
-use lib.Seq.{getD-set-same, getD-set-other}
+use lib.ListN.{length, getD, take, set, replicate, length-set, length-replicate}
+use lib.Seq.{getD-set-same, getD-take, take-set-le}
 use borrow.Author.Tests.{leb-true, eq-eqb, le-leb}
 use Rattle.spec.specs.Limits.{idStoreBytes, mostIds, mostIdBytes, mostNameBytes}
 use Rattle.spec.proofs.Booleans.{and-left, and-right}
-use Rattle.copy.specs.Copy.{storedAt, part-stored, part-apart, length-stored, Put, put-false, put-true}
+use Rattle.copy.specs.Copy.{storedAt, part, part-part, part-stored, take-before, length-stored, Put, put-false, put-true}
 use Rattle.ids.specs.declared.IdTable.{IdTable}
 use Rattle.ids.specs.declared.Added.{Added}
 use Rattle.ids.specs.Ids.{idsOf, roomFor, endToEnd, ValidIds, last-ends, others-linked}
@@ -86,41 +86,56 @@ module _ {t : IdTable} (f : Fresh t) (store : List ℕ) where
   unfolding idsOf
   fresh-means = rw (f .count)
 
--- ---- what a store into the next place, and behind the bytes in use, leaves alone
+-- ---- what holds nothing: the places that are not in use, and the bytes of the store behind those in use
 
-module _ (at len : List ℕ) (k x y : ℕ) where
-  pub ids-others : (store : List ℕ) (n : ℕ) → n ≤ k → idsOf (set at k x) (set len k y) store n ≡ idsOf at len store n
+alike : (l m : List ℕ) (k n : ℕ) → take k l ≡ take k m → n < k → getD l n 0 ≡ getD m n 0
+alike l m k n e h = sym (getD-take k l n 0 h) ∙ (ap (λ (x : List ℕ). getD x n 0) e ∙ getD-take k m n 0 h)
+
+module _ (at len at′ len′ : List ℕ) (k : ℕ) (p : take k at ≡ take k at′) (q : take k len ≡ take k len′) where
+  pub ids-places : (store : List ℕ) (n : ℕ) → n ≤ k → idsOf at len store n ≡ idsOf at′ len′ store n
   unfolding idsOf
-  ids-others store zero h = refl
-  ids-others store (suc n) h =
-      rw (getD-set-other at k n x 0 (λ e. omega arith), getD-set-other len k n y 0 (λ e. omega arith), ids-others store n (omega arith))
+  ids-places store zero h = refl
+  ids-places store (suc n) h = rw (alike at at′ k n p (omega arith), alike len len′ k n q (omega arith), ids-places store n (omega arith))
 
-  pub linked-others : (n end : ℕ) → n ≤ k → endToEnd (set at k x) (set len k y) n end ≡ endToEnd at len n end
+  pub linked-places : (n end : ℕ) → n ≤ k → endToEnd at len n end ≡ endToEnd at′ len′ n end
   unfolding endToEnd
-  linked-others zero end h = refl
-  linked-others (suc n) end h =
-      rw (getD-set-other at k n x 0 (λ e. omega arith), getD-set-other len k n y 0 (λ e. omega arith), linked-others n (getD at n 0) (omega arith))
+  linked-places zero end h = refl
+  linked-places (suc n) end h = rw (alike at at′ k n p (omega arith), alike len len′ k n q (omega arith), linked-places n (getD at′ n 0) (omega arith))
 
-pub ids-stored : (at len store : List ℕ) (from : ℕ) (s : List ℕ) (n end : ℕ) → endToEnd at len n end ≡ true → end ≤ from → from + length s ≤ length store
-    → idsOf at len (storedAt store from s) n ≡ idsOf at len store n
-unfolding idsOf
-ids-stored at len store from s zero end h b l = refl
-ids-stored at len store from s (suc n) end h b l =
-    let e = last-ends at len n end h in
-    rw (part-apart store from s (getD at n 0) (getD len n 0) l (inl (omega arith)), ids-stored at len store from s n (getD at n 0) (others-linked at len n end h) (omega arith) l)
+module _ (at len store store′ : List ℕ) (used : ℕ) (e : take used store ≡ take used store′) where
+  alike-part : (from n : ℕ) → from + n ≤ used → part store from n ≡ part store′ from n
+  unfolding part
+  alike-part from n h =
+      rw zero-add at (sym (part-part store 0 used from n h) ∙ (ap (λ (x : List ℕ). part x from n) e ∙ part-part store′ 0 used from n h))
+
+  pub ids-bytes : (n end : ℕ) → endToEnd at len n end ≡ true → end ≤ used → idsOf at len store n ≡ idsOf at len store′ n
+  unfolding idsOf
+  ids-bytes zero end h b = refl
+  ids-bytes (suc n) end h b =
+      let l = last-ends at len n end h in
+      rw (alike-part (getD at n 0) (getD len n 0) (omega arith), ids-bytes n (getD at n 0) (others-linked at len n end h) (omega arith))
 
 -- ---- one more ID
 
 module _ (at len store id : List ℕ) (n end : ℕ) (h : endToEnd at len n end ≡ true) (p : n < length at) (q : n < length len) where
+  places : take n (set at n end) ≡ take n at
+  places = take-set-le n at n end (omega arith)
+
+  sizes : take n (set len n (length id)) ≡ take n len
+  sizes = take-set-le n len n (length id) (omega arith)
+
   next-linked : length id ≤ mostNameBytes → endToEnd (set at n end) (set len n (length id)) (suc n) (end + length id) ≡ true
   unfolding endToEnd
   next-linked short =
-      rw (getD-set-same at n end 0 p, getD-set-same len n (length id) 0 q, le-leb _ _ short, eq-eqb (end + length id) _ refl, linked-others at len n end (length id) n end (omega arith)) h
+      rw (getD-set-same at n end 0 p, getD-set-same len n (length id) 0 q, le-leb _ _ short, eq-eqb (end + length id) _ refl, linked-places (set at n end) (set len n (length id)) at len n places sizes n end (omega arith)) h
 
   next-ids : end + length id ≤ length store → idsOf (set at n end) (set len n (length id)) (storedAt store end id) (suc n) ≡ id ∷ idsOf at len store n
   unfolding idsOf
   next-ids l =
-      rw (getD-set-same at n end 0 p, getD-set-same len n (length id) 0 q, part-stored store end id l, ids-others at len n end (length id) (storedAt store end id) n (omega arith), ids-stored at len store end id n end h (omega arith) l)
+      let others : idsOf (set at n end) (set len n (length id)) (storedAt store end id) n ≡ idsOf at len store n =
+      ids-places (set at n end) (set len n (length id)) at len n places sizes (storedAt store end id) n (omega arith)
+      ∙ ids-bytes at len (storedAt store end id) store end (take-before store end id l end (omega arith)) n end h (omega arith) in
+      rw (getD-set-same at n end 0 p, getD-set-same len n (length id) 0 q, part-stored store end id l, others)
 
 -- the limits that there is room under
 pub record Room (count used n : ℕ) : Type 0 where

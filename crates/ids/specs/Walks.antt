@@ -31,6 +31,7 @@ module _ (store : List ℕ) (from n : ℕ) where
   unfolding part
   past-end h = rest-of store from ∙ sym (take-all n (drop from store) (rw length-drop (omega arith)))
 
+-- the definitions go by `suc`, the loops down from `i`
 before : (i : ℕ) → 0 < i → i ≡ suc (i - 1)
 before i h = omega arith
 
