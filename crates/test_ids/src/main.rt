@@ -1,0 +1,240 @@
+// The table of rdf:IDs at its bounds, printed: the last place and one more, the last byte and one more, and IDs that are there or not.
+use ids::Added;
+use ids::IdTable;
+use label::Decimal;
+use libc::STDOUT_FILENO;
+
+fn write_answer(what: &[u8], answer: bool) {
+    io::write_all(STDOUT_FILENO, what);
+    if answer {
+        io::write_all(STDOUT_FILENO, b": yes\n");
+    } else {
+        io::write_all(STDOUT_FILENO, b": no\n");
+    }
+}
+
+// How many IDs there are, and how many bytes they have.
+fn write_numbers(table: Added) {
+    write_number(table.count, b" IDs, ");
+    write_number(table.used, b" bytes\n");
+}
+
+fn write_number(v: usize, what: &[u8]) {
+    let decimal = Decimal::of(v as u64);
+    let digits = decimal.digits;
+    let from = decimal.from;
+    io::write_all(STDOUT_FILENO, &digits[from..]);
+    io::write_all(STDOUT_FILENO, what);
+}
+
+// The longest ID of a number: four digits, and then what makes it long. Its beginnings are shorter IDs.
+fn id_of(k: usize) -> [u8; IdTable::LONGEST] {
+    let mut id = [b'x'; IdTable::LONGEST];
+    label::write_u64_to_slice(k as u64, &mut id[..4]);
+    id
+}
+
+// The ID of a number, entered with its first `n` bytes.
+fn enter(
+    table: Added,
+    at: &mut [u32; IdTable::MOST],
+    len: &mut [u32; IdTable::MOST],
+    store: &mut [u8],
+    k: usize,
+    n: usize,
+) -> Added {
+    let id = id_of(k);
+    if id.len() < n {
+        return table;
+    }
+    ids::add(table.count, table.used, at, len, store, &id[0..n])
+}
+
+// The IDs of the numbers from 0 on, each with `n` bytes.
+fn fill(
+    at: &mut [u32; IdTable::MOST],
+    len: &mut [u32; IdTable::MOST],
+    store: &mut [u8],
+    times: usize,
+    n: usize,
+) -> Added {
+    let mut table = Added {
+        ok: true,
+        count: 0,
+        used: 0,
+    };
+    let mut k = 0;
+    while k < times {
+        table = enter(table, at, len, store, k, n);
+        k += 1;
+    }
+    table
+}
+
+// Is the ID of a number there, with its first `n` bytes?
+fn seek(
+    what: &[u8],
+    count: usize,
+    at: &[u32; IdTable::MOST],
+    len: &[u32; IdTable::MOST],
+    store: &[u8],
+    k: usize,
+    n: usize,
+) {
+    let id = id_of(k);
+    if id.len() < n {
+        return;
+    }
+    write_answer(what, ids::find(count, at, len, store, &id[0..n]));
+}
+
+// A table as a document starts: nothing is in it, and it is valid beside a store of the right length alone.
+fn fresh() {
+    let table = IdTable::new();
+    let at = table.at;
+    let len = table.len;
+    let store = [0u8; IdTable::BYTES];
+    write_answer(
+        b"fresh, valid",
+        ids::valid(table.count, table.used, &at, &len, store.len()),
+    );
+    write_answer(
+        b"fresh, beside a shorter store",
+        ids::valid(table.count, table.used, &at, &len, store.len() - 1),
+    );
+    write_answer(
+        b"fresh, the empty ID",
+        ids::find(table.count, &at, &len, &store, b""),
+    );
+}
+
+// Every place, and one more.
+fn places() {
+    let empty = IdTable::new();
+    let mut at = empty.at;
+    let mut len = empty.len;
+    let mut store = [0u8; IdTable::BYTES];
+    let full = fill(&mut at, &mut len, &mut store, IdTable::MOST, 5);
+    write_answer(b"the last place", full.ok);
+    write_numbers(full);
+    let more = enter(full, &mut at, &mut len, &mut store, IdTable::MOST, 5);
+    write_answer(b"one place more", more.ok);
+    write_numbers(more);
+    seek_numbers(more, &at, &len, &store);
+}
+
+fn seek_numbers(table: Added, at: &[u32; IdTable::MOST], len: &[u32; IdTable::MOST], store: &[u8]) {
+    let count = table.count;
+    write_answer(
+        b"valid",
+        ids::valid(count, table.used, at, len, store.len()),
+    );
+    seek(b"the first ID", count, at, len, store, 0, 5);
+    seek(b"the last ID", count, at, len, store, 511, 5);
+    seek(b"an absent ID", count, at, len, store, 512, 5);
+    seek(b"the front of an ID", count, at, len, store, 511, 4);
+    seek(b"an ID and one byte", count, at, len, store, 511, 6);
+}
+
+// Every byte, and one more.
+fn bytes() {
+    let empty = IdTable::new();
+    let mut at = empty.at;
+    let mut len = empty.len;
+    let mut store = [0u8; IdTable::BYTES];
+    let most = fill(&mut at, &mut len, &mut store, 31, IdTable::LONGEST);
+    let short = enter(
+        most,
+        &mut at,
+        &mut len,
+        &mut store,
+        31,
+        IdTable::LONGEST - 1,
+    );
+    write_numbers(short);
+    let over = enter(short, &mut at, &mut len, &mut store, 32, 2);
+    write_answer(b"two bytes where one is left", over.ok);
+    let full = enter(over, &mut at, &mut len, &mut store, 33, 1);
+    write_answer(b"the last byte", full.ok);
+    write_numbers(full);
+    let more = enter(full, &mut at, &mut len, &mut store, 34, 1);
+    write_answer(b"one byte more", more.ok);
+    seek_lengths(more, &at, &len, &store);
+}
+
+fn seek_lengths(table: Added, at: &[u32; IdTable::MOST], len: &[u32; IdTable::MOST], store: &[u8]) {
+    let count = table.count;
+    write_answer(
+        b"valid",
+        ids::valid(count, table.used, at, len, store.len()),
+    );
+    seek(b"the first ID", count, at, len, store, 0, IdTable::LONGEST);
+    seek(
+        b"the last long ID",
+        count,
+        at,
+        len,
+        store,
+        31,
+        IdTable::LONGEST - 1,
+    );
+    seek(b"the last ID", count, at, len, store, 33, 1);
+    seek(b"the refused ID", count, at, len, store, 32, 2);
+}
+
+// Tables that no call leaves, each beside one that is right.
+fn strange() {
+    let mut at = [0u32; IdTable::MOST];
+    let mut len = [0u32; IdTable::MOST];
+    write_answer(
+        b"empty IDs in every place",
+        ids::valid(IdTable::MOST, 0, &at, &len, IdTable::BYTES),
+    );
+    write_answer(
+        b"one place too many",
+        ids::valid(IdTable::MOST + 1, 0, &at, &len, IdTable::BYTES),
+    );
+    len[0] = 1024;
+    write_answer(
+        b"the longest span",
+        ids::valid(1, 1024, &at, &len, IdTable::BYTES),
+    );
+    len[0] = 1025;
+    write_answer(
+        b"a span one too long",
+        ids::valid(1, 1025, &at, &len, IdTable::BYTES),
+    );
+    len[0] = 3;
+    at[1] = 3;
+    len[1] = 4;
+    write_answer(
+        b"two spans end to end",
+        ids::valid(2, 7, &at, &len, IdTable::BYTES),
+    );
+    write_answer(
+        b"an end one further",
+        ids::valid(2, 8, &at, &len, IdTable::BYTES),
+    );
+    at[1] = 2;
+    write_answer(
+        b"two that overlap",
+        ids::valid(2, 6, &at, &len, IdTable::BYTES),
+    );
+    at[1] = 4;
+    write_answer(
+        b"two with a gap",
+        ids::valid(2, 8, &at, &len, IdTable::BYTES),
+    );
+    at[0] = 1;
+    write_answer(
+        b"a first span from 1",
+        ids::valid(1, 4, &at, &len, IdTable::BYTES),
+    );
+}
+
+fn main() {
+    fresh();
+    places();
+    bytes();
+    strange();
+}
