@@ -25,13 +25,15 @@ isX c = eqb (lower c) (byte "x")
 
 -- ---- subtags
 
--- no byte yet
+-- no byte yet: what is said of all its bytes holds
 unfoldable pub fresh : Subtag
 fresh = record { length = 0; letters = true; digits = true; alphanum = true; numbered = false; x = true }
 
+-- 9 stands for every length above 8
 unfoldable pub longer : ℕ → ℕ
 longer n = if leb n 8 then n + 1 else 9
 
+-- the first byte decides
 unfoldable pub first : ℕ → Bool → Bool → Bool
 first n new old = if eqb n 0 then new else old
 
@@ -59,6 +61,7 @@ kind u = if u .alphanum then sized (u .length) u else Bad
 
 -- ---- places
 
+-- kinds are told apart by numbers
 abbrev pub number : Kind → ℕ
 number X = 0
 number Singleton = 1
@@ -215,6 +218,7 @@ final P.Nowhere = false
 unfoldable pub start : Reader
 start = record { place = P.Start; subtag = fresh }
 
+-- where the tag leads if its last subtag ends here
 unfoldable pub ended : Reader → Place
 ended r = follow (r .place) (kind (r .subtag))
 
@@ -226,10 +230,11 @@ unfoldable pub reads : Reader → Bytes → Reader
 reads r [] = r
 reads r (c ∷ s) = reads (step r c) s
 
+-- is a text composed as `langtag` or `privateuse` say? (proofs/Machine)
 unfoldable pub composed : Bytes → Bool
 composed s = final (ended (reads start s))
 
--- ---- the tags that the grammar's rules do not make
+-- ---- the tags that the grammar lists (`regular` ones are composed as others are: proofs/Grandfathered)
 
 -- the words of a text, each ended by a space or the end
 unfoldable pub spaced : ℕ → List Bytes → List Bytes

@@ -5,7 +5,7 @@ ghost use Rattle.spec.specs.Bytes.{if_then_else_, same, member};
 ghost use Rattle.spec.specs.Abnf.{lower};
 ghost use Rattle.copy.specs.Copy.{Put};
 ghost use Rattle.langtag.specs.Verdict.{verdict};
-ghost use Rattle.langtag.specs.Machine.{letter, digit, isX, fresh, longer, first, grown, sized, kind, extensions, variants, regions, scripts, extlangs, languages, extended, private, follow, final, ended, step, composed, words, irregular};
+ghost use Rattle.langtag.specs.Machine.{letter, digit, isX, fresh, longer, first, grown, kind, extensions, variants, regions, scripts, extlangs, languages, extended, private, follow, final, ended, step, composed, words, irregular};
 
 // What a text is as a language tag.
 pub enum Tag {
@@ -122,6 +122,7 @@ fn composed(s: &[u8]) -> bool
     is_final(ended(reader))
 }
 
+// One byte more.
 fn step(r: Reader, b: u8) -> Reader
     ensures { λ n. ⌜ n ≡ step r b ⌝ }
 {
@@ -150,6 +151,7 @@ fn ended(r: Reader) -> Place
 
 // ---- subtags
 
+// No byte yet: what is said of all its bytes holds.
 fn fresh() -> Subtag
     ensures { λ u. ⌜ u ≡ fresh ⌝ }
 {
@@ -179,12 +181,14 @@ fn grown(u: Subtag, b: u8) -> Subtag
     }
 }
 
+// 9 stands for every length above 8, so that no tag is too long to count.
 fn longer(n: u8) -> u8
     ensures { λ r. ⌜ r ≡ longer n ⌝ }
 {
     if n <= 8 { n + 1 } else { 9 }
 }
 
+// The first byte decides.
 fn first(n: u8, new: bool, old: bool) -> bool
     ensures { λ r. ⌜ r ≡ first n new old ⌝ }
 {
@@ -260,6 +264,7 @@ fn choose(t: bool, a: Kind, b: Kind) -> Kind
 
 // ---- places
 
+// May a tag end here?
 fn is_final(q: Place) -> bool
     ensures { λ r. ⌜ r ≡ final q ⌝ }
 {
@@ -279,6 +284,7 @@ fn is_final(q: Place) -> bool
     }
 }
 
+// Where a subtag of a kind leads from a place.
 fn follow(q: Place, k: Kind) -> Place
     ensures { λ r. ⌜ r ≡ follow q k ⌝ }
 {
@@ -404,7 +410,7 @@ fn extensions(k: Kind) -> Place
     }
 }
 
-// Inside an extension: a single byte leads to `other`.
+// Inside an extension: a single byte, which begins no more of it, leads to `other`.
 fn extended(other: Place, k: Kind) -> Place
     ensures { λ r. ⌜ r ≡ extended other k ⌝ }
 {
@@ -466,6 +472,7 @@ fn listed(s: &[u8], text: &[u8]) -> bool
     false
 }
 
+// Is `s`, its letters in lower case, the word?
 fn is_word(s: &[u8], word: &[u8]) -> bool
     ensures { λ r. ⌜ r ≡ same (map lower (now (s .entry))) (now (word .entry)) ⌝ }
 {
