@@ -42,10 +42,6 @@ front-append : (b : Bool) (u v : Bytes) → front b (u ++ v) ≡ front b u ++ v
 front-append true u v = refl
 front-append false u v = refl
 
-front-same : (b : Bool) (u v : Bytes) → front b u ≡ front b v → u ≡ v
-front-same true u v e = tail-eq-of-cons-eq e
-front-same false u v e = e
-
 hyphen-only : (u : Bytes) → Describes (word "-") u → u ≡ 45 ∷ []
 unfolding word ascii
 hyphen-only [] d = absurd (nil≢cons (letters-sound (45 ∷ []) [] d))

@@ -7,7 +7,7 @@ use Prim.Native.Nat.{ℕ, zero, suc, _≤_, _<_, min}
 use native.Mathlib.Omega.{arith}
 use lib.Dec.{eqb, leb}
 use lib.ListN.{length}
-use borrow.Author.Tests.{leb-true, leb-false, eq-eqb, eqb-true, eqb-false, ne-eqb}
+use borrow.Author.Tests.{not-false, leb-true, leb-false, eq-eqb, eqb-true, eqb-false, ne-eqb}
 use Rattle.spec.specs.Bytes.{Bytes, ascii, byte, if_then_else_, between, every}
 use Rattle.spec.specs.Grammar.{one, _then_, Describes}
 use Rattle.spec.specs.Abnf.{lower, ALPHA, DIGIT, alphanum, word, times, _to_}
@@ -17,7 +17,7 @@ use Rattle.langtag.specs.declared.Kind.{Kind}
 use Rattle.langtag.specs.declared.Kind.the-variants.{X, Singleton, Letters2, Letters3, Letters4, Letters5, Digits3, Variant, Other, Bad}
 use Rattle.langtag.specs.declared.Subtag.{Subtag}
 use Rattle.langtag.specs.Machine.{letter, digit, isX, kind, sized, number, oneOf, long, any}
-use Rattle.langtag.proofs.Letters.{inside, within, below, lower-low, letters-sound, letters-complete}
+use Rattle.langtag.proofs.Letters.{inside, within, below, above, lower-low, letters-sound, letters-complete}
 use Rattle.langtag.proofs.Hyphens.{Piece, plain}
 use Rattle.langtag.proofs.Counts.{Counted, every-wider, times-sound, times-complete, to-sound, to-complete}
 
@@ -180,16 +180,53 @@ told-two l r t h = go (or-cases (eqb (number k) (number l)) (oneOf (r ∷ []) k)
 
 -- ---- productions of one subtag, as tests of its kind
 
+-- the kind of an alphanumeric subtag, by its length
+module _ (u : Subtag) (h : not (u .alphanum) ≡ false) where
+  m : u .alphanum ≡ true
+  m = not-false (u .alphanum) h
+
+  pub kind-none : u .length ≡ 0 → kind u ≡ Bad
+  unfolding kind sized between if_then_else_
+  kind-none l = rw (m, l)
+
+  pub kind-one : u .length ≡ 1 → kind u ≡ (if u .x then X else Singleton)
+  unfolding kind sized if_then_else_
+  kind-one l = rw (m, l)
+
+  pub kind-two : u .length ≡ 2 → kind u ≡ (if u .letters then Letters2 else Other)
+  unfolding kind sized if_then_else_
+  kind-two l = rw (m, l)
+
+  pub kind-three : u .length ≡ 3 → kind u ≡ (if u .letters then Letters3 else if u .digits then Digits3 else Other)
+  unfolding kind sized if_then_else_
+  kind-three l = rw (m, l)
+
+  pub kind-four : u .length ≡ 4 → kind u ≡ (if u .letters then Letters4 else if u .numbered then Variant else Other)
+  unfolding kind sized if_then_else_
+  kind-four l = rw (m, l)
+
+  kind-above : (t : Bool) → 4 < u .length → between 5 8 (u .length) ≡ t → kind u ≡ (if t then (if u .letters then Letters5 else Variant) else Bad)
+  unfolding kind sized if_then_else_
+  kind-above t a e =
+      let n : ℕ = u .length in
+      rw (m, ne-eqb n 1 (omega arith), ne-eqb n 2 (omega arith), ne-eqb n 3 (omega arith), ne-eqb n 4 (omega arith), e)
+
+  pub kind-wide : 5 ≤ u .length → u .length ≤ 8 → kind u ≡ (if u .letters then Letters5 else Variant)
+  unfolding if_then_else_
+  kind-wide a b = kind-above true a (within 5 8 (u .length) a b)
+
+  pub kind-over : 8 < u .length → kind u ≡ Bad
+  unfolding if_then_else_
+  kind-over a = kind-above false (omega arith) (above 5 8 (u .length) a)
+
 kind-at : (t : Bytes) (n : ℕ) → length t ≡ n → n ≤ 9 → every alnum t ≡ true → kindOf t ≡ sized n (summary t)
 unfolding kindOf kind summary if_then_else_
 kind-at t n l b m = let e : min 9 (length t) ≡ n = omega arith in rw (m, e)
 
 -- of 5 to 8 bytes
 wide-at : (t : Bytes) → 5 ≤ length t → length t ≤ 8 → every alnum t ≡ true → kindOf t ≡ (if every letter t then Letters5 else Variant)
-unfolding sized summary if_then_else_
-wide-at t a b m =
-    kind-at t (length t) refl (omega arith) m
-    ∙ rw (ne-eqb (length t) 1 (omega arith), ne-eqb (length t) 2 (omega arith), ne-eqb (length t) 3 (omega arith), ne-eqb (length t) 4 (omega arith), within 5 8 (length t) a b)
+unfolding kindOf summary
+wide-at t a b m = kind-wide (summary t) (ap not m) (omega arith) (omega arith)
 
 itself : (k : Kind) → oneOf (k ∷ []) k ≡ true
 itself k = or-left (eqb (number k) (number k)) false (eq-eqb (number k) (number k) refl)
