@@ -1,0 +1,5 @@
+-- What the calls answer, in reading order.
+-- ---- the answers
+pub mod Verdict
+-- ---- the machine
+pub mod Machine
