@@ -1,0 +1,57 @@
+-- `copy::begins` meets its contract. The loop's invariant: `front` is no longer than `s`, and its first `i` bytes are those of `s`.
+use Prim.Native.Nat.{_-_}
+use lib.ListN.{length}
+use Rattle.copy.specs.Scan.{Begun, begun-never, begun-begins, begun-stop, begun-more, begun-done}
+use native.Mathlib.Omega.{arith}
+use borrow.Author.Needs.{needs}
+use Rattle.copy.proofs.begins.Statement.{statement}
+use Rattle.copy.proofs.begins.Tie as tie
+
+abbrev Inv-loop : tie.InvT-loop
+Inv-loop s front i₀ i = Begun front s i
+
+abbrev μ-loop : tie.MeasureT-loop
+μ-loop s front i₀ i = length front - i
+
+returns : tie.Need-returns Inv-loop μ-loop
+returns c = begun-never _ _ (c .if1 .taken)
+
+loop-holds : tie.Need-loop-holds Inv-loop μ-loop
+loop-holds c = begun-begins (omega arith)
+
+shared-slice-read-if2 : tie.Need-shared-slice-read-if2 Inv-loop μ-loop
+shared-slice-read-if2 c = search needs
+
+shared-slice-read-if2-2 : tie.Need-shared-slice-read-if2-2 Inv-loop μ-loop
+shared-slice-read-if2-2 c = search needs
+
+returns-2 : tie.Need-returns-2 Inv-loop μ-loop
+returns-2 c = begun-stop (c .before .before .before .before .loop .inv) (omega arith) (c .if2 .taken)
+
+add-i : tie.Need-add-i Inv-loop μ-loop
+add-i c = search needs
+
+loop-less : tie.Need-loop-less Inv-loop μ-loop
+loop-less c = search needs
+
+loop-again : tie.Need-loop-again Inv-loop μ-loop
+loop-again c = begun-more (c .before .before .before .before .loop .inv) (omega arith) (omega arith)
+
+returns-3 : tie.Need-returns-3 Inv-loop μ-loop
+returns-3 c = begun-done (c .before .loop .inv) (omega arith)
+
+pub begins-spec : {M : Type 1} → statement M
+begins-spec =
+    tie.close
+    (tie.spec
+    Inv-loop
+    μ-loop
+    returns
+    loop-holds
+    shared-slice-read-if2
+    shared-slice-read-if2-2
+    returns-2
+    add-i
+    loop-less
+    loop-again
+    returns-3)

@@ -1,0 +1,6 @@
+-- Laws of the calls, in reading order.
+-- ---- writes
+pub mod Copy
+-- ---- reads
+pub mod Texts
+pub mod Scan

@@ -1,0 +1,72 @@
+// Bytes stored, compared and looked for in lent slices. Every call answers on every input; the laws of what it did are in specs/.
+ghost use mathlib.Core.Path.{_≡_};
+ghost use lib.ListN.{length};
+ghost use lib.Dec.{eqb};
+ghost use Rattle.spec.specs.Bytes.{same, begins, upTo};
+ghost use Rattle.copy.specs.Copy.{Put};
+
+// All of `src` into `dst`, from `at` on. Where it does not fit, nothing changes and the answer is false.
+pub fn put(dst: &mut [u8], at: usize, src: &[u8]) -> bool
+    ensures { λ r. ⌜ Put (now (dst .entry)) at (now (src .entry)) (now (dst .exit)) r ⌝ }
+{
+    if dst.len() < at {
+        return false;
+    }
+    if dst.len() - at < src.len() {
+        return false;
+    }
+    let mut i = 0;
+    while i < src.len() {
+        dst[at + i] = src[i];
+        i += 1;
+    }
+    true
+}
+
+// Are the two the same bytes?
+pub fn equal(a: &[u8], b: &[u8]) -> bool
+    ensures { λ r. ⌜ r ≡ same (now (a .entry)) (now (b .entry)) ⌝ }
+{
+    if a.len() != b.len() {
+        return false;
+    }
+    let mut i = 0;
+    while i < a.len() {
+        if a[i] != b[i] {
+            return false;
+        }
+        i += 1;
+    }
+    true
+}
+
+// Does `s` begin with `front`?
+pub fn begins(s: &[u8], front: &[u8]) -> bool
+    ensures { λ r. ⌜ r ≡ begins (now (front .entry)) (now (s .entry)) ⌝ }
+{
+    if s.len() < front.len() {
+        return false;
+    }
+    let mut i = 0;
+    while i < front.len() {
+        if s[i] != front[i] {
+            return false;
+        }
+        i += 1;
+    }
+    true
+}
+
+// Where the first `b` stands: the number of bytes before it, or the length where there is none.
+pub fn find(s: &[u8], b: u8) -> usize
+    ensures { λ r. ⌜ r ≡ length (upTo (λ c. eqb c b) (now (s .entry))) ⌝ }
+{
+    let mut i: usize = 0;
+    while i < s.len() {
+        if s[i] == b {
+            return i;
+        }
+        i += 1;
+    }
+    i
+}
