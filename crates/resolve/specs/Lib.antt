@@ -1,4 +1,4 @@
--- What the contracts of `resolve` cite, and the laws about it.
+-- What the contracts of `resolve` cite, and the laws about it. Resolve says what the crate promises; the others follow the RFC's sections.
 pub mod Texts
 pub mod Parts
 pub mod Turns

@@ -44,7 +44,7 @@ scheme-splits s = go (begins (ascii ":") (from (among (ascii ":/?#")) s) && not 
     go : (t : Bool) → (begins (ascii ":") rest && not (isEmpty n)) ≡ t
         → withMark [] (if t then some n else none) (ascii ":") ++ afterScheme (if t then some n else none) s ≡ s
     go true e =
-        rw (append-assoc, behind, ← (begins-true (ascii ":") rest (and-left (begins (ascii ":") rest) (not (isEmpty n)) e))) (cut (among (ascii ":/?#")) s)
+        rw (append-assoc n (ascii ":") (after (ascii ":") (after n s)), behind, ← (begins-true (ascii ":") rest (and-left (begins (ascii ":") rest) (not (isEmpty n)) e))) (cut (among (ascii ":/?#")) s)
     go false e = refl
 
 pub marked-splits : (mark stop s : Bytes) → markedText mark stop s ++ past mark stop s ≡ s

@@ -5,13 +5,14 @@ use mathlib.Core.List.{_++_, append-assoc}
 use Prim.Native.Nat.{ℕ, _+_, _-_, _<_, _≤_}
 use native.Mathlib.Omega.{arith}
 use lib.Dec.{leb}
-use lib.ListN.{length, take, drop, length-append, length-drop}
+use lib.ListN.{length, take, drop, length-append, length-take, length-drop}
 use lib.Seq.{take-at, drop-at, take-append-le, take-append-add, take-add, length-take-le}
-use borrow.Author.Tests.{le-leb, lt-leb}
+use borrow.Author.Tests.{le-leb, lt-leb, leb-true, leb-false}
 use Rattle.spec.specs.Bytes.{Bytes, ascii, if_then_else_, begins}
 use Rattle.spec.specs.Limits.{mostNameBytes}
 use Rattle.spec.specs.Rfc3986.{removeDotSegments, resolve, resolves}
 use Rattle.copy.specs.Copy.{Put, Wrote, put-fits, then as row, wrote-front, wrote-same, lent-back, length-stored, rest-of}
+use Rattle.resolve.specs.Texts.{Front}
 use Rattle.resolve.specs.Turns.{Removed}
 use Rattle.resolve.specs.Target.{Aimed, laid, length-laid, pathOf, wholeOf, formOf}
 use Rattle.resolve.specs.declared.target.Target.{Target}
@@ -160,27 +161,93 @@ module _ {t : Target} {l area after reference : Bytes} {to : ℕ} {r : Bool} (c 
         same = c .same;
       }
 
-  pub recomposed-long : r ≡ true → 1024 < to + (length reference - t .path) → Recomposed reference t l area after TooLong
-  unfolding answered if_then_else_ mostNameBytes
+  pub recomposed-long : r ≡ true → mostNameBytes < to + (length reference - t .path) → Recomposed reference t l area after TooLong
+  unfolding answered if_then_else_
   recomposed-long f g =
       let size = cleared-size reference c (omega arith) in
       record {
-        is = sym (rw (cleared-form c e, f, lt-leb (length (wholeOf t reference l)) 1024 (omega (arith, size))));
+        is = sym (rw (cleared-form c e, f, lt-leb (length (wholeOf t reference l)) mostNameBytes (omega (arith, size))));
         written = λ n q. absurd (let z : _≡_ {A = ℕ} 0 1 = cc in omega arith);
         same = c .same;
       }
 
-  pub recomposed-whole : {last : Bytes} {q : Bool} → r ≡ true → to + (length reference - t .path) ≤ 1024
+  pub recomposed-whole : {last : Bytes} {q : Bool} → r ≡ true → to + (length reference - t .path) ≤ mostNameBytes
       → Put after to (take (length reference - t .path) (drop (t .path) reference)) last q
       → Recomposed reference t l area last (Length (to + (length reference - t .path)))
-  unfolding answered if_then_else_ mostNameBytes wholeOf
+  unfolding answered if_then_else_ wholeOf
   recomposed-whole {last} {q} f g p =
       let size = cleared-size reference c (omega arith) in
       let tail : length (drop (t .path) reference) ≡ length reference - t .path = length-drop (t .path) reference in
       let w : Wrote after last to (to + (length reference - t .path)) (drop (t .path) reference) =
       upto (put-fits (rw (rest-of reference (t .path)) at p) (omega (arith, c .same, c .within))) (omega arith) in
       record {
-        is = sym (rw (cleared-form c e, f, le-leb (length (wholeOf t reference l)) 1024 (omega (arith, size)), size));
+        is = sym (rw (cleared-form c e, f, le-leb (length (wholeOf t reference l)) mostNameBytes (omega (arith, size)), size));
         written = λ n q. let k : n ≡ to + (length reference - t .path) = cc in rw k (wrote-front w ∙ rw (c .front, append-assoc));
         same = wrote-same w ∙ c .same;
       }
+
+-- ---- what a caller learns from the answer
+
+-- `n` bytes of the area are the reference on the base, which has a form and is not too long
+pub record Holds (base reference after : Bytes) (n : ℕ) : Type 0 where
+  pub form : resolves base reference ≡ true
+  pub size : n ≡ length (resolve base reference)
+  pub limit : n ≤ mostNameBytes
+  pub is : Front after (resolve base reference) n
+
+-- what each answer says of the text
+abbrev Said : Bool → Bytes → Resolved → Type 0
+Said form text (Length n) = (form ≡ true) × (n ≡ length text) × (n ≤ mostNameBytes)
+Said form text NoForm = form ≡ false
+Said form text TooLong = (form ≡ true) × (mostNameBytes < length text)
+Said form text NoArea = ⊥
+
+said : (form : Bool) (text : Bytes) → Said form text (answered form text)
+unfolding answered if_then_else_
+said false text = refl
+said true text = go (leb (length text) mostNameBytes) refl
+  where
+    go : (t : Bool) → leb (length text) mostNameBytes ≡ t → Said true text (if t then Length (length text) else TooLong)
+    go true e = (refl, refl, leb-true (length text) mostNameBytes e)
+    go false e = (refl, leb-false (length text) mostNameBytes e)
+
+module _ {base reference area after : Bytes} {r : Resolved} (h : Result base reference area after r) where
+  says : {q : Resolved} → r ≡ q → (q ≡ NoArea → ⊥) → Said (resolves base reference) (resolve base reference) q
+  says {q} e f = go (leb (need base reference) (length area)) refl
+    where
+      go : (t : Bool) → leb (need base reference) (length area) ≡ t → Said (resolves base reference) (resolve base reference) q
+      go true k = rw (sym e ∙ h .enough (leb-true (need base reference) (length area) k)) (said (resolves base reference) (resolve base reference))
+      go false k = absurd (f (sym e ∙ h .short (leb-false (need base reference) (length area) k) .0))
+
+  pub result-length : {n : ℕ} → r ≡ Length n → Holds base reference after n
+  result-length {n} e =
+      let s = says e (λ (q : Length n ≡ NoArea). let z : _≡_ {A = ℕ} 0 1 = cc in omega arith) in
+      let t = h .written n e in
+      record {
+        form = s .0;
+        size = s .1;
+        limit = s .2;
+        is = record { within = omega (arith, s .1, ap length t, length-take n after); is = t };
+      }
+
+  pub result-formless : r ≡ NoForm → resolves base reference ≡ false
+  result-formless e = says e (λ (q : NoForm ≡ NoArea). let z : _≡_ {A = ℕ} 0 1 = cc in omega arith)
+
+  pub result-long : r ≡ TooLong → (resolves base reference ≡ true) × (mostNameBytes < length (resolve base reference))
+  result-long e = says e (λ (q : TooLong ≡ NoArea). let z : _≡_ {A = ℕ} 0 1 = cc in omega arith)
+
+  -- with room enough there is an answer on the text
+  pub result-room : need base reference ≤ length area → r ≡ NoArea → ⊥
+  result-room k e = rw (sym (h .enough k) ∙ e) at (said (resolves base reference) (resolve base reference))
+
+-- nothing else is a result: the answers are the same, and so are the bytes that they count
+pub unique : {base reference area e f : Bytes} {q r : Resolved} → Result base reference area e q → Result base reference area f r → q ≡ r
+unique {base} {reference} {area} {e} {f} {q} {r} h k = go (leb (need base reference) (length area)) refl
+  where
+    go : (t : Bool) → leb (need base reference) (length area) ≡ t → q ≡ r
+    go true c = let room = leb-true (need base reference) (length area) c in h .enough room ∙ sym (k .enough room)
+    go false c = let none = leb-false (need base reference) (length area) c in h .short none .0 ∙ sym (k .short none .0)
+
+pub unique-bytes : {base reference area e f : Bytes} {q r : Resolved} {n : ℕ} → Result base reference area e q → Result base reference area f r → q ≡ Length n
+    → take n e ≡ take n f
+unique-bytes {n = n} h k c = h .written n c ∙ sym (k .written n (sym (unique h k) ∙ c))

@@ -136,7 +136,7 @@ module _ (base : Bytes) where
         keep = omega arith;
         slash = omega arith;
         is = λ p.
-            rw (take-add (partsOf base .authority) n base, last, take-authority base, append-assoc)
+            rw (take-add (partsOf base .authority) n base, last, take-authority base, append-assoc (schemeText base ++ authorityText base) (throughLast (parse base .path)) p)
             (ap ((schemeText base ++ authorityText base) ++_) (sym (merge-path (parse base .scheme) (parse base .authority) (parse base .path) (parse base .query) (parse base .fragment) p there)));
       }
 

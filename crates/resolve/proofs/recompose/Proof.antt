@@ -1,6 +1,7 @@
 -- `resolve::recompose` meets its contract.
 use lib.ListN.{length-take}
 use borrow.Author.Tests.{not-true, not-false}
+use Rattle.spec.specs.Limits.{mostNameBytes}
 use Rattle.resolve.specs.Resolve.{cleared, recomposed-formless, recomposed-long, recomposed-whole}
 use native.Mathlib.Omega.{arith}
 use borrow.Author.Needs.{needs}
@@ -50,6 +51,7 @@ same-length-2 : tie.Need-same-length-2
 same-length-2 c = search needs
 
 returns-2 : tie.Need-returns-2
+unfolding mostNameBytes
 returns-2 c = recomposed-long (cleared {t = c .before .before .before .before .before .before .before .before .before .before .before .args .target} (c .before .before .before .before .before .before .before .before .before .before .before .pre .start) (omega (arith, c .before .before .before .before .before .before .before .before .before .before .before .pre .rest)) (c .before .before .before .before .before .before .before .remove-dot-segments .ensures)) (omega (arith, c .before .before .before .before .before .before .before .before .before .before .before .pre .rest, length-take (c .before .before .before .before .before .before .before .before .before .before .before .args .end) (c .before .before .before .before .before .before .before .before .before .before .before .args .area .now))) (c .before .before .has-form .ensures) (not-false _ (c .before .if1 .left)) (c .if2 .taken)
 
 sub-put : tie.Need-sub-put
@@ -71,6 +73,7 @@ same-length-3 : tie.Need-same-length-3
 same-length-3 c = search needs
 
 returns-3 : tie.Need-returns-3
+unfolding mostNameBytes
 returns-3 c = recomposed-whole (cleared {t = c .before .before .before .before .before .before .before .before .before .before .before .before .before .before .before .before .args .target} (c .before .before .before .before .before .before .before .before .before .before .before .before .before .before .before .before .pre .start) (omega (arith, c .before .before .before .before .before .before .before .before .before .before .before .before .before .before .before .before .pre .rest)) (c .before .before .before .before .before .before .before .before .before .before .before .before .remove-dot-segments .ensures)) (omega (arith, c .before .before .before .before .before .before .before .before .before .before .before .before .before .before .before .before .pre .rest, length-take (c .before .before .before .before .before .before .before .before .before .before .before .before .before .before .before .before .args .end) (c .before .before .before .before .before .before .before .before .before .before .before .before .before .before .before .before .args .area .now))) (c .before .before .before .before .before .before .before .has-form .ensures) (not-false _ (c .before .before .before .before .before .before .if1 .left)) (c .before .before .before .before .before .if2 .left) (c .before .before .put .ensures)
 
 pub recompose-spec : {M : Type 1} → statement M
