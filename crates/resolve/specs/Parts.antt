@@ -15,7 +15,7 @@ use Rattle.spec.specs.Rfc3986.{marked, past, schemeOf, afterScheme, parse, with
 use Rattle.spec.proofs.Booleans.{and-left, and-right, and-both}
 use Rattle.copy.specs.Copy.{rest-of}
 use Rattle.copy.specs.Texts.{begins-true, after-drop, from-drop}
-use Rattle.resolve.specs.Texts.{cut, Headed, from-headed}
+use Rattle.resolve.specs.Texts.{cut, Headed, from-headed, and-false}
 use Rattle.resolve.specs.declared.parts.Parts.{Parts}
 
 -- ---- the parts with their marks
@@ -338,10 +338,6 @@ scheme-tested s =
     go : (t : Bool) → length (withMark [] (if t then some (upTo (among (ascii ":/?#")) s) else none) (ascii ":")) ≡ (if t then nameSize s + 1 else 0)
     go true = length-append (upTo (among (ascii ":/?#")) s) (ascii ":")
     go false = refl
-
-and-false : (a : Bool) → (a && false) ≡ false
-and-false true = refl
-and-false false = refl
 
 module _ (s : Bytes) where
   pub scheme-unnamed : 0 ≡ nameSize s → 0 ≡ length (schemeText s)

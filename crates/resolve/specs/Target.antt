@@ -1,6 +1,6 @@
 -- RFC 3986, section 5.2.2: what a reference on a base is made of, case by case.
 use mathlib.Core.Path.{_≡_, refl, sym, ap, _∙_}
-use mathlib.Core.Bool.{Bool, true, false, _&&_, _||_, not, false≢true}
+use mathlib.Core.Bool.{Bool, true, false, _||_, not, false≢true}
 use mathlib.Core.Option.{Option, none, some}
 use mathlib.Core.List.{[], _∷_, _++_, append-assoc}
 use Prim.Native.Nat.{ℕ, zero, suc, _+_, _-_, _<_, _≤_}
@@ -13,7 +13,7 @@ use Rattle.spec.specs.Bytes.{Bytes, ascii, if_then_else_, begins, from, isEmpty
 use Rattle.spec.specs.Rfc3986.{Reference, parse, recompose, removeDotSegments, turns, merge, transform, hasForm, resolve, resolves}
 use Rattle.resolve.specs.Parts.{partsOf, schemeText, authorityText, queryText, fragmentText, ordered, take-scheme, take-authority, take-path, take-query, drop-path-texts, path-between, scheme-at, authority-at, path-at, query-at, scheme-nil, authority-nil, path-nil, query-nil, scheme-text, has-scheme, has-authority, has-query, has-path, no-slashes}
 use Rattle.resolve.specs.Turns.{throughLast}
-use Rattle.resolve.specs.Texts.{Front}
+use Rattle.resolve.specs.Texts.{Front, and-true}
 use Rattle.resolve.specs.declared.target.Lead.{Lead}
 use Rattle.resolve.specs.declared.target.Target.{Target}
 
@@ -65,6 +65,14 @@ aimed {base} {reference} {t} {r} front p e keep slash path whole size result for
 
 -- ---- the tests of 5.2.2
 
+-- neither scheme nor authority
+module _ (s : Bytes) (h : partsOf s .authority ≤ 0) where
+  bare-scheme : isSome (parse s .scheme) ≡ false
+  bare-scheme = has-scheme s ∙ le-ltb 0 (partsOf s .scheme) (omega (arith, ordered s))
+
+  bare-authority : isSome (parse s .authority) ≡ false
+  bare-authority = has-authority s ∙ le-ltb (partsOf s .scheme) (partsOf s .authority) (omega arith)
+
 -- a base's own path has a form
 kept-form : (s : Bytes) → (isSome (parse s .authority) || not (begins (ascii "//") (parse s .path))) ≡ (ltb (partsOf s .scheme) (partsOf s .authority) || true)
 kept-form s = rw (← (has-authority s)) (go (isSome (parse s .authority)) refl)
@@ -72,10 +80,6 @@ kept-form s = rw (← (has-authority s)) (go (isSome (parse s .authority)) refl)
     go : (t : Bool) → isSome (parse s .authority) ≡ t → (t || not (begins (ascii "//") (parse s .path))) ≡ (t || true)
     go true e = refl
     go false e = rw (no-slashes s e)
-
-and-true : (a : Bool) → (a && true) ≡ a
-and-true true = refl
-and-true false = refl
 
 -- does a front begin with "/"?
 first-slash : (s : Bytes) (n : ℕ) → 0 < n → n ≤ length s → begins (ascii "/") (take n s) ≡ eqb 47 (getD s 0 0)
@@ -226,8 +230,8 @@ module _ (base reference : Bytes) where
   unfolding transform recompose hasForm laid authorityText queryText fragmentText if_then_else_ removeDotSegments turns isEmpty begins ascii
   aimed-query n h =
       let o = ordered reference in
-      let no-scheme : isSome (parse reference .scheme) ≡ false = has-scheme reference ∙ le-ltb 0 (partsOf reference .scheme) (omega arith) in
-      let no-authority : isSome (parse reference .authority) ≡ false = has-authority reference ∙ le-ltb (partsOf reference .scheme) (partsOf reference .authority) (omega arith) in
+      let no-scheme : isSome (parse reference .scheme) ≡ false = bare-scheme reference (omega arith) in
+      let no-authority : isSome (parse reference .authority) ≡ false = bare-authority reference (omega arith) in
       let no-path : parse reference .path ≡ [] = path-nil reference (omega arith) in
       let query : isSome (parse reference .query) ≡ true = has-query reference ∙ lt-ltb (partsOf reference .path) (partsOf reference .query) (omega arith) in
       let start : partsOf reference .path ≡ 0 = omega arith in
@@ -249,8 +253,8 @@ module _ (base reference : Bytes) where
   unfolding transform recompose hasForm laid authorityText queryText fragmentText if_then_else_ removeDotSegments turns isEmpty begins ascii
   aimed-fragment n h =
       let o = ordered reference in
-      let no-scheme : isSome (parse reference .scheme) ≡ false = has-scheme reference ∙ le-ltb 0 (partsOf reference .scheme) (omega arith) in
-      let no-authority : isSome (parse reference .authority) ≡ false = has-authority reference ∙ le-ltb (partsOf reference .scheme) (partsOf reference .authority) (omega arith) in
+      let no-scheme : isSome (parse reference .scheme) ≡ false = bare-scheme reference (omega arith) in
+      let no-authority : isSome (parse reference .authority) ≡ false = bare-authority reference (omega arith) in
       let no-path : parse reference .path ≡ [] = path-nil reference (omega arith) in
       let no-query : isSome (parse reference .query) ≡ false = has-query reference ∙ le-ltb (partsOf reference .path) (partsOf reference .query) (omega arith) in
       let start : partsOf reference .path ≡ 0 = omega arith in
@@ -265,10 +269,10 @@ module _ (base reference : Bytes) where
 
   module _ (h : OnlyPath reference) where
     no-scheme : isSome (parse reference .scheme) ≡ false
-    no-scheme = has-scheme reference ∙ le-ltb 0 (partsOf reference .scheme) (omega (arith, ordered reference))
+    no-scheme = bare-scheme reference (h .authority)
 
     no-authority : isSome (parse reference .authority) ≡ false
-    no-authority = has-authority reference ∙ le-ltb (partsOf reference .scheme) (partsOf reference .authority) (omega arith)
+    no-authority = bare-authority reference (h .authority)
 
     path-there : isEmpty (parse reference .path) ≡ false
     path-there = has-path reference ∙ ne-eqb (partsOf reference .authority) (partsOf reference .path) (λ e. omega arith)

@@ -1,6 +1,6 @@
--- Laws of texts: cut at the first byte of a set, and their fronts.
+-- Laws of texts, cut at the first byte of a set, and of tests.
 use mathlib.Core.Path.{_≡_, refl, ap₂, _∙_}
-use mathlib.Core.Bool.{Bool, true, false}
+use mathlib.Core.Bool.{Bool, true, false, _&&_, _||_}
 use mathlib.Core.List.{[], _∷_, _++_}
 use Prim.Native.Nat.{ℕ, _≤_}
 use lib.ListN.{length, take, take-append-drop}
@@ -29,3 +29,16 @@ from-headed p (a ∷ s) = go (p a) refl (from-headed p s)
     go : (t : Bool) → p a ≡ t → Headed p (from p s) → Headed p (if t then (a ∷ s) else from p s)
     go true e h = e
     go false e h = h
+
+-- a test that another test leaves as it is, or settles
+pub and-false : (a : Bool) → (a && false) ≡ false
+and-false true = refl
+and-false false = refl
+
+pub and-true : (a : Bool) → (a && true) ≡ a
+and-true true = refl
+and-true false = refl
+
+pub or-false : (a : Bool) → (a || false) ≡ a
+or-false true = refl
+or-false false = refl

@@ -13,7 +13,7 @@ use Rattle.spec.specs.Bytes.{Bytes, ascii, if_then_else_, same, begins, after, 
 use Rattle.spec.specs.Rfc3986.{withoutLast, firstSegment, turn, turns, removeDotSegments}
 use Rattle.copy.specs.Copy.{rest-of}
 use Rattle.copy.specs.Texts.{same-true, begins-true, begins-length, length-upTo, upTo-take, from-drop}
-use Rattle.resolve.specs.Texts.{Front, Headed, from-headed}
+use Rattle.resolve.specs.Texts.{Front, Headed, from-headed, or-false}
 use Rattle.resolve.specs.declared.path.Turn.{Turn}
 use Rattle.resolve.specs.declared.path.Turn.the-variants.{Skip, Up, Segment}
 
@@ -54,10 +54,6 @@ backwards-less {s} {n} h z f =
 pub backwards-done : {s : Bytes} {n : ℕ} → Backwards s n → n ≤ 0 → Front s (throughLast s) 0
 unfolding throughLast from
 backwards-done {s} {n} h z = let e : n ≡ 0 = omega arith in record { within = omega arith; is = rw e at (h .is) }
-
-or-false : (a : Bool) → (a || false) ≡ a
-or-false true = refl
-or-false false = refl
 
 -- without the last segment: up to the last "/", without it
 without-any : (s : Bytes) → length (throughLast s) ≡ 0 → withoutLast s ≡ []
