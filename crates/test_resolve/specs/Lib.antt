@@ -1,0 +1,2 @@
+-- What the contracts of `test_resolve` cite.
+pub mod Line
