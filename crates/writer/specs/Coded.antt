@@ -1,7 +1,7 @@
 -- A text written byte by byte, in runs: bytes that are written as they are go together.
 use Prim.Native.Nat.{ℕ, _+_, _-_, _<_, _≤_}
 use mathlib.Core.Path.{_≡_, refl, sym, _∙_}
-use mathlib.Core.Bool.{Bool}
+use mathlib.Core.Bool.{Bool, false, _||_}
 use mathlib.Core.List.{List, [], _∷_, _++_, append-assoc, append-nil}
 use native.Mathlib.Numerals.{add-one}
 use native.Mathlib.Omega.{arith}
@@ -11,6 +11,7 @@ use Rattle.spec.specs.Bytes.{Bytes}
 use Rattle.spec.specs.NTriples.{coded}
 use Rattle.copy.specs.Copy.{rest-of}
 use Rattle.writer.specs.Put.{Put, puts, put-as}
+use Rattle.writer.specs.Words.{neither}
 
 module _ (w : ℕ → Bytes) where
   pub coded-append : (s t : Bytes) → coded w (s ++ t) ≡ coded w s ++ coded w t
@@ -71,3 +72,22 @@ going-done {w} {on} {b} {d} {e} {a} {at} {to} {j} {i} {s} h p g l =
 -- what is left falls
 pub going-less : {l i : ℕ} (n : ℕ) → i < l → l - (i + 1 + n) < l - i
 going-less n h = omega arith
+
+-- ---- the test of a whole text: unless one was marked, the first `i` bytes are written as they are
+
+pub record Clean (w : ℕ → Bytes) (s : Bytes) (i : ℕ) (marked : Bool) : Type 0 where
+  pub upto : i ≤ length s
+  pub eq : marked ≡ false → Plain w s i
+
+pub clean-begins : {w : ℕ → Bytes} {s : Bytes} → Clean w s 0 false
+clean-begins = record { upto = omega arith; eq = λ h. plain-begins }
+
+pub clean-more : {w : ℕ → Bytes} {s : Bytes} {i : ℕ} {m r : Bool} → Clean w s i m → i < length s → (r ≡ false → w (getD s i 0) ≡ getD s i 0 ∷ []) → Clean w s (i + 1) (m || r)
+clean-more {w} {s} {i} {m} {r} h b e =
+    record { upto = omega arith; eq = λ n. plain-more (h .eq (neither m r n .0)) b (e (neither m r n .1)) }
+
+pub clean-done : {w : ℕ → Bytes} {s : Bytes} {i : ℕ} {m : Bool} → Clean w s i m → length s ≤ i → m ≡ false → coded w s ≡ s
+clean-done {w} {s} {i} {m} h b n =
+    let q : i ≡ length s = omega arith in
+    let p : coded w (take i s) ≡ take i s = h .eq n .eq in
+    rw (q, take-length s) at p

@@ -1,4 +1,5 @@
--- What a writer does, and the texts that it escapes.
+-- What a writer does.
 pub mod Put
-pub mod Coded
+-- The words that bytes are written as, and texts of them.
 pub mod Words
+pub mod Coded

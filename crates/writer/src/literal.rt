@@ -1,6 +1,6 @@
 // The text of a literal: `"`, `\`, LF and CR are escaped by a backslash.
 ghost use mathlib.Core.Path.{_≡_};
-ghost use mathlib.Core.Bool.{true};
+ghost use mathlib.Core.Bool.{true, false};
 ghost use mathlib.Core.List.{[], _∷_};
 ghost use Rattle.spec.specs.NTriples.{coded};
 ghost use Rattle.spec.specs.NTriples.{literalByte};
@@ -8,6 +8,35 @@ ghost use Rattle.writer.specs.Put.{Put};
 ghost use Rattle.writer.specs.Coded.{Plain};
 
 pub fn write(out: &mut [u8], at: usize, on: bool, s: &[u8]) -> usize
+    ensures { λ r. ⌜ Put on (now (out .entry)) (now (out .exit)) at r (coded literalByte (now (s .entry))) ⌝ }
+{
+    if is_plain(s) {
+        return crate::bytes(out, at, on, s);
+    }
+    runs(out, at, on, s)
+}
+
+// Is all of it surely written as it is? Most texts are; the loop has no branch, so that many bytes are tested at once.
+fn is_plain(s: &[u8]) -> bool
+    ensures { λ r. ⌜ (r ≡ true → coded literalByte (now (s .entry)) ≡ now (s .entry)) ⌝ }
+{
+    let mut marked = false;
+    let mut i = 0;
+    while i < s.len() {
+        marked = marked | is_marked(s[i]);
+        i += 1;
+    }
+    !marked
+}
+
+fn is_marked(b: u8) -> bool
+    ensures { λ r. ⌜ (r ≡ false → literalByte b ≡ b ∷ []) ⌝ }
+{
+    (b == b'"') | (b == b'\\') | (b == b'\n') | (b == b'\r')
+}
+
+// A run of bytes that are written as they are, one that is not, and so on.
+fn runs(out: &mut [u8], at: usize, on: bool, s: &[u8]) -> usize
     ensures { λ r. ⌜ Put on (now (out .entry)) (now (out .exit)) at r (coded literalByte (now (s .entry))) ⌝ }
 {
     let mut i = run(s);
