@@ -86,13 +86,12 @@ pub neither : (a b : Bool) → (a || b) ≡ false → (a ≡ false) × (b ≡ fa
 neither true b h = absurd (false≢true (sym h))
 neither false b h = (refl, h)
 
-pub literal-unmarked : (c : ℕ) → (((eqb c 34 || eqb c 92) || eqb c 10) || eqb c 13) ≡ false → literalByte c ≡ c ∷ []
-unfolding literalByte if_then_else_ byte
+pub literal-unmarked : (c : ℕ) → ((leb c 13 || eqb c 34) || eqb c 92) ≡ false → literalByte c ≡ c ∷ []
 literal-unmarked c h =
-    let d : (((eqb c 34 || eqb c 92) || eqb c 10) ≡ false) × (eqb c 13 ≡ false) = neither ((eqb c 34 || eqb c 92) || eqb c 10) (eqb c 13) h in
-    let e : ((eqb c 34 || eqb c 92) ≡ false) × (eqb c 10 ≡ false) = neither (eqb c 34 || eqb c 92) (eqb c 10) (d .0) in
-    let f : (eqb c 34 ≡ false) × (eqb c 92 ≡ false) = neither (eqb c 34) (eqb c 92) (e .0) in
-    rw (f .0, f .1, e .1, d .1)
+    let b : (leb c 13 || eqb c 34 ≡ false) × (eqb c 92 ≡ false) = neither (leb c 13 || eqb c 34) (eqb c 92) h in
+    let a : (leb c 13 ≡ false) × (eqb c 34 ≡ false) = neither (leb c 13) (eqb c 34) (b .0) in
+    let low : 13 < c = leb-false c 13 (a .0) in
+    literal-same (eqb-false c 34 (a .1)) (eqb-false c 92 (b .1)) (λ x. omega arith) (λ x. omega arith)
 
 none-of : {c : ℕ} → (c ≡ 34 → ⊥) → (c ≡ 60 → ⊥) → (c ≡ 62 → ⊥) → (c ≡ 92 → ⊥) → (c ≡ 94 → ⊥) → (c ≡ 96 → ⊥) → OneOf (34 ∷ 60 ∷ 62 ∷ 92 ∷ 94 ∷ 96 ∷ []) c → ⊥
 none-of a b d e f g (inl x) = a x

@@ -29,6 +29,7 @@ fn is_plain(s: &[u8]) -> bool
     !marked
 }
 
+// Coarser than `is_forbidden`: fewer tests.
 fn is_marked(b: u8) -> bool
     ensures { λ r. ⌜ (r ≡ false → iriByte b ≡ b ∷ []) ⌝ }
 {

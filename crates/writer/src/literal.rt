@@ -29,10 +29,11 @@ fn is_plain(s: &[u8]) -> bool
     !marked
 }
 
+// Coarser than `plain`: a test less.
 fn is_marked(b: u8) -> bool
     ensures { λ r. ⌜ (r ≡ false → literalByte b ≡ b ∷ []) ⌝ }
 {
-    (b == b'"') | (b == b'\\') | (b == b'\n') | (b == b'\r')
+    (b <= b'\r') | (b == b'"') | (b == b'\\')
 }
 
 // A run of bytes that are written as they are, one that is not, and so on.
