@@ -9,7 +9,7 @@ use native.Mathlib.Omega.{arith}
 use lib.Dec.{leb}
 use lib.ListN.{length, take, drop, length-append, length-take, length-drop, take-append-drop, drop-of-length-le}
 use lib.Seq.{take-all, take-nil, drop-drop, take-append-le, take-append-add}
-use borrow.Author.Tests.{leb-true, leb-false}
+use borrow.Author.Tests.{leb-true, leb-false, le-leb, lt-leb}
 use Rattle.copy.specs.Copy.{storedAt, length-stored, stored-stored, take-before, rest-of, lent-back, rest-within, Wrote, wrote-same}
 
 -- the largest number that a usize counts to
@@ -45,6 +45,7 @@ counted-counted at n m = omega arith
 pub counted-below : (at n : ℕ) → counted at n < most → counted at n ≡ at + n
 counted-below at n h = omega arith
 
+-- one way or the other
 compare : (a b : ℕ) → (a ≤ b) ⊎ (b < a)
 compare a b = go (leb a b) refl
   where
@@ -52,7 +53,7 @@ compare a b = go (leb a b) refl
     go true h = inl (leb-true a b h)
     go false h = inr (leb-false a b h)
 
--- ---- what has room
+-- ---- what there is room for
 
 fitting-all : (d : List ℕ) (at : ℕ) (s : List ℕ) → at + length s ≤ min (length d) most → fitting d at s ≡ s
 unfolding fitting
@@ -174,9 +175,19 @@ put-part {on} {d} {e} {s} {at} t l u w =
 
 -- ---- what a caller learns
 
--- a count below `most` is exact, and one that a slice's length is not below is
+-- a count below `most` is exact
 pub put-counts : {on : Bool} {d e s : List ℕ} {at to : ℕ} → Put on d e at to s → to < most → to ≡ at + length s
 put-counts p h = omega (arith, p .up)
+
+-- so a count tells whether there is room: a slice is shorter than `most`
+pub put-decides : {on : Bool} {d e s : List ℕ} {at to : ℕ} → Put on d e at to s → (room : ℕ) → room < most → leb to room ≡ leb (at + length s) room
+put-decides {on} {d} {e} {s} {at} {to} p room h = ⊎-elim fits exceeds (compare (at + length s) room)
+  where
+    fits : at + length s ≤ room → leb to room ≡ leb (at + length s) room
+    fits l = le-leb to room (omega (arith, p .up)) ∙ sym (le-leb (at + length s) room l)
+
+    exceeds : room < at + length s → leb to room ≡ leb (at + length s) room
+    exceeds l = lt-leb to room (omega (arith, p .up)) ∙ sym (lt-leb (at + length s) room l)
 
 -- off, it leaves everything
 pub put-measures : {on : Bool} {d e s : List ℕ} {at to : ℕ} → Put on d e at to s → on ≡ false → e ≡ d
@@ -186,6 +197,11 @@ put-measures {on} {d} {e} {s} {at} p f = p .eq ∙ behind-off d at s f
 pub put-wrote : {on : Bool} {d e s : List ℕ} {at to : ℕ} → Put on d e at to s → on ≡ true → length d ≤ most → at + length s ≤ length d → Wrote d e at to s
 put-wrote {on} {d} {e} {s} {at} p t l h =
     record { room = h; up = omega (arith, p .up); eq = p .eq ∙ behind-fits d at s t (omega arith) }
+
+-- measured, and then stored where it has room
+pub put-both : {off on : Bool} {d c e s : List ℕ} {at n to : ℕ} → Put off d c at n s → Put on c e at to s → off ≡ false → on ≡ true → n ≤ length d → length d < most → Wrote d e at to s
+put-both {off} {on} {d} {c} {e} {s} {at} {n} {to} p q f t h l =
+    put-wrote (rw (put-measures p f) at q) t (omega arith) (omega (arith, p .up))
 
 -- nothing before `at` changes
 pub put-before : {on : Bool} {d e s : List ℕ} {at to : ℕ} → Put on d e at to s → take at e ≡ take at d
