@@ -1,0 +1,35 @@
+-- `ntriples::text` meets its contract: four pieces.
+use Rattle.writer.specs.Put.{puts, put-as}
+use Rattle.ntriples.specs.Lines.{text-parts}
+use borrow.Author.Needs.{needs}
+use Rattle.ntriples.proofs.text.Statement.{statement}
+use Rattle.ntriples.proofs.text.Tie as tie
+
+byte-requires : tie.Need-byte-requires
+byte-requires c κs = search needs
+
+write-requires : tie.Need-write-requires
+write-requires c κs = search needs
+
+write-requires-2 : tie.Need-write-requires-2
+write-requires-2 c κs = search needs
+
+byte-requires-2 : tie.Need-byte-requires-2
+byte-requires-2 c κs = search needs
+
+same-length : tie.Need-same-length
+same-length c = search needs
+
+returns : tie.Need-returns
+returns c = put-as (puts (c .before .before .before .before .before .before .before .before .before .before .before .before .before .before .byte .ensures) (puts (c .before .before .before .before .before .before .before .before .before .before .write .ensures) (puts (c .before .before .before .before .before .before .write2 .ensures) (c .before .before .byte2 .ensures)))) (text-parts _ _)
+
+pub text-spec : {M : Type 1} → statement M
+text-spec =
+    tie.close
+    (tie.spec
+    byte-requires
+    write-requires
+    write-requires-2
+    byte-requires-2
+    same-length
+    returns)

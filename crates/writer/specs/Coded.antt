@@ -1,0 +1,93 @@
+-- A text written byte by byte, in runs: bytes that are written as they are go together.
+use Prim.Native.Nat.{ℕ, _+_, _-_, _<_, _≤_}
+use mathlib.Core.Path.{_≡_, refl, sym, _∙_}
+use mathlib.Core.Bool.{Bool, false, _||_}
+use mathlib.Core.List.{List, [], _∷_, _++_, append-assoc, append-nil}
+use native.Mathlib.Numerals.{add-one}
+use native.Mathlib.Omega.{arith}
+use lib.ListN.{length, take, drop, getD, length-drop}
+use lib.Seq.{take-suc, take-length, take-add}
+use Rattle.spec.specs.Bytes.{Bytes}
+use Rattle.spec.specs.NTriples.{coded}
+use Rattle.copy.specs.Copy.{rest-of}
+use Rattle.writer.specs.Put.{Put, puts, put-as}
+use Rattle.writer.specs.Words.{neither}
+
+module _ (w : ℕ → Bytes) where
+  pub coded-append : (s t : Bytes) → coded w (s ++ t) ≡ coded w s ++ coded w t
+  unfolding coded
+  coded-append [] t = refl
+  coded-append (c ∷ s) t = rw (coded-append s t, append-assoc)
+
+  coded-one : (c : ℕ) → coded w (c ∷ []) ≡ w c
+  unfolding coded
+  coded-one c = append-nil (w c)
+
+  coded-suc : (s : Bytes) (i : ℕ) → i < length s → coded w (take (i + 1) s) ≡ coded w (take i s) ++ w (getD s i 0)
+  coded-suc s i h = rw (add-one, take-suc s i 0, coded-append, coded-one)
+
+-- ---- the search for the next byte that is not written as it is: the first `i` bytes are
+
+pub record Plain (w : ℕ → Bytes) (s : Bytes) (i : ℕ) : Type 0 where
+  pub upto : i ≤ length s
+  pub eq : coded w (take i s) ≡ take i s
+
+pub plain-begins : {w : ℕ → Bytes} {s : Bytes} → Plain w s 0
+unfolding coded
+plain-begins = record { upto = omega arith; eq = refl }
+
+pub plain-more : {w : ℕ → Bytes} {s : Bytes} {i : ℕ} → Plain w s i → i < length s → w (getD s i 0) ≡ getD s i 0 ∷ [] → Plain w s (i + 1)
+plain-more {w} {s} {i} h b e =
+    record { upto = omega arith; eq = coded-suc w s i b ∙ rw (h .eq, e) (sym (rw add-one (take-suc s i 0 b))) }
+
+-- ---- the loop that writes, behind a first run of `j` bytes: whoever wrote those has written the first `i` now
+
+pub record Going (w : ℕ → Bytes) (on : Bool) (d e : List ℕ) (at to : ℕ) (s : Bytes) (j i : ℕ) : Type 0 where
+  pub upto : i ≤ length s
+  pub put : {b : List ℕ} {a : ℕ} → Put on b d a at (coded w (take j s)) → Put on b e a to (coded w (take i s))
+
+pub going-begins : {w : ℕ → Bytes} {on : Bool} {d : List ℕ} {at j : ℕ} {s : Bytes} → Plain w s j → Going w on d d at at s j j
+going-begins h = record { upto = h .upto; put = λ p. p }
+
+-- one byte more, and the run behind it
+pub going-more : {w : ℕ → Bytes} {on : Bool} {d e f g : List ℕ} {at to up by j i n : ℕ} {s : Bytes} → Going w on d e at to s j i → i < length s
+    → Put on e f to up (w (getD s i 0)) → Plain w (take (length s - (i + 1)) (drop (i + 1) s)) n
+    → Put on f g up by (take (i + 1 + n - (i + 1)) (drop (i + 1) s)) → Going w on d g at by s j (i + 1 + n)
+going-more {w} {on} {d} {e} {f} {g} {at} {to} {up} {by} {j} {i} {n} {s} h b p r q =
+    let run : Plain w (drop (i + 1) s) n = rw rest-of at r in
+    let size : i + 1 + n - (i + 1) ≡ n = omega arith in
+    let more : coded w (take (i + 1 + n) s) ≡ (coded w (take i s) ++ w (getD s i 0)) ++ take n (drop (i + 1) s) =
+    rw (take-add (i + 1) n s, coded-append, coded-suc w s i b, run .eq) in
+    record {
+      upto = omega (arith, simp length-drop at (run .upto));
+      put = λ first. put-as (puts (puts (h .put first) p) (rw size at q)) (sym more);
+    }
+
+pub going-done : {w : ℕ → Bytes} {on : Bool} {b d e : List ℕ} {a at to j i : ℕ} {s : Bytes} → Plain w s j → Put on b d a at (take j s)
+    → Going w on d e at to s j i → length s ≤ i → Put on b e a to (coded w s)
+going-done {w} {on} {b} {d} {e} {a} {at} {to} {j} {i} {s} h p g l =
+    let q : i ≡ length s = omega arith in
+    put-as (g .put (put-as p (sym (h .eq)))) (rw (q, take-length s))
+
+-- what is left falls
+pub going-less : {l i : ℕ} (n : ℕ) → i < l → l - (i + 1 + n) < l - i
+going-less n h = omega arith
+
+-- ---- the test of a whole text: unless one was marked, the first `i` bytes are written as they are
+
+pub record Clean (w : ℕ → Bytes) (s : Bytes) (i : ℕ) (marked : Bool) : Type 0 where
+  pub upto : i ≤ length s
+  pub eq : marked ≡ false → Plain w s i
+
+pub clean-begins : {w : ℕ → Bytes} {s : Bytes} → Clean w s 0 false
+clean-begins = record { upto = omega arith; eq = λ h. plain-begins }
+
+pub clean-more : {w : ℕ → Bytes} {s : Bytes} {i : ℕ} {m r : Bool} → Clean w s i m → i < length s → (r ≡ false → w (getD s i 0) ≡ getD s i 0 ∷ []) → Clean w s (i + 1) (m || r)
+clean-more {w} {s} {i} {m} {r} h b e =
+    record { upto = omega arith; eq = λ n. plain-more (h .eq (neither m r n .0)) b (e (neither m r n .1)) }
+
+pub clean-done : {w : ℕ → Bytes} {s : Bytes} {i : ℕ} {m : Bool} → Clean w s i m → length s ≤ i → m ≡ false → coded w s ≡ s
+clean-done {w} {s} {i} {m} h b n =
+    let q : i ≡ length s = omega arith in
+    let p : coded w (take i s) ≡ take i s = h .eq n .eq in
+    rw (q, take-length s) at p

@@ -1,0 +1,5 @@
+-- What a writer does.
+pub mod Put
+-- The words that bytes are written as, and texts of them.
+pub mod Words
+pub mod Coded

@@ -1,0 +1,120 @@
+-- The words that bytes are written as: which bytes stand for themselves, and when an IRI may not hold one.
+use Prim.Native.Nat.{ℕ, _≤_, _<_, _/_, _%_}
+use mathlib.Core.Path.{_≡_, refl, sym}
+use mathlib.Core.Bool.{Bool, true, false, _||_, false≢true}
+use mathlib.Core.List.{List, [], _∷_}
+use mathlib.Core.Logic.{_⊎_, inl, inr, ⊎-elim}
+use native.Mathlib.Nat.{eq-or-lt-of-le}
+use native.Mathlib.Omega.{arith}
+use types.Run.{OneOf}
+use lib.Dec.{eqb, leb}
+use borrow.Author.Tests.{ne-eqb, le-leb, lt-leb, leb-false, eqb-false}
+use Rattle.spec.specs.Bytes.{ascii, byte, if_then_else_, among, every}
+use Rattle.spec.specs.NTriples.{literalByte, iriByte, hexDigit, forbidden}
+use Rattle.spec.specs.XmlLiteral.{textByte, valueByte}
+use Rattle.spec.proofs.Booleans.{and-left, and-right}
+
+-- ---- bytes that stand for themselves
+
+pub literal-same : {c : ℕ} → (c ≡ 34 → ⊥) → (c ≡ 92 → ⊥) → (c ≡ 10 → ⊥) → (c ≡ 13 → ⊥) → literalByte c ≡ c ∷ []
+unfolding literalByte if_then_else_ byte
+literal-same {c} a b d e = rw (ne-eqb c 34 a, ne-eqb c 92 b, ne-eqb c 10 d, ne-eqb c 13 e)
+
+pub text-same : {c : ℕ} → (c ≡ 38 → ⊥) → (c ≡ 60 → ⊥) → (c ≡ 62 → ⊥) → (c ≡ 34 → ⊥) → (c ≡ 39 → ⊥) → textByte c ≡ c ∷ []
+unfolding textByte if_then_else_ byte
+text-same {c} a b d e f = rw (ne-eqb c 38 a, ne-eqb c 60 b, ne-eqb c 62 d, ne-eqb c 34 e, ne-eqb c 39 f)
+
+pub value-same : {c : ℕ} → (c ≡ 38 → ⊥) → (c ≡ 60 → ⊥) → (c ≡ 34 → ⊥) → (c ≡ 9 → ⊥) → (c ≡ 10 → ⊥) → (c ≡ 13 → ⊥) → valueByte c ≡ c ∷ []
+unfolding valueByte if_then_else_ byte
+value-same {c} a b d e f g = rw (ne-eqb c 38 a, ne-eqb c 60 b, ne-eqb c 34 d, ne-eqb c 9 e, ne-eqb c 10 f, ne-eqb c 13 g)
+
+pub iri-same : {c : ℕ} → forbidden c ≡ false → iriByte c ≡ c ∷ []
+unfolding iriByte if_then_else_
+iri-same h = rw h
+
+-- a forbidden byte is its two hex digits
+pub iri-digits : (c : ℕ) → forbidden c ≡ true → 92 ∷ 117 ∷ 48 ∷ 48 ∷ hexDigit (c / 16) ∷ hexDigit (c % 16) ∷ [] ≡ iriByte c
+unfolding iriByte if_then_else_ ascii
+iri-digits c h = rw h
+
+-- ---- forbidden bytes
+
+pub forbidden-low : {c : ℕ} → c ≤ 32 → forbidden c ≡ true
+unfolding forbidden
+forbidden-low {c} h = rw (le-leb c 32 h)
+
+-- what passes for each of some numbers passes for one of them
+one-of : (p : ℕ → Bool) (k : ℕ) (ks : List ℕ) (c : ℕ) → every p (k ∷ ks) ≡ true → OneOf (k ∷ ks) c → p c ≡ true
+unfolding every
+one-of p k [] c h e = rw e (and-left (p k) true h)
+one-of p k (m ∷ ks) c h (inl e) = rw e (and-left (p k) (every p (m ∷ ks)) h)
+one-of p k (m ∷ ks) c h (inr r) = one-of p m ks c (and-right (p k) (every p (m ∷ ks)) h) r
+
+-- six marks, and three that stand in a row
+pub forbidden-mark : {c : ℕ} → OneOf (34 ∷ 60 ∷ 62 ∷ 92 ∷ 94 ∷ 96 ∷ []) c → forbidden c ≡ true
+unfolding forbidden among ascii every
+forbidden-mark {c} m = one-of forbidden 34 (60 ∷ 62 ∷ 92 ∷ 94 ∷ 96 ∷ []) c refl m
+
+pub forbidden-brace : {c : ℕ} → 123 ≤ c → c < 126 → forbidden c ≡ true
+unfolding forbidden among ascii
+forbidden-brace {c} l h =
+    ⊎-elim
+    (λ (e : 123 ≡ c). rw (← e))
+    (λ (m : 123 < c). ⊎-elim (λ (e : 124 ≡ c). rw (← e)) (λ (n : 124 < c). let e : c ≡ 125 = omega arith in rw e) (eq-or-lt-of-le {n = 124} {m = c} (omega arith)))
+    (eq-or-lt-of-le l)
+
+pub allowed : {c : ℕ} → 32 < c → (OneOf (34 ∷ 60 ∷ 62 ∷ 92 ∷ 94 ∷ 96 ∷ []) c → ⊥) → (c < 123) ⊎ (126 ≤ c) → forbidden c ≡ false
+unfolding forbidden among ascii
+allowed {c} l m o =
+    let brace : (k : ℕ) → 123 ≤ k → k < 126 → k ≡ c → ⊥ = λ k a b e. ⊎-elim (λ (x : c < 123). omega arith) (λ (x : 126 ≤ c). omega arith) o in
+    rw (
+      lt-leb c 32 l,
+      ne-eqb 60 c (λ e. m (inr (inl (sym e)))),
+      ne-eqb 62 c (λ e. m (inr (inr (inl (sym e))))),
+      ne-eqb 34 c (λ e. m (inl (sym e))),
+      ne-eqb 123 c (brace 123 (omega arith) (omega arith)),
+      ne-eqb 125 c (brace 125 (omega arith) (omega arith)),
+      ne-eqb 124 c (brace 124 (omega arith) (omega arith)),
+      ne-eqb 94 c (λ e. m (inr (inr (inr (inr (inl (sym e))))))),
+      ne-eqb 96 c (λ e. m (inr (inr (inr (inr (inr (sym e))))))),
+      ne-eqb 92 c (λ e. m (inr (inr (inr (inl (sym e)))))),
+    )
+
+-- ---- tests of a byte at once: none of them passed
+
+pub neither : (a b : Bool) → (a || b) ≡ false → (a ≡ false) × (b ≡ false)
+neither true b h = absurd (false≢true (sym h))
+neither false b h = (refl, h)
+
+pub literal-unmarked : (c : ℕ) → ((leb c 13 || eqb c 34) || eqb c 92) ≡ false → literalByte c ≡ c ∷ []
+literal-unmarked c h =
+    let b : (leb c 13 || eqb c 34 ≡ false) × (eqb c 92 ≡ false) = neither (leb c 13 || eqb c 34) (eqb c 92) h in
+    let a : (leb c 13 ≡ false) × (eqb c 34 ≡ false) = neither (leb c 13) (eqb c 34) (b .0) in
+    let low : 13 < c = leb-false c 13 (a .0) in
+    literal-same (eqb-false c 34 (a .1)) (eqb-false c 92 (b .1)) (λ x. omega arith) (λ x. omega arith)
+
+none-of : {c : ℕ} → (c ≡ 34 → ⊥) → (c ≡ 60 → ⊥) → (c ≡ 62 → ⊥) → (c ≡ 92 → ⊥) → (c ≡ 94 → ⊥) → (c ≡ 96 → ⊥) → OneOf (34 ∷ 60 ∷ 62 ∷ 92 ∷ 94 ∷ 96 ∷ []) c → ⊥
+none-of a b d e f g (inl x) = a x
+none-of a b d e f g (inr (inl x)) = b x
+none-of a b d e f g (inr (inr (inl x))) = d x
+none-of a b d e f g (inr (inr (inr (inl x)))) = e x
+none-of a b d e f g (inr (inr (inr (inr (inl x))))) = f x
+none-of a b d e f g (inr (inr (inr (inr (inr x))))) = g x
+
+pub iri-unmarked : (c : ℕ) → ((((((leb c 34 || eqb c 60) || eqb c 62) || eqb c 92) || eqb c 94) || eqb c 96) || leb 123 c) ≡ false → iriByte c ≡ c ∷ []
+iri-unmarked c h =
+    let g : (((((leb c 34 || eqb c 60) || eqb c 62) || eqb c 92) || eqb c 94) || eqb c 96 ≡ false) × (leb 123 c ≡ false) =
+    neither (((((leb c 34 || eqb c 60) || eqb c 62) || eqb c 92) || eqb c 94) || eqb c 96) (leb 123 c) h in
+    let f : ((((leb c 34 || eqb c 60) || eqb c 62) || eqb c 92) || eqb c 94 ≡ false) × (eqb c 96 ≡ false) =
+    neither ((((leb c 34 || eqb c 60) || eqb c 62) || eqb c 92) || eqb c 94) (eqb c 96) (g .0) in
+    let e : (((leb c 34 || eqb c 60) || eqb c 62) || eqb c 92 ≡ false) × (eqb c 94 ≡ false) =
+    neither (((leb c 34 || eqb c 60) || eqb c 62) || eqb c 92) (eqb c 94) (f .0) in
+    let d : ((leb c 34 || eqb c 60) || eqb c 62 ≡ false) × (eqb c 92 ≡ false) = neither ((leb c 34 || eqb c 60) || eqb c 62) (eqb c 92) (e .0) in
+    let b : (leb c 34 || eqb c 60 ≡ false) × (eqb c 62 ≡ false) = neither (leb c 34 || eqb c 60) (eqb c 62) (d .0) in
+    let a : (leb c 34 ≡ false) × (eqb c 60 ≡ false) = neither (leb c 34) (eqb c 60) (b .0) in
+    let low : 34 < c = leb-false c 34 (a .0) in
+    let high : c < 123 = leb-false 123 c (g .1) in
+    iri-same
+    (allowed (omega arith)
+    (none-of (λ x. omega arith) (eqb-false c 60 (a .1)) (eqb-false c 62 (b .1)) (eqb-false c 92 (d .1)) (eqb-false c 94 (e .1)) (eqb-false c 96 (f .1)))
+    (inl high))

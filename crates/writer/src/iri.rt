@@ -1,0 +1,100 @@
+// An IRI between its brackets: bytes that must not stand there become \u and four hex digits.
+ghost use mathlib.Core.Path.{_≡_};
+ghost use mathlib.Core.Bool.{true, false};
+ghost use mathlib.Core.List.{[], _∷_};
+ghost use Prim.Native.Nat.{_<_};
+ghost use Rattle.spec.specs.NTriples.{coded, iriByte, forbidden, hexDigit};
+ghost use Rattle.writer.specs.Put.{Put};
+ghost use Rattle.writer.specs.Coded.{Plain};
+
+pub fn write(out: &mut [u8], at: usize, on: bool, s: &[u8]) -> usize
+    ensures { λ r. ⌜ Put on (now (out .entry)) (now (out .exit)) at r (coded iriByte (now (s .entry))) ⌝ }
+{
+    if is_plain(s) {
+        return crate::bytes(out, at, on, s);
+    }
+    runs(out, at, on, s)
+}
+
+// Is all of it surely written as it is? Most texts are; the loop has no branch, so that many bytes are tested at once.
+fn is_plain(s: &[u8]) -> bool
+    ensures { λ r. ⌜ (r ≡ true → coded iriByte (now (s .entry)) ≡ now (s .entry)) ⌝ }
+{
+    let mut marked = false;
+    let mut i = 0;
+    while i < s.len() {
+        marked = marked | is_marked(s[i]);
+        i += 1;
+    }
+    !marked
+}
+
+// Coarser than `is_forbidden`: fewer tests.
+fn is_marked(b: u8) -> bool
+    ensures { λ r. ⌜ (r ≡ false → iriByte b ≡ b ∷ []) ⌝ }
+{
+    (b <= b'"') | (b == b'<') | (b == b'>') | (b == b'\\') | (b == b'^') | (b == b'`') | (b'{' <= b)
+}
+
+// A run of bytes that are written as they are, one that is not, and so on.
+fn runs(out: &mut [u8], at: usize, on: bool, s: &[u8]) -> usize
+    ensures { λ r. ⌜ Put on (now (out .entry)) (now (out .exit)) at r (coded iriByte (now (s .entry))) ⌝ }
+{
+    let mut i = run(s);
+    let mut to = crate::bytes(out, at, on, &s[..i]);
+    while i < s.len() {
+        to = escape(out, to, on, s[i]);
+        let next = i + 1;
+        i = next + run(&s[next..]);
+        to = crate::bytes(out, to, on, &s[next..i]);
+    }
+    to
+}
+
+// How many bytes are written as they are, up to one that is not.
+fn run(s: &[u8]) -> usize
+    ensures { λ r. ⌜ Plain iriByte (now (s .entry)) r ⌝ }
+{
+    let mut i = 0;
+    while i < s.len() {
+        if is_forbidden(s[i]) {
+            return i;
+        }
+        i += 1;
+    }
+    i
+}
+
+// 00 to 20 hex and nine marks.
+fn is_forbidden(b: u8) -> bool
+    ensures { λ r. ⌜ r ≡ forbidden b ⌝ }
+{
+    if b <= 32 {
+        return true;
+    }
+    match b {
+        b'<' | b'>' | b'"' | b'{' | b'}' | b'|' | b'^' | b'`' | b'\\' => true,
+        _ => false,
+    }
+}
+
+// One byte.
+fn escape(out: &mut [u8], at: usize, on: bool, b: u8) -> usize
+    ensures { λ r. ⌜ Put on (now (out .entry)) (now (out .exit)) at r (iriByte b) ⌝ }
+{
+    if !is_forbidden(b) {
+        return crate::byte(out, at, on, b);
+    }
+    let word = [b'\\', b'u', b'0', b'0', hex(b / 16), hex(b % 16)];
+    crate::bytes(out, at, on, &word)
+}
+
+fn hex(n: u8) -> u8
+    requires { ⌜ n < 16 ⌝ }
+    ensures { λ r. ⌜ r ≡ hexDigit n ⌝ }
+{
+    if n < 10 {
+        return b'0' + n;
+    }
+    b'A' - 10 + n
+}

@@ -1,0 +1,2 @@
+-- Tags piece by piece.
+pub mod Tags
