@@ -1,0 +1,76 @@
+-- Rules for small numbers, each by one test that antt computes for all of them.
+use mathlib.Core.Path.{_≡_, refl, sym}
+use mathlib.Core.Logic.{⊎-elim}
+use mathlib.Core.Bool.{Bool, true, false, _&&_, _||_, not}
+use Prim.Native.Nat.{ℕ, zero, suc, _-_, _<_}
+use native.Mathlib.Nat.{not-suc-le-zero, eq-or-lt-of-le, le-of-suc-le-suc}
+use borrow.Author.Tests.{eqb-true, not-true}
+use lib.Dec.{eqb, leb}
+use lib.Count.{leadingZeros}
+use Rattle.spec.specs.Bytes.{ascii, if_then_else_, among, between, inRanges}
+use Rattle.spec.specs.Utf8.{leadingOnes, leadingOnesOf}
+use Rattle.spec.specs.XmlNames.{isChar}
+use Rattle.spec.proofs.Booleans.{and-left, and-right}
+
+-- does a test pass of every number below n?
+allBelow : (ℕ → Bool) → ℕ → Bool
+allBelow f zero = true
+allBelow f (suc n) = f n && allBelow f n
+
+below : (f : ℕ → Bool) (n : ℕ) → allBelow f n ≡ true → (k : ℕ) → k < n → f k ≡ true
+unfolding allBelow
+below f zero h k b = absurd (not-suc-le-zero b)
+below f (suc n) h k b =
+    ⊎-elim
+    (λ (e : k ≡ n). rw e (and-left (f n) (allBelow f n) h))
+    (λ (l : k < n). below f n (and-right (f n) (allBelow f n) h) k l)
+    (eq-or-lt-of-le (le-of-suc-le-suc b))
+
+-- do two tests agree?
+agree : Bool → Bool → Bool
+agree true b = b
+agree false b = not b
+
+agree-same : (a b : Bool) → agree a b ≡ true → a ≡ b
+unfolding agree
+agree-same true b h = sym h
+agree-same false b h = sym (not-true b h)
+
+-- ---- the leading zeros of an inverted byte are its leading ones
+
+ones : ℕ → Bool
+ones b = eqb (leadingZeros 8 (255 - b)) (leadingOnes b)
+
+all-ones : allBelow ones 256 ≡ true
+unfolding allBelow ones leadingOnes leadingOnesOf if_then_else_ leadingZeros
+all-ones = refl
+
+pub inverted : (b : ℕ) → b < 256 → leadingZeros 8 (255 - b) ≡ leadingOnes b
+unfolding ones
+inverted b h = eqb-true (leadingZeros 8 (255 - b)) (leadingOnes b) (below ones 256 all-ones b h)
+
+-- ---- whitespace
+
+white : ℕ → Bool
+white b = agree (((eqb b 32 || eqb b 9) || eqb b 10) || eqb b 13) (among (ascii " \t\n\r") b)
+
+all-white : allBelow white 256 ≡ true
+unfolding allBelow white agree ascii among
+all-white = refl
+
+pub whitespace : (b : ℕ) → b < 256 → (((eqb b 32 || eqb b 9) || eqb b 10) || eqb b 13) ≡ among (ascii " \t\n\r") b
+unfolding white
+whitespace b h = agree-same _ _ (below white 256 all-white b h)
+
+-- ---- XML's control characters
+
+control : ℕ → Bool
+control c = agree ((eqb c 9 || eqb c 10) || eqb c 13) (isChar c)
+
+all-control : allBelow control 32 ≡ true
+unfolding allBelow control agree isChar inRanges between
+all-control = refl
+
+pub controls : (c : ℕ) → c < 32 → ((eqb c 9 || eqb c 10) || eqb c 13) ≡ isChar c
+unfolding control
+controls c h = agree-same _ _ (below control 32 all-control c h)

@@ -1,0 +1,214 @@
+-- XML's characters and names: the steps of the tests, and what an answer of `qname` says.
+use mathlib.Core.Path.{_≡_, refl, sym, ap, _∙_}
+use mathlib.Core.Logic.{_⊎_, inl, inr, ⊎-elim}
+use mathlib.Core.Bool.{Bool, true, false, _&&_, _||_, not}
+use mathlib.Core.List.{List, [], _∷_}
+use Prim.Native.Nat.{ℕ, suc, _+_, _<_, _≤_}
+use native.Mathlib.Omega.{arith}
+use native.Mathlib.Numerals.{add-one}
+use lib.Dec.{eqb, leb}
+use lib.ListN.{length, take, drop, getD, drop-of-length-le}
+use lib.Seq.{drop-cons}
+use borrow.Author.Tests.{le-leb, lt-leb, eq-eqb, ne-eqb, eqb-true, eqb-false}
+use Rattle.spec.specs.Bytes.{Bytes, ascii, byte, if_then_else_, after, among, upTo, from, every, between, inRanges}
+use Rattle.spec.specs.Utf8.{asCharacters}
+use Rattle.spec.specs.XmlNames.{isChar, isNameStart, isNameChar, isName, noColon, isNCName, prefixOf, localOf, isQName}
+use Rattle.utils.specs.declared.Name.the-variants.{NotName, Local, Prefixed}
+use Rattle.utils.specs.Decoding.{Front, Stuck}
+use Rattle.utils.specs.Names.{nameOf, isNCRest}
+use Rattle.utils.proofs.Utf8.{take-upTo, front-holds, front-every, front-bytes, stuck-fails, empty-holds}
+use Rattle.utils.proofs.Walking.{ByCharacter}
+
+or-false : (a : Bool) → (a || false) ≡ a
+or-false true = refl
+or-false false = refl
+
+and-false : (a : Bool) → (a && false) ≡ false
+and-false true = refl
+and-false false = refl
+
+pub char-high : (c : ℕ) → 32 ≤ c → (leb c 0xD7FF || ((leb 0xE000 c && leb c 0xFFFD) || (leb 0x10000 c && leb c 0x10FFFF))) ≡ isChar c
+unfolding isChar inRanges between
+char-high c h =
+    sym
+    (rw (lt-leb c 10 (omega arith), lt-leb c 13 (omega arith), le-leb 9 c (omega arith), le-leb 13 c (omega arith), le-leb 32 c h, or-false))
+
+-- ---- NCNames
+
+-- a character other than the colon
+pub other : ℕ → Bool
+other c = not (eqb c 0x3A)
+
+other-high : (c : ℕ) → 128 ≤ c → other c ≡ true
+unfolding other
+other-high c h = rw (ne-eqb c 0x3A (λ e. omega arith))
+
+no-colon : {c n : ℕ} {s : Bytes} → Front c n s → noColon s ≡ (other c && noColon (drop n s))
+unfolding noColon byte other
+no-colon f = front-bytes other other-high f
+
+empty-colon : (s : Bytes) → length s ≡ 0 → noColon s ≡ true
+unfolding noColon every
+empty-colon [] h = refl
+empty-colon (b ∷ u) h = absurd (omega arith)
+
+shuffle : (a b c d : Bool) → ((a && b) && (c && d)) ≡ ((a && c) && (b && d))
+shuffle true true c d = refl
+shuffle true false c d = sym (and-false c)
+shuffle false b c d = refl
+
+pub colon-fails : (t : Bool) (c : ℕ) → c ≡ 0x3A → (t && other c) ≡ false
+unfolding other
+colon-fails t c e = rw e (and-false t)
+
+pub other-keeps : (t : Bool) (c : ℕ) → (c ≡ 0x3A → ⊥) → (t && other c) ≡ t
+unfolding other
+other-keeps t c h = rw (ne-eqb c 0x3A h) (by t)
+  where
+    by : (t : Bool) → (t && true) ≡ t
+    by true = refl
+    by false = refl
+
+-- what follows the first character goes by characters that are name characters and no colon
+pub rest-by : ByCharacter isNCRest (λ c. isNameChar c && other c)
+unfolding isNCRest every
+rest-by =
+    record {
+      empty = λ s h. rw (empty-holds (every isNameChar) s h, empty-colon s h);
+      front = λ {c} {n} {s} f. rw (front-every isNameChar f, no-colon f)
+          (shuffle (isNameChar c) (asCharacters (every isNameChar) (drop n s)) (other c) (noColon (drop n s)));
+      stuck = λ h. rw (stuck-fails (every isNameChar) h);
+    }
+
+-- an NCName is a start character other than the colon, and such a rest
+nc-front : {c n : ℕ} {s : Bytes} → Front c n s → isNCName s ≡ ((isNameStart c && other c) && isNCRest (drop n s))
+unfolding isNCName isNCRest isName
+nc-front {c} {n} {s} f =
+    rw (front-holds isName (every isNameChar) isNameStart (λ d ds. refl) f, no-colon f)
+    (shuffle (isNameStart c) (asCharacters (every isNameChar) (drop n s)) (other c) (noColon (drop n s)))
+
+module _ {c n : ℕ} {s : Bytes} (f : Front c n s) where
+  pub nc-colon : c ≡ 0x3A → false ≡ isNCName s
+  nc-colon e = sym (nc-front f ∙ rw (colon-fails (isNameStart c) c e))
+
+  pub nc-other : isNameStart c ≡ false → false ≡ isNCName s
+  nc-other e = sym (nc-front f ∙ rw e)
+
+  pub nc-start : {r : Bool} → (c ≡ 0x3A → ⊥) → isNameStart c ≡ true → r ≡ isNCRest (drop n s) → r ≡ isNCName s
+  nc-start h e q = sym (nc-front f ∙ rw (other-keeps (isNameStart c) c h, e) (sym q))
+
+pub nc-stuck : {s : Bytes} → Stuck s → isNCName s ≡ false
+unfolding isNCName
+nc-stuck h = rw (stuck-fails isName h)
+
+pub nc-empty : (s : Bytes) → length s ≡ 0 → isNCName s ≡ false
+unfolding isNCName isName
+nc-empty s h = rw (empty-holds isName s h)
+
+-- ---- the first colon
+
+-- how many bytes stand before it
+abbrev pub before : Bytes → ℕ
+before s = length (upTo (among (ascii ":")) s)
+
+-- i bytes are passed, with no colon among them
+pub record Scanned (s : Bytes) (i : ℕ) : Type 0 where
+  pub within : i ≤ length s
+  pub counted : before s ≡ i + before (drop i s)
+
+pub scanned-begins : (s : Bytes) → Scanned s 0
+scanned-begins s = record { within = omega arith; counted = omega arith }
+
+module _ {s : Bytes} {i : ℕ} (w : Scanned s i) where
+  pub scanned-colon : i < length s → getD s i 0 ≡ 0x3A → i ≡ before s
+  unfolding upTo among ascii if_then_else_
+  scanned-colon h e = let z : before (drop i s) ≡ 0 = rw (drop-cons s i 0 h, e) in omega (arith, w .counted)
+
+  pub scanned-more : i < length s → (getD s i 0 ≡ 0x3A → ⊥) → Scanned s (i + 1)
+  unfolding upTo among ascii if_then_else_
+  scanned-more h n =
+      let z : before (drop i s) ≡ suc (before (drop (i + 1) s)) = rw (drop-cons s i 0 h, ne-eqb 0x3A (getD s i 0) (λ e. n (sym e)), add-one i) in
+      record { within = omega arith; counted = omega (arith, w .counted) }
+
+  pub scanned-done : length s ≤ i → i ≡ before s
+  unfolding upTo
+  scanned-done h = let z : before (drop i s) ≡ 0 = rw (drop-of-length-le s h) in omega (arith, w .counted)
+
+-- ---- names with a colon, and without
+
+-- there is a colon, or all bytes stand before it
+data Colon (s : Bytes) : Type 0 where
+  without : noColon s ≡ true → before s ≡ length s → Colon s
+  with-one : noColon s ≡ false → before s < length s → Colon s
+
+colon : (s : Bytes) → Colon s
+unfolding noColon every byte upTo among ascii if_then_else_
+colon [] = without refl refl
+colon (b ∷ s) = by (eqb b 0x3A) refl (colon s)
+  where
+    by : (t : Bool) → eqb b 0x3A ≡ t → Colon s → Colon (b ∷ s)
+    by true e q = with-one (rw e) (rw (eqb-true b 0x3A e) (omega arith))
+    by false e (without n l) = without (rw (e, n)) (rw (ne-eqb 0x3A b (λ d. eqb-false b 0x3A e (sym d))) (omega arith))
+    by false e (with-one n l) = with-one (rw (e, n)) (rw (ne-eqb 0x3A b (λ d. eqb-false b 0x3A e (sym d))) (omega arith))
+
+from-drop : (p : ℕ → Bool) (s : Bytes) → from p s ≡ drop (length (upTo p s)) s
+unfolding from upTo if_then_else_
+from-drop p [] = refl
+from-drop p (a ∷ s) = by (p a) (from-drop p s)
+  where
+    by : (t : Bool) → from p s ≡ drop (length (upTo p s)) s → (if t then (a ∷ s) else from p s) ≡ drop (length (if t then [] else (a ∷ upTo p s))) (a ∷ s)
+    by true h = refl
+    by false h = h
+
+module _ (s : Bytes) {k : ℕ} (e : k ≡ before s) where
+  pub none-colon : length s ≤ k → noColon s ≡ true
+  none-colon h = by (colon s)
+    where
+      by : Colon s → noColon s ≡ true
+      by (without n l) = n
+      by (with-one n l) = absurd (omega arith)
+
+  pub some-colon : k < length s → noColon s ≡ false
+  some-colon h = by (colon s)
+    where
+      by : Colon s → noColon s ≡ false
+      by (without n l) = absurd (omega arith)
+      by (with-one n l) = n
+
+  pub prefix-is : k < length s → prefixOf s ≡ take k s
+  unfolding prefixOf if_then_else_
+  prefix-is h = rw (some-colon h, e) (sym (take-upTo (among (ascii ":")) s))
+
+  pub local-is : k < length s → localOf s ≡ drop (k + 1) s
+  unfolding localOf if_then_else_ after ascii
+  local-is h = rw (some-colon h, from-drop (among (ascii ":")) s, ← e, drop-cons s k 0 h, add-one k)
+
+  module _ (h : length s ≤ k) where
+    whole-is : isQName s ≡ isNCName s
+    unfolding isQName localOf if_then_else_
+    whole-is = rw (none-colon h)
+
+    pub name-local : true ≡ isNCName s → Local ≡ nameOf s
+    unfolding nameOf if_then_else_
+    name-local q = rw (whole-is, ← q, none-colon h)
+
+    pub name-none : false ≡ isNCName s → NotName ≡ nameOf s
+    unfolding nameOf if_then_else_
+    name-none q = rw (whole-is, ← q)
+
+  module _ (h : k < length s) where
+    parts-are : isQName s ≡ (isNCName (take k s) && isNCName (drop (k + 1) s))
+    unfolding isQName
+    parts-are = rw (some-colon h, prefix-is h, local-is h)
+
+    pub name-prefixed : true ≡ isNCName (take k s) → true ≡ isNCName (drop (k + 1) s) → Prefixed k ≡ nameOf s
+    unfolding nameOf if_then_else_
+    name-prefixed p q = rw (parts-are, ← p, ← q, some-colon h, e)
+
+    pub name-no-prefix : false ≡ isNCName (take k s) → NotName ≡ nameOf s
+    unfolding nameOf if_then_else_
+    name-no-prefix p = rw (parts-are, ← p)
+
+    pub name-no-local : true ≡ isNCName (take k s) → false ≡ isNCName (drop (k + 1) s) → NotName ≡ nameOf s
+    unfolding nameOf if_then_else_
+    name-no-local p q = rw (parts-are, ← p, ← q)

@@ -1,0 +1,4 @@
+-- What the contracts of this crate say beside the definitions of document 01.
+pub mod Decoding
+pub mod Ranges
+pub mod Names
