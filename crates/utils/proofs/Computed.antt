@@ -5,7 +5,7 @@ use mathlib.Core.Bool.{Bool, true, false, _&&_, _||_, not}
 use Prim.Native.Nat.{ℕ, zero, suc, _-_, _<_}
 use native.Mathlib.Nat.{not-suc-le-zero, eq-or-lt-of-le, le-of-suc-le-suc}
 use borrow.Author.Tests.{eqb-true, not-true}
-use lib.Dec.{eqb, leb}
+use lib.Dec.{eqb}
 use lib.Count.{leadingZeros}
 use Rattle.spec.specs.Bytes.{ascii, if_then_else_, among, between, inRanges}
 use Rattle.spec.specs.Utf8.{leadingOnes, leadingOnesOf}

@@ -17,7 +17,9 @@ use Rattle.utils.specs.declared.Decoded.{Decoded}
 use Rattle.utils.specs.declared.Decoded.the-variants.{End, Character, Malformed}
 use Rattle.utils.specs.declared.Joined.the-variants.{Broken, Value}
 use Rattle.utils.specs.Decoding.{Front, Stuck, Decodes, Begins, joins}
-use Rattle.utils.proofs.Utf8.{size, size-high, fits-size, ones-high, Fit, one, several, fits-fit, Good, Sequence, sequence-alone, alone-sequence, no-bytes, front-some}
+use Rattle.utils.proofs.Tools.{clash}
+use Rattle.utils.proofs.Utf8.{size, size-high, fits-size, ones-high, Fit, one, several, fits-fit, Good, Sequence, sequence-alone, alone-sequence, no-bytes}
+use Rattle.utils.proofs.Front.{front-some}
 
 -- ---- the bytes that go on
 
@@ -26,7 +28,7 @@ unfolding joins if_then_else_
 joins-broken bits s e = by (every goesOn s) e
   where
     by : (t : Bool) → Broken ≡ (if t then Value (joined bits s) else Broken) → t ≡ false
-    by true e = absurd (let z : _≡_ {A = ℕ} 0 1 = cc in omega arith)
+    by true e = absurd (clash (cc))
     by false e = refl
 
 pub joins-value : (bits : ℕ) (s : Bytes) {c : ℕ} → Value c ≡ joins bits s → (every goesOn s ≡ true) × (c ≡ joined bits s)
@@ -35,7 +37,7 @@ joins-value bits s {c} e = by (every goesOn s) e
   where
     by : (t : Bool) → Value c ≡ (if t then Value (joined bits s) else Broken) → (t ≡ true) × (c ≡ joined bits s)
     by true e = (refl, cc)
-    by false e = absurd (let z : _≡_ {A = ℕ} 0 1 = cc in omega arith)
+    by false e = absurd (clash (cc))
 
 -- how many values the first byte's bits and i bytes more can have
 unfoldable pub room : ℕ → ℕ
@@ -87,7 +89,7 @@ stuck-of : (b : ℕ) (u : Bytes) → ((c m : ℕ) → Sequence c b (take m u) �
 stuck-of b u h = record { nonempty = omega arith; never = go }
   where
     go : (n c : ℕ) → characters (take n (b ∷ u)) ≡ some (c ∷ []) → ⊥
-    go zero c e = let z : _≡_ {A = ℕ} 0 1 = cc no-bytes in omega arith
+    go zero c e = clash (cc no-bytes)
     go (suc m) c e = h c m (alone-sequence e)
 
 stuck-head : (s : Bytes) → 0 < length s → ((c m : ℕ) → Sequence c (getD s 0 0) (take m (drop 1 s)) → ⊥) → Stuck s

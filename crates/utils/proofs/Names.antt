@@ -1,32 +1,29 @@
 -- XML's characters and names: the steps of the tests, and what an answer of `qname` says.
-use mathlib.Core.Path.{_≡_, refl, sym, ap, _∙_}
-use mathlib.Core.Logic.{_⊎_, inl, inr, ⊎-elim}
-use mathlib.Core.Bool.{Bool, true, false, _&&_, _||_, not}
-use mathlib.Core.List.{List, [], _∷_}
+use mathlib.Core.Path.{_≡_, refl, sym, _∙_}
+use mathlib.Core.Bool.{Bool, true, false, _&&_, _||_, not, false≢true}
+use mathlib.Core.List.{[], _∷_}
 use Prim.Native.Nat.{ℕ, suc, _+_, _<_, _≤_}
 use native.Mathlib.Omega.{arith}
 use native.Mathlib.Numerals.{add-one}
 use lib.Dec.{eqb, leb}
 use lib.ListN.{length, take, drop, getD, drop-of-length-le}
 use lib.Seq.{drop-cons}
-use borrow.Author.Tests.{le-leb, lt-leb, eq-eqb, ne-eqb, eqb-true, eqb-false}
+use borrow.Author.Tests.{le-leb, lt-leb, ne-eqb, eqb-true, eqb-false}
 use Rattle.spec.specs.Bytes.{Bytes, ascii, byte, if_then_else_, after, among, upTo, from, every, between, inRanges}
 use Rattle.spec.specs.Utf8.{asCharacters}
 use Rattle.spec.specs.XmlNames.{isChar, isNameStart, isNameChar, isName, noColon, isNCName, prefixOf, localOf, isQName}
+use Rattle.utils.specs.declared.Name.{Name}
 use Rattle.utils.specs.declared.Name.the-variants.{NotName, Local, Prefixed}
 use Rattle.utils.specs.Decoding.{Front, Stuck}
 use Rattle.utils.specs.Names.{nameOf, isNCRest}
-use Rattle.utils.proofs.Utf8.{take-upTo, front-holds, front-every, front-bytes, stuck-fails, empty-holds}
+use Rattle.utils.proofs.Tools.{clash, or-false, and-true, and-false, and-shuffle}
+use Rattle.utils.proofs.Utf8.{take-upTo}
+use Rattle.utils.proofs.Front.{front-holds, front-every, front-bytes, stuck-fails, empty-holds}
 use Rattle.utils.proofs.Walking.{ByCharacter}
 
-or-false : (a : Bool) → (a || false) ≡ a
-or-false true = refl
-or-false false = refl
+-- ---- characters
 
-and-false : (a : Bool) → (a && false) ≡ false
-and-false true = refl
-and-false false = refl
-
+-- from the space on
 pub char-high : (c : ℕ) → 32 ≤ c → (leb c 0xD7FF || ((leb 0xE000 c && leb c 0xFFFD) || (leb 0x10000 c && leb c 0x10FFFF))) ≡ isChar c
 unfolding isChar inRanges between
 char-high c h =
@@ -52,22 +49,13 @@ unfolding noColon every
 empty-colon [] h = refl
 empty-colon (b ∷ u) h = absurd (omega arith)
 
-shuffle : (a b c d : Bool) → ((a && b) && (c && d)) ≡ ((a && c) && (b && d))
-shuffle true true c d = refl
-shuffle true false c d = sym (and-false c)
-shuffle false b c d = refl
-
 pub colon-fails : (t : Bool) (c : ℕ) → c ≡ 0x3A → (t && other c) ≡ false
 unfolding other
 colon-fails t c e = rw e (and-false t)
 
 pub other-keeps : (t : Bool) (c : ℕ) → (c ≡ 0x3A → ⊥) → (t && other c) ≡ t
 unfolding other
-other-keeps t c h = rw (ne-eqb c 0x3A h) (by t)
-  where
-    by : (t : Bool) → (t && true) ≡ t
-    by true = refl
-    by false = refl
+other-keeps t c h = rw (ne-eqb c 0x3A h) (and-true t)
 
 -- what follows the first character goes by characters that are name characters and no colon
 pub rest-by : ByCharacter isNCRest (λ c. isNameChar c && other c)
@@ -76,7 +64,7 @@ rest-by =
     record {
       empty = λ s h. rw (empty-holds (every isNameChar) s h, empty-colon s h);
       front = λ {c} {n} {s} f. rw (front-every isNameChar f, no-colon f)
-          (shuffle (isNameChar c) (asCharacters (every isNameChar) (drop n s)) (other c) (noColon (drop n s)));
+          (and-shuffle (isNameChar c) (asCharacters (every isNameChar) (drop n s)) (other c) (noColon (drop n s)));
       stuck = λ h. rw (stuck-fails (every isNameChar) h);
     }
 
@@ -85,7 +73,7 @@ nc-front : {c n : ℕ} {s : Bytes} → Front c n s → isNCName s ≡ ((isNameSt
 unfolding isNCName isNCRest isName
 nc-front {c} {n} {s} f =
     rw (front-holds isName (every isNameChar) isNameStart (λ d ds. refl) f, no-colon f)
-    (shuffle (isNameStart c) (asCharacters (every isNameChar) (drop n s)) (other c) (noColon (drop n s)))
+    (and-shuffle (isNameStart c) (asCharacters (every isNameChar) (drop n s)) (other c) (noColon (drop n s)))
 
 module _ {c n : ℕ} {s : Bytes} (f : Front c n s) where
   pub nc-colon : c ≡ 0x3A → false ≡ isNCName s
@@ -212,3 +200,57 @@ module _ (s : Bytes) {k : ℕ} (e : k ≡ before s) where
     pub name-no-local : true ≡ isNCName (take k s) → false ≡ isNCName (drop (k + 1) s) → NotName ≡ nameOf s
     unfolding nameOf if_then_else_
     name-no-local p q = rw (parts-are, ← p, ← q)
+
+-- ---- what callers cite of a name
+
+pub record NoPrefix (s : Bytes) : Type 0 where
+  pub name : isQName s ≡ true
+  pub colon : noColon s ≡ true
+  pub prefix : prefixOf s ≡ []
+  pub local : localOf s ≡ s
+
+pub record HasPrefix (k : ℕ) (s : Bytes) : Type 0 where
+  pub name : isQName s ≡ true
+  pub colon : noColon s ≡ false
+  pub within : k < length s
+  pub prefix : prefixOf s ≡ take k s
+  pub local : localOf s ≡ drop (k + 1) s
+
+-- by whether it is a name, and has no colon
+shape : Bool → Bool → ℕ → Name
+shape q n k = if q then if n then Local else Prefixed k else NotName
+
+pub not-name : (s : Bytes) → NotName ≡ nameOf s → isQName s ≡ false
+unfolding nameOf shape if_then_else_
+not-name s e = by (isQName s) (noColon s) e
+  where
+    by : (q n : Bool) → NotName ≡ shape q n (before s) → q ≡ false
+    by true true e = absurd (clash (cc))
+    by true false e = absurd (clash (cc))
+    by false n e = refl
+
+pub no-prefix : (s : Bytes) → Local ≡ nameOf s → NoPrefix s
+unfolding nameOf shape prefixOf localOf if_then_else_
+no-prefix s e =
+    let p = by (isQName s) (noColon s) e in
+    record { name = p .0; colon = p .1; prefix = rw (p .1); local = rw (p .1) }
+  where
+    by : (q n : Bool) → Local ≡ shape q n (before s) → (q ≡ true) × (n ≡ true)
+    by true true e = (refl, refl)
+    by true false e = absurd (clash (cc))
+    by false n e = absurd (clash (cc))
+
+pub has-prefix : (s : Bytes) {k : ℕ} → Prefixed k ≡ nameOf s → HasPrefix k s
+unfolding nameOf shape if_then_else_
+has-prefix s {k} e = of (by (isQName s) (noColon s) e) (colon s)
+  where
+    by : (q n : Bool) → Prefixed k ≡ shape q n (before s) → (q ≡ true) × (n ≡ false) × (k ≡ before s)
+    by true true e = absurd (clash (cc))
+    by true false e = (refl, refl, cc)
+    by false n e = absurd (clash (cc))
+
+    of : (isQName s ≡ true) × (noColon s ≡ false) × (k ≡ before s) → Colon s → HasPrefix k s
+    of p (without n l) = absurd (false≢true (sym (p .1) ∙ n))
+    of p (with-one n l) =
+        let h : k < length s = omega arith in
+        record { name = p .0; colon = n; within = h; prefix = prefix-is s (p .2) h; local = local-is s (p .2) h }

@@ -1,34 +1,62 @@
 -- The search of the table of ranges: the table is document 01's, and searching it is being in one of its ranges.
-use mathlib.Core.Path.{_≡_, refl, sym, _∙_}
-use mathlib.Core.Bool.{Bool, true, false, _&&_, _||_}
+use mathlib.Core.Path.{_≡_, refl, sym, ap, _∙_}
+use mathlib.Core.Bool.{true, false}
 use mathlib.Core.List.{List, [], _∷_}
 use Prim.Native.Nat.{ℕ, suc, _+_, _-_, _*_, _<_, _≤_}
 use native.Mathlib.Omega.{arith}
 use native.Mathlib.Numerals.{add-one}
 use lib.Dec.{leb}
-use lib.ListN.{getD}
+use lib.ListN.{length, getD}
 use borrow.Author.Tests.{le-leb, lt-leb, leb-true}
 use Rattle.spec.specs.Bytes.{byte, between, inRanges}
-use Rattle.spec.specs.XmlNames.{startRanges, furtherRanges}
+use Rattle.spec.specs.XmlNames.{startRanges, furtherRanges, isNameStart, isNameChar}
 use Rattle.spec.proofs.Booleans.{and-left, and-right}
-use Rattle.utils.specs.Ranges.{table, ranges, ascendingFrom}
+use Rattle.utils.specs.Ranges.{bounds, table, ranges, ascendingFrom}
 
--- the sixteen start ranges and the six further ranges stand in the table, in ascending order
-pub table-start : ranges table 0 16 ≡ startRanges
-unfolding ranges table startRanges byte
+-- ---- the table
+
+-- the sixteen start ranges and the six further ranges stand in it, each in ascending order
+table-start : ranges table 0 16 ≡ startRanges
+unfolding ranges table bounds startRanges furtherRanges byte
 table-start = refl
 
-pub table-further : ranges table 16 6 ≡ furtherRanges
-unfolding ranges table furtherRanges byte
+table-further : ranges table 16 6 ≡ furtherRanges
+unfolding ranges table bounds startRanges furtherRanges byte
 table-further = refl
 
-pub start-ascending : ascendingFrom 0 (ranges table 0 16) ≡ true
-unfolding ranges table ascendingFrom
+table-size : length table ≡ 44
+unfolding table bounds startRanges furtherRanges
+table-size = refl
+
+start-ascending : ascendingFrom 0 startRanges ≡ true
+unfolding ascendingFrom startRanges byte
 start-ascending = refl
 
-pub further-ascending : ascendingFrom 0 (ranges table 16 6) ≡ true
-unfolding ranges table ascendingFrom
+further-ascending : ascendingFrom 0 furtherRanges ≡ true
+unfolding ascendingFrom furtherRanges byte
 further-ascending = refl
+
+pub name-start : (c : ℕ) → isNameStart c ≡ true → true ≡ isNameChar c
+unfolding isNameChar
+name-start c h = rw h
+
+-- what a search of either part of it asks, and finds
+module _ (t : List ℕ) (e : t ≡ table) where
+  pub start-asked : (16 * 2 ≤ length t) × (ascendingFrom 0 (ranges t 0 16) ≡ true)
+  start-asked = (omega (arith, ap length e, table-size), rw (e, table-start) start-ascending)
+
+  pub start-found : (c : ℕ) → inRanges (ranges t 0 16) c ≡ isNameStart c
+  unfolding isNameStart
+  start-found c = rw (e, table-start)
+
+  pub further-asked : (22 * 2 ≤ length t) × (ascendingFrom 0 (ranges t 16 6) ≡ true)
+  further-asked = (omega (arith, ap length e, table-size), rw (e, table-further) further-ascending)
+
+  pub name-found : (c : ℕ) → isNameStart c ≡ false → inRanges (ranges t 16 6) c ≡ isNameChar c
+  unfolding isNameChar
+  name-found c h = rw (e, table-further, h)
+
+-- ---- the search
 
 -- a number before the first of some ascending ranges is in none
 before-all : (a c : ℕ) (rs : List (ℕ × ℕ)) → c < a → ascendingFrom a rs ≡ true → inRanges rs c ≡ false

@@ -4,19 +4,19 @@ use mathlib.Core.Logic.{⊎-elim}
 use mathlib.Core.Bool.{Bool, true, false, _&&_, not}
 use mathlib.Core.Option.{Option, none, some}
 use mathlib.Core.List.{List, [], _∷_, _++_, append-nil}
-use Prim.Native.Nat.{ℕ, zero, suc, _<_, _≤_}
+use Prim.Native.Nat.{ℕ, suc, _<_, _≤_}
 use native.Mathlib.Omega.{arith}
 use lib.Dec.{eqb, leb, ltb}
-use lib.ListN.{length, take, drop, length-append, take-append-drop}
+use lib.ListN.{length, take, length-append}
 use borrow.Author.Tests.{le-leb, lt-leb, lt-ltb, le-ltb, ne-eqb, leb-true, ltb-true, ltb-false, eqb-true}
 use Rattle.spec.specs.Bytes.{Bytes, if_then_else_, between, onto, upTo, from, every}
-use Rattle.spec.specs.Utf8.{leadingOnes, leadingOnesOf, goesOn, beginsWithOne, sequences, fits, joined, value, least, isScalar, character, inFront, charactersOf, characters, holdsOf, asCharacters}
+use Rattle.spec.specs.Utf8.{leadingOnes, leadingOnesOf, goesOn, beginsWithOne, sequences, fits, joined, value, least, isScalar, character, inFront, charactersOf, characters}
 use Rattle.spec.proofs.Booleans.{or-cases, and-left, and-right}
-use Rattle.utils.specs.Decoding.{Front, Stuck}
+use Rattle.utils.proofs.Tools.{clash}
 
 -- ---- bytes
 
-goes-one : (b : ℕ) → goesOn b ≡ true → leadingOnes b ≡ 1
+pub goes-one : (b : ℕ) → goesOn b ≡ true → leadingOnes b ≡ 1
 unfolding goesOn
 goes-one b h = eqb-true (leadingOnes b) 1 h
 
@@ -98,7 +98,7 @@ good-character {c} {b} {u} g = rw (g .fit, g .is, le-leb (least (suc (length u))
 chosen : {A : Type 0} {a c : A} (t : Bool) → (if t then some a else none) ≡ some c → (t ≡ true) × (a ≡ c)
 unfolding if_then_else_
 chosen true e = (refl, cc)
-chosen {a = a} {c = c} false e = absurd (let z : _≡_ {A = ℕ} 0 1 = cc in omega arith)
+chosen false e = absurd (clash (cc))
 
 pub character-good : {c b : ℕ} {u : Bytes} → character (b ∷ u) ≡ some c → Good c b u
 unfolding character
@@ -134,7 +134,7 @@ sequences-cons b (a ∷ s) = by (goesOn a) refl (sequences-cons a s)
     by true e h = rw (e, h)
     by false e h = rw e
 
-characters-cons : (b : ℕ) (s : Bytes) → characters (b ∷ s) ≡ inFront (character (b ∷ upTo ends s)) (characters (from ends s))
+pub characters-cons : (b : ℕ) (s : Bytes) → characters (b ∷ s) ≡ inFront (character (b ∷ upTo ends s)) (characters (from ends s))
 unfolding characters charactersOf
 characters-cons b s = rw (sequences-cons b s)
 
@@ -142,22 +142,17 @@ pub no-bytes : characters [] ≡ some []
 unfolding characters charactersOf sequences
 no-bytes = refl
 
-in-none : (o : Option ℕ) → inFront o none ≡ none
-unfolding inFront
-in-none none = refl
-in-none (some c) = refl
-
 in-parts : (o : Option ℕ) (r : Option (List ℕ)) {c : ℕ} {cs : List ℕ} → inFront o r ≡ some (c ∷ cs) → (o ≡ some c) × (r ≡ some cs)
 unfolding inFront
-in-parts none r e = absurd (let z : _≡_ {A = ℕ} 0 1 = cc in omega arith)
-in-parts (some d) none e = absurd (let z : _≡_ {A = ℕ} 0 1 = cc in omega arith)
+in-parts none r e = absurd (clash (cc))
+in-parts (some d) none e = absurd (clash (cc))
 in-parts (some d) (some ds) e = (cc, cc)
 
 in-some : (o : Option ℕ) (r : Option (List ℕ)) → inFront o r ≡ some [] → ⊥
 unfolding inFront
-in-some none r e = let z : _≡_ {A = ℕ} 0 1 = cc in omega arith
-in-some (some d) none e = let z : _≡_ {A = ℕ} 0 1 = cc in omega arith
-in-some (some d) (some ds) e = let z : _≡_ {A = ℕ} 0 1 = cc in omega arith
+in-some none r e = clash (cc)
+in-some (some d) none e = clash (cc)
+in-some (some d) (some ds) e = clash (cc)
 
 none-left : (s : Bytes) → characters s ≡ some [] → s ≡ []
 none-left [] e = refl
@@ -174,7 +169,7 @@ unfolding every from ends if_then_else_
 on-from [] r h = refl
 on-from (a ∷ u) r h = rw (and-left (goesOn a) (every goesOn u) h) (on-from u r (and-right (goesOn a) (every goesOn u) h))
 
-upTo-on : (s : Bytes) → every goesOn (upTo ends s) ≡ true
+pub upTo-on : (s : Bytes) → every goesOn (upTo ends s) ≡ true
 unfolding every upTo ends if_then_else_
 upTo-on [] = refl
 upTo-on (a ∷ s) = by (goesOn a) refl (upTo-on s)
@@ -198,7 +193,7 @@ from-none [] h = refl
 from-none (a ∷ s) h = by (ends a) (from-none s) h
   where
     by : (t : Bool) → (from ends s ≡ [] → upTo ends s ≡ s) → (if t then (a ∷ s) else from ends s) ≡ [] → (if t then [] else (a ∷ upTo ends s)) ≡ a ∷ s
-    by true f q = absurd (let z : _≡_ {A = ℕ} 0 1 = cc in omega arith)
+    by true f q = absurd (clash (cc))
     by false f q = ap (_∷_ a) (f q)
 
 -- ---- one character
@@ -220,8 +215,22 @@ alone-sequence {c} {b} {u} e =
     let up : upTo ends u ≡ u = from-none u (none-left (from ends u) (p .1)) in
     record { on = rw up at (upTo-on u); good = character-good (rw up at (p .0)) }
 
+-- a character below 128 is its one byte
+pub low-byte : {c b : ℕ} {u : Bytes} → Sequence c b u → b < 128 → (u ≡ []) × (b ≡ c)
+unfolding value joined if_then_else_
+low-byte {c} {b} {u = []} q h = (refl, rw (lt-ltb b 128 h) at (q .good .is))
+low-byte {c} {b} {u = a ∷ u} q h = absurd (omega (arith, fits-size b _ (q .good .fit), size-low b h))
+
+-- one from 128 on has a first byte from 128 on
+pub high-byte : {c b : ℕ} {u : Bytes} → Sequence c b u → 128 ≤ b → 128 ≤ c
+high-byte {c} {b} {u} q h = by (fits-fit b _ (q .good .fit))
+  where
+    by : Fit b (suc (length u)) → 128 ≤ c
+    by (one e l) = absurd (omega arith)
+    by (several l g e) = omega (arith, q .good .low, least-high (suc (length u)) l)
+
 -- behind a good sequence the rest is read by itself, also where it begins with a byte that goes on: then neither is UTF-8
-front : {c b : ℕ} {u : Bytes} (r : Bytes) → Sequence c b u → characters (b ∷ (u ++ r)) ≡ inFront (some c) (characters r)
+pub front : {c b : ℕ} {u : Bytes} (r : Bytes) → Sequence c b u → characters (b ∷ (u ++ r)) ≡ inFront (some c) (characters r)
 unfolding upTo from inFront if_then_else_ ends
 front {c} {b} {u} [] q = rw (append-nil, no-bytes) (sequence-alone q)
 front {c} {b} {u} (a ∷ r) q = characters-cons b (u ++ a ∷ r) ∙ rw (on-upTo u (a ∷ r) (q .on), on-from u (a ∷ r) (q .on)) (by (goesOn a) refl)
@@ -235,117 +244,5 @@ front {c} {b} {u} (a ∷ r) q = characters-cons b (u ++ a ∷ r) ∙ rw (on-upTo
 
 -- a character and then others
 pub then-others : {c : ℕ} (t r : Bytes) → characters t ≡ some (c ∷ []) → characters (t ++ r) ≡ inFront (some c) (characters r)
-then-others [] r e = absurd (let z : _≡_ {A = ℕ} 0 1 = cc no-bytes in omega arith)
+then-others [] r e = absurd (clash (cc no-bytes))
 then-others (b ∷ u) r e = front r (alone-sequence e)
-
--- where no beginning is a character, there are none
-pub stuck-characters : {s : Bytes} → Stuck s → characters s ≡ none
-unfolding inFront
-stuck-characters {s = []} h = absurd (omega (arith, h .nonempty))
-stuck-characters {s = b ∷ u} h = characters-cons b u ∙ by (character (b ∷ upTo ends u)) refl
-  where
-    by : (o : Option ℕ) → character (b ∷ upTo ends u) ≡ o → inFront o (characters (from ends u)) ≡ none
-    by none e = refl
-    by (some c) e = absurd (h .never (suc (length (upTo ends u))) c (rw take-upTo (sequence-alone (record { on = upTo-on u; good = character-good e }))))
-
--- ---- what callers cite of the first character
-
--- the first character has a byte
-pub front-some : {c n : ℕ} {s : Bytes} → Front c n s → 1 ≤ n
-front-some {n = zero} f = absurd (let e = f .alone in let z : _≡_ {A = ℕ} 0 1 = cc no-bytes in omega arith)
-front-some {n = suc m} f = omega arith
-
--- the characters are it, and then those of the rest
-pub front-characters : {c n : ℕ} {s : Bytes} → Front c n s → characters s ≡ inFront (some c) (characters (drop n s))
-front-characters {n = n} {s = s} f = ap characters (sym (take-append-drop n s)) ∙ then-others (take n s) (drop n s) (f .alone)
-
-alone-scalar : {c : ℕ} (t : Bytes) → characters t ≡ some (c ∷ []) → isScalar c ≡ true
-alone-scalar [] e = absurd (let z : _≡_ {A = ℕ} 0 1 = cc no-bytes in omega arith)
-alone-scalar (b ∷ u) e = alone-sequence e .good .scalar
-
--- it is no surrogate, and not above the last
-pub front-scalar : {c n : ℕ} {s : Bytes} → Front c n s → isScalar c ≡ true
-front-scalar {n = n} {s = s} f = alone-scalar (take n s) (f .alone)
-
--- ---- tests on all characters
-
--- a test of the characters that goes by the first and the rest
-pub front-holds : {c n : ℕ} {s : Bytes} (f g : List ℕ → Bool) (p : ℕ → Bool) → ((d : ℕ) (ds : List ℕ) → f (d ∷ ds) ≡ (p d && g ds)) → Front c n s → asCharacters f s ≡ (p c && asCharacters g (drop n s))
-unfolding asCharacters holdsOf inFront
-front-holds {c} {n} {s} f g p e h = rw (front-characters h) (by (characters (drop n s)))
-  where
-    no : (t : Bool) → false ≡ (t && false)
-    no true = refl
-    no false = refl
-
-    by : (o : Option (List ℕ)) → holdsOf f (inFront (some c) o) ≡ (p c && holdsOf g o)
-    by none = no (p c)
-    by (some cs) = e c cs
-
--- a test of each character
-pub front-every : {c n : ℕ} {s : Bytes} (p : ℕ → Bool) → Front c n s → asCharacters (every p) s ≡ (p c && asCharacters (every p) (drop n s))
-unfolding every
-front-every p h = front-holds (every p) (every p) p (λ d ds. refl) h
-
--- no test passes where no beginning is a character
-pub stuck-fails : {s : Bytes} (p : List ℕ → Bool) → Stuck s → asCharacters p s ≡ false
-unfolding asCharacters holdsOf
-stuck-fails p h = rw (stuck-characters h)
-
--- nothing to test
-pub empty-holds : (f : List ℕ → Bool) (s : Bytes) → length s ≡ 0 → asCharacters f s ≡ f []
-unfolding asCharacters holdsOf
-empty-holds f [] h = rw no-bytes
-empty-holds f (b ∷ u) h = absurd (omega arith)
-
--- ---- tests on bytes
-
-every-append : (p : ℕ → Bool) (s t : Bytes) → every p (s ++ t) ≡ (every p s && every p t)
-unfolding every
-every-append p [] t = refl
-every-append p (a ∷ s) t = by (p a) (every-append p s t)
-  where
-    by : (x : Bool) → every p (s ++ t) ≡ (every p s && every p t) → (x && every p (s ++ t)) ≡ ((x && every p s) && every p t)
-    by true h = h
-    by false h = refl
-
--- a character below 128 is its one byte
-low-byte : {c b : ℕ} {u : Bytes} → Sequence c b u → b < 128 → (u ≡ []) × (b ≡ c)
-unfolding value joined if_then_else_
-low-byte {c} {b} {u = []} q h = (refl, rw (lt-ltb b 128 h) at (q .good .is))
-low-byte {c} {b} {u = a ∷ u} q h = absurd (omega (arith, fits-size b _ (q .good .fit), size-low b h))
-
--- one from 128 on has a first byte from 128 on
-high-byte : {c b : ℕ} {u : Bytes} → Sequence c b u → 128 ≤ b → 128 ≤ c
-high-byte {c} {b} {u} q h = by (fits-fit b _ (q .good .fit))
-  where
-    by : Fit b (suc (length u)) → 128 ≤ c
-    by (one e l) = absurd (omega arith)
-    by (several l g e) = omega (arith, q .good .low, least-high (suc (length u)) l)
-
-module _ (p : ℕ → Bool) (high : (x : ℕ) → 128 ≤ x → p x ≡ true) where
-  on-pass : (u : Bytes) → every goesOn u ≡ true → every p u ≡ true
-  unfolding every
-  on-pass [] h = refl
-  on-pass (a ∷ u) h = rw (high a (ones-high a (omega (arith, goes-one a (and-left (goesOn a) (every goesOn u) h)))), on-pass u (and-right (goesOn a) (every goesOn u) h))
-
-  sequence-pass : {c b : ℕ} {u : Bytes} → Sequence c b u → every p (b ∷ u) ≡ p c
-  unfolding every
-  sequence-pass {c} {b} {u} q = by (ltb b 128) refl
-    where
-      and-true : (t : Bool) → (t && true) ≡ t
-      and-true true = refl
-      and-true false = refl
-
-      by : (t : Bool) → ltb b 128 ≡ t → (p b && every p u) ≡ p c
-      by true e = let l = low-byte q (ltb-true b 128 e) in rw (l .0, l .1) (and-true (p c))
-      by false e = let h : 128 ≤ b = ltb-false b 128 e in rw (high b h, on-pass u (q .on), high c (high-byte q h))
-
-  alone-pass : {c : ℕ} (t : Bytes) → characters t ≡ some (c ∷ []) → every p t ≡ p c
-  alone-pass [] e = absurd (let z : _≡_ {A = ℕ} 0 1 = cc no-bytes in omega arith)
-  alone-pass (b ∷ u) e = sequence-pass (alone-sequence e)
-
-  -- a test that every byte from 128 on passes can be made on the characters
-  pub front-bytes : {c n : ℕ} {s : Bytes} → Front c n s → every p s ≡ (p c && every p (drop n s))
-  front-bytes {c} {n} {s} f =
-      ap (every p) (sym (take-append-drop n s)) ∙ every-append p (take n s) (drop n s) ∙ rw (alone-pass (take n s) (f .alone))

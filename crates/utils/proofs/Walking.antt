@@ -1,8 +1,7 @@
 -- Passing over bytes or characters, while what is left decides a test.
 use mathlib.Core.Path.{_≡_, refl, sym, _∙_}
 use mathlib.Core.Bool.{Bool, true, false, _&&_}
-use mathlib.Core.List.{List, [], _∷_}
-use Prim.Native.Nat.{ℕ, suc, _+_, _-_, _<_, _≤_}
+use Prim.Native.Nat.{ℕ, _+_, _-_, _<_, _≤_}
 use native.Mathlib.Omega.{arith}
 use native.Mathlib.Numerals.{add-one}
 use lib.ListN.{length, take, drop, getD, length-drop, drop-of-length-le}
@@ -10,7 +9,7 @@ use lib.Seq.{drop-cons, drop-drop, take-length}
 use Rattle.spec.specs.Bytes.{Bytes, every}
 use Rattle.spec.specs.Utf8.{asCharacters}
 use Rattle.utils.specs.Decoding.{Front, Stuck}
-use Rattle.utils.proofs.Utf8.{front-some, front-every, stuck-fails, empty-holds}
+use Rattle.utils.proofs.Front.{front-every, stuck-fails, empty-holds}
 
 -- a part up to the end
 pub to-end : (s : Bytes) (i : ℕ) → take (length s - i) (drop i s) ≡ drop i s

@@ -1,7 +1,7 @@
 // UTF-8, and the characters and names of XML: utils.rs and the end of parser.rs.
 ghost use mathlib.Core.Path.{_≡_};
 ghost use mathlib.Core.Bool.{true};
-ghost use Prim.Native.Nat.{_-_, _<_, _≤_};
+ghost use Prim.Native.Nat.{_-_, _*_, _<_, _≤_};
 ghost use lib.ListN.{length};
 ghost use Rattle.spec.specs.Bytes.{ascii, upTo, among, every, inRanges};
 ghost use Rattle.spec.specs.Utf8.{leadingOnes, goesOn, isScalar, asCharacters};
@@ -123,16 +123,13 @@ pub fn is_char(c: u32) -> bool
 pub fn is_name_start_char(c: u32) -> bool
     ensures { λ r. ⌜ r ≡ isNameStart c ⌝ }
 {
-    in_ranges(c, 0, 16)
+    in_ranges(&NAME_RANGES, c, 0, 16)
 }
 
 pub fn is_name_char(c: u32) -> bool
     ensures { λ r. ⌜ r ≡ isNameChar c ⌝ }
 {
-    if is_name_start_char(c) {
-        return true;
-    }
-    in_ranges(c, 16, 22)
+    goes_on_name(&NAME_RANGES, c)
 }
 
 pub fn is_whitespace(b: u8) -> bool
@@ -271,18 +268,29 @@ fn sequence(s: &[u8], n: usize, bits: u32, low: u32) -> Decoded
     }
 }
 
-// Is a character in one of the table's ranges from one up to another? They ascend, so the first that begins above it ends the search.
-fn in_ranges(c: u32, from: usize, to: usize) -> bool
-    requires { ⌜ to ≤ 22 ⌝ }
-    requires { ⌜ ascendingFrom 0 (ranges table from (to - from)) ≡ true ⌝ }
-    ensures { λ r. ⌜ r ≡ inRanges (ranges table from (to - from)) c ⌝ }
+// A name character, by the table: lent, so that a loop lays it out once.
+fn goes_on_name(bounds: &[u32], c: u32) -> bool
+    requires { ⌜ now bounds ≡ table ⌝ }
+    ensures { λ r. ⌜ r ≡ isNameChar c ⌝ }
+{
+    if in_ranges(bounds, c, 0, 16) {
+        return true;
+    }
+    in_ranges(bounds, c, 16, 22)
+}
+
+// Is a character in one of the ranges from one up to another? They ascend, so the first that begins above it ends the search.
+fn in_ranges(bounds: &[u32], c: u32, from: usize, to: usize) -> bool
+    requires { ⌜ to * 2 ≤ length (now bounds) ⌝ }
+    requires { ⌜ ascendingFrom 0 (ranges (now bounds) from (to - from)) ≡ true ⌝ }
+    ensures { λ r. ⌜ r ≡ inRanges (ranges (now (bounds .entry)) from (to - from)) c ⌝ }
 {
     let mut i = from;
     while i < to {
-        if c < NAME_RANGES[i * 2] {
+        if c < bounds[i * 2] {
             return false;
         }
-        if c <= NAME_RANGES[i * 2 + 1] {
+        if c <= bounds[i * 2 + 1] {
             return true;
         }
         i += 1;
@@ -294,6 +302,7 @@ fn in_ranges(c: u32, from: usize, to: usize) -> bool
 fn is_nc_rest(s: &[u8]) -> bool
     ensures { λ r. ⌜ r ≡ isNCRest (now (s .entry)) ⌝ }
 {
+    let bounds = NAME_RANGES;
     let mut i = 0;
     while i < s.len() {
         match decode(&s[i..]) {
@@ -301,7 +310,7 @@ fn is_nc_rest(s: &[u8]) -> bool
                 if c == 0x3A {
                     return false;
                 }
-                if !is_name_char(c) {
+                if !goes_on_name(&bounds, c) {
                     return false;
                 }
                 i += n;

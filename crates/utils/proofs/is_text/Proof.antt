@@ -1,20 +1,19 @@
+-- `is_text`. The invariant: the characters passed are XML's, so the rest decides.
+use denote.Ref.{now}
+use Rattle.utils.specs.Decoding.{Front}
 use Rattle.spec.specs.Bytes.{every}
 use Rattle.spec.specs.Utf8.{asCharacters}
 use Rattle.spec.specs.XmlNames.{isChar}
-use Rattle.utils.proofs.Utf8.{front-some}
+use Rattle.utils.proofs.Front.{front-some}
 use Rattle.utils.proofs.Walking.{to-end, Walked, walked-begins, every-by, walked-within, walked-fails, walked-more, walked-stuck, walked-ends, walked-passes}
 use mathlib.Core.Path.{sym, _∙_}
 use borrow.Author.Tests.{not-true, not-false}
-use lib.ListN.{length}
+use lib.ListN.{length, drop}
 use Prim.Native.Nat.{_-_}
 use native.Mathlib.Omega.{arith}
 use borrow.Author.Needs.{needs}
 use Rattle.utils.proofs.is_text.Statement.{statement}
 use Rattle.utils.proofs.is_text.Tie as tie
-use Rattle.utils.proofs.is_text.Reads as reads
-use Rattle.utils.proofs.is_text.Lts as lts
-use Rattle.utils.proofs.decode.Reads as decode-reads
-use Rattle.utils.proofs.is_char.Reads as is-char-reads
 
 abbrev Inv-loop : tie.InvT-loop
 Inv-loop s i₀ i = Walked (asCharacters (every isChar)) s i
@@ -22,67 +21,55 @@ Inv-loop s i₀ i = Walked (asCharacters (every isChar)) s i
 abbrev μ-loop : tie.MeasureT-loop
 μ-loop s i₀ i = length s - i
 
--- src/lib.rt:122:5
+-- what decode found at i
+found : (c : tie.After-c Inv-loop μ-loop) → Front (c .c .given .0 .0) (c .c .given .0 .1 .0) (drop (c .before .before .before .before .before .loop .i) (now (c .before .before .before .before .before .before .before .args .s)))
+found c = rw to-end at (rw (c .c .given .1) at (c .before .before .decode .ensures))
+
 loop-holds : tie.Need-loop-holds Inv-loop μ-loop
 loop-holds c = walked-begins _ _
 
--- src/lib.rt:123:22
 sub-decode : tie.Need-sub-decode Inv-loop μ-loop
 sub-decode c = search needs
 
--- src/lib.rt:123:22
 part-decode-start : tie.Need-part-decode-start Inv-loop μ-loop
 part-decode-start c = search needs
 
--- src/lib.rt:123:22
 part-decode-end : tie.Need-part-decode-end Inv-loop μ-loop
 part-decode-end c = search needs
 
--- src/lib.rt:123:15
 decode-requires : tie.Need-decode-requires Inv-loop μ-loop
 decode-requires c κs = search needs
 
--- src/lib.rt:124:32
 enum-known-c : tie.Need-enum-known-c Inv-loop μ-loop
 enum-known-c c = search needs
 
--- src/lib.rt:125:21
 is-char-requires : tie.Need-is-char-requires Inv-loop μ-loop
 is-char-requires c κs = search needs
 
--- src/lib.rt:126:21
 returns : tie.Need-returns Inv-loop μ-loop
-returns c = walked-fails (every-by isChar) (c .before .before .before .before .before .before .before .before .loop .inv) (rw to-end at (rw (c .before .before .before .c .given .1) at (c .before .before .before .before .before .decode .ensures))) (sym (c .before .is-char .ensures) ∙ not-true _ (c .if1 .taken))
+returns c = walked-fails (every-by isChar) (c .before .before .before .before .before .before .before .before .loop .inv) (found (c .before .before .before)) (sym (c .before .is-char .ensures) ∙ not-true _ (c .if1 .taken))
 
--- src/lib.rt:128:17
 add-i : tie.Need-add-i Inv-loop μ-loop
-add-i c = omega (arith, walked-within (every-by isChar) (c .before .before .before .before .before .before .before .before .loop .inv) (rw to-end at (rw (c .before .before .before .c .given .1) at (c .before .before .before .before .before .decode .ensures))))
+add-i c = omega (arith, walked-within (every-by isChar) (c .before .before .before .before .before .before .before .before .loop .inv) (found (c .before .before .before)))
 
--- src/lib.rt:122:5
 loop-less : tie.Need-loop-less Inv-loop μ-loop
-loop-less c = let f = (rw to-end at (rw (c .before .before .before .c .given .1) at (c .before .before .before .before .before .decode .ensures))) in omega (arith, front-some f, walked-within (every-by isChar) (c .before .before .before .before .before .before .before .before .loop .inv) f)
+loop-less c = let f = found (c .before .before .before) in omega (arith, front-some f, walked-within (every-by isChar) (c .before .before .before .before .before .before .before .before .loop .inv) f)
 
--- src/lib.rt:122:5
 loop-again : tie.Need-loop-again Inv-loop μ-loop
-loop-again c = walked-more (every-by isChar) (c .before .before .before .before .before .before .before .before .loop .inv) (rw to-end at (rw (c .before .before .before .c .given .1) at (c .before .before .before .before .before .decode .ensures))) (sym (c .before .is-char .ensures) ∙ not-false _ (c .if1 .left))
+loop-again c = walked-more (every-by isChar) (c .before .before .before .before .before .before .before .before .loop .inv) (found (c .before .before .before)) (sym (c .before .is-char .ensures) ∙ not-false _ (c .if1 .left))
 
--- src/lib.rt:130:29
 enum-told : tie.Need-enum-told Inv-loop μ-loop
 enum-told c = search needs
 
--- src/lib.rt:130:29
 returns-2 : tie.Need-returns-2 Inv-loop μ-loop
 returns-2 c = walked-ends (every-by isChar) (c .before .before .before .before .before .loop .inv) (rw to-end at (rw (c .enum-told .given .1) at (c .before .before .decode .ensures)))
 
--- src/lib.rt:131:35
 enum-told-2 : tie.Need-enum-told-2 Inv-loop μ-loop
 enum-told-2 c = search needs
 
--- src/lib.rt:131:35
 returns-3 : tie.Need-returns-3 Inv-loop μ-loop
 returns-3 c = walked-stuck (every-by isChar) (c .before .before .before .before .before .loop .inv) (rw to-end at (rw (c .enum-told2 .given .1) at (c .before .before .decode .ensures)))
 
--- src/lib.rt:118:1
 returns-4 : tie.Need-returns-4 Inv-loop μ-loop
 returns-4 c = walked-passes (every-by isChar) (c .before .loop .inv) (search needs)
 

@@ -1,3 +1,4 @@
+-- `join`. The invariant: what is left, joined to the value so far, gives what the whole does.
 use mathlib.Core.Path.{sym, _∙_}
 use borrow.Author.Tests.{not-true, not-false}
 use Rattle.utils.proofs.Decoding.{Joining, joining-begins, joining-small, joining-broken, joining-more, joining-done}
@@ -7,9 +8,6 @@ use native.Mathlib.Omega.{arith}
 use borrow.Author.Needs.{needs}
 use Rattle.utils.proofs.join.Statement.{statement}
 use Rattle.utils.proofs.join.Tie as tie
-use Rattle.utils.proofs.join.Reads as reads
-use Rattle.utils.proofs.join.Lts as lts
-use Rattle.utils.proofs.goes_on.Reads as goes-on-reads
 
 abbrev Inv-loop : tie.InvT-loop
 Inv-loop bits s value₀ i₀ value i = Joining bits s value i
@@ -17,47 +15,36 @@ Inv-loop bits s value₀ i₀ value i = Joining bits s value i
 abbrev μ-loop : tie.MeasureT-loop
 μ-loop bits s value₀ i₀ value i = length s - i
 
--- src/lib.rt:74:5
 loop-holds : tie.Need-loop-holds Inv-loop μ-loop
 loop-holds c = joining-begins _ _ (search needs)
 
--- src/lib.rt:75:17
 shared-slice-read-b : tie.Need-shared-slice-read-b Inv-loop μ-loop
 shared-slice-read-b c = search needs
 
--- src/lib.rt:76:13
 goes-on-requires : tie.Need-goes-on-requires Inv-loop μ-loop
 goes-on-requires c κs = search needs
 
--- src/lib.rt:77:13
 returns : tie.Need-returns Inv-loop μ-loop
 returns c = joining-broken (c .before .before .before .before .loop .inv) (search needs) (sym (c .before .goes-on .ensures) ∙ not-true _ (c .if1 .taken))
 
--- src/lib.rt:79:17
 mul-value : tie.Need-mul-value Inv-loop μ-loop
 mul-value c = omega (arith, joining-small (c .before .before .before .before .loop .inv) (search needs) (search needs))
 
--- src/lib.rt:79:30
 cast-value : tie.Need-cast-value Inv-loop μ-loop
 cast-value c = search needs
 
--- src/lib.rt:79:17
 add-value : tie.Need-add-value Inv-loop μ-loop
 add-value c = omega (arith, joining-small (c .before .before .before .before .loop .inv) (search needs) (search needs))
 
--- src/lib.rt:80:9
 add-i : tie.Need-add-i Inv-loop μ-loop
 add-i c = search needs
 
--- src/lib.rt:74:5
 loop-less : tie.Need-loop-less Inv-loop μ-loop
 loop-less c = search needs
 
--- src/lib.rt:74:5
 loop-again : tie.Need-loop-again Inv-loop μ-loop
 loop-again c = joining-more (c .before .before .before .before .loop .inv) (search needs) (sym (c .before .goes-on .ensures) ∙ not-false _ (c .if1 .left))
 
--- src/lib.rt:67:1
 returns-2 : tie.Need-returns-2 Inv-loop μ-loop
 returns-2 c = joining-done (c .before .loop .inv) (search needs)
 

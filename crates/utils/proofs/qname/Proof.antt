@@ -1,70 +1,52 @@
+-- `qname`: by the first colon, and whether the parts before and behind it are NCNames.
 use lib.Seq.{length-take-le}
 use Rattle.utils.proofs.Walking.{to-end}
 use Rattle.utils.proofs.Names.{name-local, name-none, name-prefixed, name-no-prefix, name-no-local}
 use mathlib.Core.Path.{sym, _∙_}
 use borrow.Author.Tests.{not-true, not-false}
-use native.Mathlib.Omega.{arith}
 use borrow.Author.Needs.{needs}
 use Rattle.utils.proofs.qname.Statement.{statement}
 use Rattle.utils.proofs.qname.Tie as tie
-use Rattle.utils.proofs.qname.Reads as reads
-use Rattle.utils.proofs.qname.Lts as lts
-use Rattle.utils.proofs.is_nc_name.Reads as is-nc-name-reads
-use Rattle.utils.proofs.up_to_colon.Reads as up-to-colon-reads
 
--- src/lib.rt:160:9
 up-to-colon-requires : tie.Need-up-to-colon-requires
 up-to-colon-requires c κs = search needs
 
--- src/lib.rt:162:24
 slice-aggregate-is-nc-name : tie.Need-slice-aggregate-is-nc-name
 slice-aggregate-is-nc-name c = sym (length-take-le _ _ (search needs))
 
--- src/lib.rt:162:13
 is-nc-name-requires : tie.Need-is-nc-name-requires
 is-nc-name-requires c κs = search needs
 
--- src/lib.rt:163:13
 returns : tie.Need-returns
 returns c = name-no-prefix _ (c .before .before .before .before .up-to-colon .ensures) (search needs) (sym (sym (c .before .is-nc-name .ensures) ∙ not-true _ (c .if2 .taken)))
 
--- src/lib.rt:165:21
 add-local : tie.Need-add-local
 add-local c = search needs
 
--- src/lib.rt:166:23
 sub-is-nc-name : tie.Need-sub-is-nc-name
 sub-is-nc-name c = search needs
 
--- src/lib.rt:166:23
 part-is-nc-name-start : tie.Need-part-is-nc-name-start
 part-is-nc-name-start c = search needs
 
--- src/lib.rt:166:23
 part-is-nc-name-end : tie.Need-part-is-nc-name-end
 part-is-nc-name-end c = search needs
 
--- src/lib.rt:166:12
 is-nc-name-requires-2 : tie.Need-is-nc-name-requires-2
 is-nc-name-requires-2 c κs = search needs
 
--- src/lib.rt:167:13
 returns-2 : tie.Need-returns-2
 returns-2 c = name-prefixed _ (c .before .before .before .before .before .before .before .up-to-colon .ensures) (search needs) (sym (sym (c .before .before .before .before .is-nc-name .ensures) ∙ not-false _ (c .before .before .before .if2 .left))) (rw to-end at (sym (sym (c .before .is-nc-name2 .ensures) ∙ c .if3 .taken)))
 
--- src/lib.rt:169:9
 returns-3 : tie.Need-returns-3
 returns-3 c = name-no-local _ (c .before .before .before .before .before .before .before .up-to-colon .ensures) (search needs) (sym (sym (c .before .before .before .before .is-nc-name .ensures) ∙ not-false _ (c .before .before .before .if2 .left))) (rw to-end at (sym (sym (c .before .is-nc-name2 .ensures) ∙ c .if3 .left)))
 
--- src/lib.rt:171:8
 is-nc-name-requires-3 : tie.Need-is-nc-name-requires-3
 is-nc-name-requires-3 c κs = search needs
 
--- src/lib.rt:172:9
 returns-4 : tie.Need-returns-4
 returns-4 c = name-local _ (c .before .before .before .up-to-colon .ensures) (search needs) (sym (sym (c .before .is-nc-name3 .ensures) ∙ c .if4 .taken))
 
--- src/lib.rt:157:1
 returns-5 : tie.Need-returns-5
 returns-5 c = name-none _ (c .before .before .before .up-to-colon .ensures) (search needs) (sym (sym (c .before .is-nc-name3 .ensures) ∙ c .if4 .left))
 

@@ -1,13 +1,10 @@
-use Rattle.spec.specs.Bytes.{ascii, among, upTo}
+-- `up_to_colon`. The invariant: no colon is passed, so those before it are i and those in the rest.
 use Rattle.utils.proofs.Names.{Scanned, scanned-begins, scanned-colon, scanned-more, scanned-done}
 use lib.ListN.{length}
 use Prim.Native.Nat.{_-_}
-use native.Mathlib.Omega.{arith}
 use borrow.Author.Needs.{needs}
 use Rattle.utils.proofs.up_to_colon.Statement.{statement}
 use Rattle.utils.proofs.up_to_colon.Tie as tie
-use Rattle.utils.proofs.up_to_colon.Reads as reads
-use Rattle.utils.proofs.up_to_colon.Lts as lts
 
 abbrev Inv-loop : tie.InvT-loop
 Inv-loop s i₀ i = Scanned s i
@@ -15,31 +12,24 @@ Inv-loop s i₀ i = Scanned s i
 abbrev μ-loop : tie.MeasureT-loop
 μ-loop s i₀ i = length s - i
 
--- src/lib.rt:280:5
 loop-holds : tie.Need-loop-holds Inv-loop μ-loop
 loop-holds c = scanned-begins _
 
--- src/lib.rt:281:12
 shared-slice-read-if1 : tie.Need-shared-slice-read-if1 Inv-loop μ-loop
 shared-slice-read-if1 c = search needs
 
--- src/lib.rt:282:13
 returns : tie.Need-returns Inv-loop μ-loop
 returns c = scanned-colon (c .before .before .before .loop .inv) (search needs) (c .if1 .taken)
 
--- src/lib.rt:284:9
 add-i : tie.Need-add-i Inv-loop μ-loop
 add-i c = search needs
 
--- src/lib.rt:280:5
 loop-less : tie.Need-loop-less Inv-loop μ-loop
 loop-less c = search needs
 
--- src/lib.rt:280:5
 loop-again : tie.Need-loop-again Inv-loop μ-loop
 loop-again c = scanned-more (c .before .before .before .loop .inv) (search needs) (c .if1 .left)
 
--- src/lib.rt:276:1
 returns-2 : tie.Need-returns-2 Inv-loop μ-loop
 returns-2 c = scanned-done (c .before .loop .inv) (search needs)
 
