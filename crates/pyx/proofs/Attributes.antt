@@ -26,7 +26,7 @@ use Rattle.pyx.specs.Escapes as Escaped
 use Rattle.pyx.specs.Attributes.{row, startAt, sizeAt, colonAt, valueSizeAt, nameAt, valueAt, attributesOf, Placed, Read, Small, Behind, Laid}
 use Rattle.pyx.proofs.Reach.{isEnd}
 use Rattle.pyx.proofs.Lines.{first-line, no-line, front-nil, front-front, front-refuse, front-good, each-good, each-refuse, kept-all, kept-more, kept-then, kept-wrote, eqb-swap, clear-line}
-use Rattle.pyx.proofs.Names.{prefix-of, local-of, colon-within}
+use Rattle.pyx.proofs.Names.{colon-within, prefix-part, local-part}
 
 -- ---- what a line is read as
 
@@ -222,11 +222,13 @@ value-at e w j = refl
 
 -- and so are the prefix and the local part of the name
 module _ {e w : List ℕ} {j n : ℕ} (p : Placed e w j n) where
-  pub prefix-at : prefixOf (nameAt e w j) ≡ take (colonAt w j - 1) (nameAt e w j)
-  prefix-at = rw (p .colon) (prefix-of (nameAt e w j))
+  pub prefix-at : prefixOf (nameAt e w j) ≡ part e (startAt w j) (colonAt w j - 1)
+  unfolding nameAt
+  prefix-at = rw (p .colon) (prefix-part e (startAt w j) (sizeAt w j))
 
-  pub local-at : localOf (nameAt e w j) ≡ drop (colonAt w j) (nameAt e w j)
-  local-at = rw (p .colon) (local-of (nameAt e w j))
+  pub local-at : localOf (nameAt e w j) ≡ part e (startAt w j + colonAt w j) (sizeAt w j - colonAt w j)
+  unfolding nameAt
+  local-at = rw (p .colon) (local-part e (startAt w j) (sizeAt w j))
 
 -- ---- a line in the scratch
 

@@ -5,3 +5,4 @@ pub mod Names
 pub mod Escapes
 pub mod Attributes
 pub mod Events
+pub mod Clear

@@ -6,14 +6,15 @@ use Prim.Native.Nat.{ℕ, suc, _+_, _-_, _<_, _≤_}
 use native.Mathlib.Omega.{arith}
 use native.Mathlib.Numerals.{add-one}
 use lib.Dec.{ltb}
-use lib.ListN.{length, take, drop}
+use lib.ListN.{length, take, drop, length-take, length-drop}
+use lib.Seq.{take-take, take-all, length-take-le}
 use borrow.Author.Tests.{ltb-true, ltb-false}
 use Rattle.spec.specs.Bytes.{Bytes, if_then_else_}
 use Rattle.spec.specs.XmlNames.{noColon, prefixOf, localOf, isQName}
-use Rattle.utils.specs.declared.Name.the-variants.{NotName, Local, Prefixed}
+use Rattle.utils.specs.declared.Name.the-variants.{Local, Prefixed}
 use Rattle.utils.specs.Names.{nameOf}
-use Rattle.utils.proofs.Names.{before, none-colon, some-colon, prefix-is, local-is}
-use Rattle.copy.specs.Copy.{Put, put-fits}
+use Rattle.utils.proofs.Names.{before, none-colon, some-colon, prefix-is, local-is, no-prefix, has-prefix}
+use Rattle.copy.specs.Copy.{Put, part, part-part, put-fits}
 use Rattle.pyx.specs.Names.{colonOf, Name}
 
 -- without a colon, and with one
@@ -52,34 +53,36 @@ local-of s = go (colon s)
     go (without n e) = rw (n, e)
     go (with-one n b e) = local-is s refl b ∙ rw (add-one (before s), e)
 
+-- both as parts of where the name stands
+module _ (w : List ℕ) (at n : ℕ) where
+  small : colonOf (part w at n) ≤ n
+  unfolding part
+  small = omega (arith, colon-within (take n (drop at w)), length-take n (drop at w))
+
+  pub prefix-part : prefixOf (part w at n) ≡ part w at (colonOf (part w at n) - 1)
+  unfolding part
+  prefix-part = prefix-of (part w at n) ∙ take-take (colonOf (part w at n) - 1) n (drop at w) (omega (arith, small))
+
+  pub local-part : localOf (part w at n) ≡ part w (at + colonOf (part w at n)) (n - colonOf (part w at n))
+  unfolding part
+  local-part =
+      let c : ℕ = colonOf (part w at n) in
+      local-of (part w at n)
+      ∙ (sym (take-all (n - c) (drop c (part w at n)) (rw (length-drop c (part w at n)) (omega (arith, length-take n (drop at w)))))
+      ∙ part-part w at n c (n - c) (omega (arith, small)))
+
 -- ---- what `qname` says
 
-pub no-name : (s : Bytes) → NotName ≡ nameOf s → isQName s ≡ false
-unfolding nameOf if_then_else_
-no-name s h = go (isQName s) refl (noColon s) h
-  where
-    go : (q : Bool) → isQName s ≡ q → (t : Bool) → NotName ≡ (if q then if t then Local else Prefixed (before s) else NotName) → isQName s ≡ false
-    go true e true h = absurd (let z : _≡_ {A = ℕ} 0 1 = cc in omega arith)
-    go true e false h = absurd (let z : _≡_ {A = ℕ} 0 1 = cc in omega arith)
-    go false e t h = e
-
 pub local-name : (s : Bytes) → Local ≡ nameOf s → (isQName s ≡ true) × (0 ≡ colonOf s)
-unfolding nameOf colonOf if_then_else_
-local-name s h = go (isQName s) (noColon s) h
-  where
-    go : (q t : Bool) → Local ≡ (if q then if t then Local else Prefixed (before s) else NotName) → (q ≡ true) × (0 ≡ (if t then 0 else suc (before s)))
-    go true true h = (refl, refl)
-    go true false h = absurd (let z : _≡_ {A = ℕ} 0 1 = cc in omega arith)
-    go false t h = absurd (let z : _≡_ {A = ℕ} 0 1 = cc in omega arith)
+unfolding colonOf if_then_else_
+local-name s h = let p = no-prefix s h in (p .name, rw (p .colon))
 
 pub prefixed-name : (s : Bytes) {k : ℕ} → Prefixed k ≡ nameOf s → (isQName s ≡ true) × (k + 1 ≡ colonOf s)
-unfolding nameOf colonOf if_then_else_
-prefixed-name s {k} h = go (isQName s) (noColon s) h
-  where
-    go : (q t : Bool) → Prefixed k ≡ (if q then if t then Local else Prefixed (before s) else NotName) → (q ≡ true) × (k + 1 ≡ (if t then 0 else suc (before s)))
-    go true true h = absurd (let z : _≡_ {A = ℕ} 0 1 = cc in omega arith)
-    go true false h = let e : k ≡ before s = cc in (refl, omega arith)
-    go false t h = absurd (let z : _≡_ {A = ℕ} 0 1 = cc in omega arith)
+unfolding colonOf prefixOf if_then_else_
+prefixed-name s {k} h =
+    let p = has-prefix s h in
+    let q : before s ≡ k = ap length (rw (p .colon) at (p .prefix)) ∙ length-take-le k s (omega (arith, p .within)) in
+    (p .name, rw (p .colon) (omega arith))
 
 -- ---- `put_name`
 

@@ -69,7 +69,7 @@ upTo-first p (suc n) (b ∷ t) = go (p b) (upTo-first p n t)
 
 -- ---- a line that goes on
 
-goes-on-end : (c b : ℕ) → goesOn c b ≡ true → eqb b 10 ≡ false
+pub goes-on-end : (c b : ℕ) → goesOn c b ≡ true → eqb b 10 ≡ false
 unfolding goesOn byte
 goes-on-end c b h = ne-eqb b 10 λ e. false≢true (sym (go (eqb c 40) (eqb c 45) b e) ∙ h)
   where

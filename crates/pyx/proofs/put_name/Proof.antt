@@ -1,6 +1,7 @@
+use Rattle.utils.proofs.Names.{not-name}
 use mathlib.Core.Path.{refl}
 use Rattle.copy.specs.Copy.{wrote-same, put-fits}
-use Rattle.pyx.proofs.Names.{no-name, local-name, prefixed-name, colon-within, put-name}
+use Rattle.pyx.proofs.Names.{local-name, prefixed-name, colon-within, put-name}
 use native.Mathlib.Omega.{arith}
 use borrow.Author.Needs.{needs}
 use Rattle.pyx.proofs.put_name.Statement.{statement}
@@ -40,7 +41,7 @@ add-t13 c = omega (arith, prefixed-name _ (rw (c .before .before .before .before
 
 -- src/lib.rt:341:1
 returns : tie.Need-returns
-returns c = (no-name _ (rw (c .enum-told .given .1) at (c .before .before .qname .ensures)), refl)
+returns c = (not-name _ (rw (c .enum-told .given .1) at (c .before .before .qname .ensures)), refl)
 
 -- src/lib.rt:341:1
 same-length : tie.Need-same-length
