@@ -1,27 +1,26 @@
 -- Attributes in the scratch, by their words: how a line is read, and that what comes later changes none that are there.
 use mathlib.Core.Path.{_≡_, refl, sym, ap, _∙_, subst, fun-ext}
 use mathlib.Core.Bool.{Bool, true, false, _||_}
-use mathlib.Core.Logic.{⊎-elim}
 use mathlib.Core.List.{List, [], _∷_, _++_, append-nil}
 use Prim.Native.Nat.{ℕ, zero, suc, _+_, _-_, _*_, _/_, _<_, _≤_}
 use native.Mathlib.Omega.{arith}
 use native.Mathlib.Numerals.{add-one}
 use native.Mathlib.Nat.{zero-add, add-zero}
 use lib.Dec.{eqb, ltb}
-use lib.ListN.{length, take, drop, getD, set, length-append, length-take, length-drop, length-set, drop-of-length-le, getElem?}
+use lib.ListN.{length, take, drop, getD, set, length-append, length-drop, length-set, drop-of-length-le, getElem?}
 use mathlib.Core.Option.{some}
-use lib.Seq.{drop-cons, drop-drop, take-take, take-at, drop-at, take-all, getD-take, getD-drop, length-take-le}
+use lib.Seq.{drop-cons, drop-drop, take-take, take-at, drop-at, take-all, getD-take, getD-drop}
 use borrow.Author.Tests.{le-leb, eqb-true, ltb-true, ltb-false}
-use Rattle.spec.specs.Bytes.{Bytes, ascii, byte, if_then_else_, begins, after, upTo, from, among, each, _>>=_, _>>_, require_or_}
+use Rattle.spec.specs.Bytes.{Bytes, ascii, if_then_else_, begins, after, upTo, from, among, each, _>>=_, _>>_, require_or_}
 use Rattle.spec.specs.Numbers.{Answer, refuse, good}
 use Rattle.spec.specs.declared.Refusal.the-variants.{NotPyx}
 use Rattle.spec.specs.XmlNames.{isQName, prefixOf, localOf}
 use Rattle.spec.specs.Pyx.{Attribute, attribute, unescape, name, readAttribute}
 use Rattle.spec.specs.Pyx as P
-use Rattle.copy.specs.Copy.{Put, Wrote, part, storedAt, length-part, then as and-then, wrote-one, wrote-same, wrote-before, wrote-part, part-part, part-inside, put-fits, getD-stored, take-before}
+use Rattle.copy.specs.Copy.{Put, Wrote, part, storedAt, length-part, then as and-then, wrote-one, wrote-same, wrote-before, part-part, part-inside, getD-stored, take-before}
 use Rattle.copy.specs.Texts.{length-upTo, upTo-take, from-drop, upTo-stop, after-drop}
-use Rattle.pyx.specs.Lines.{linesOf, spaced, front, Kept}
-use Rattle.pyx.specs.Names.{colonOf, Name}
+use Rattle.pyx.specs.Lines.{linesOf, front, Kept}
+use Rattle.pyx.specs.Names.{Name}
 use Rattle.pyx.specs.Escapes as Escaped
 use Rattle.pyx.specs.Attributes.{row, startAt, sizeAt, colonAt, valueSizeAt, nameAt, valueAt, attributesOf, Placed, Read, Small, Behind, Laid}
 use Rattle.pyx.proofs.Reach.{isEnd}

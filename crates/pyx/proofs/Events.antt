@@ -1,29 +1,28 @@
 -- An event by its first line.
-use mathlib.Core.Path.{_≡_, refl, sym, ap, _∙_, subst}
-use mathlib.Core.Bool.{Bool, true, false, _&&_, _||_}
-use mathlib.Core.List.{List, [], _∷_, _++_}
+use mathlib.Core.Path.{_≡_, refl, sym, ap, _∙_}
+use mathlib.Core.Bool.{true, false}
+use mathlib.Core.List.{List, [], _∷_}
 use Prim.Native.Nat.{ℕ, zero, suc, _+_, _-_, _/_, _<_, _≤_}
 use native.Mathlib.Omega.{arith}
-use native.Mathlib.Nat.{zero-add}
-use lib.Dec.{eqb, ltb}
+use lib.Dec.{eqb}
 use lib.ListN.{length, take, drop, getD, length-drop}
 use lib.Seq.{length-take-le, take-nil}
 use borrow.Author.Tests.{lt-ltb, le-ltb, eqb-true, ne-eqb}
-use Rattle.spec.specs.Bytes.{Bytes, ascii, byte, if_then_else_, begins, after, upTo, every, concat, each, _>>=_, _>>_, require_or_}
+use Rattle.spec.specs.Bytes.{Bytes, ascii, if_then_else_, begins, after, upTo, every, concat, each, _>>=_, _>>_, require_or_}
 use Rattle.spec.specs.Limits.{mostEventBytes}
 use Rattle.spec.specs.Numbers.{Answer, refuse, good}
 use Rattle.spec.specs.declared.Refusal.the-variants.{NotPyx}
 use Rattle.spec.specs.Utf8.{asCharacters}
 use Rattle.spec.specs.XmlNames.{isChar, isQName}
-use Rattle.spec.specs.Pyx.{Attribute, opening, closing, text, instruction, unescape, name, readAttribute, readOpening, readClosing, readText, readLines, readEvent}
+use Rattle.spec.specs.Pyx.{Attribute, opening, closing, text, unescape, name, readAttribute, readOpening, readClosing, readText, readLines, readEvent}
 use Rattle.spec.specs.Pyx as P
-use Rattle.copy.specs.Copy.{Wrote, wrote-same, wrote-front}
+use Rattle.copy.specs.Copy.{wrote-same, wrote-front}
 use Rattle.copy.specs.Texts.{after-drop, upTo-stop}
-use Rattle.pyx.specs.Lines.{linesOf, spaced, front, Kept}
-use Rattle.pyx.specs.Names.{colonOf, Name}
+use Rattle.pyx.specs.Lines.{linesOf, spaced, Kept}
+use Rattle.pyx.specs.Names.{Name}
 use Rattle.pyx.specs.Escapes.{Put, dataOf}
-use Rattle.pyx.specs.Attributes.{attributesOf, Behind, Laid, Placed}
-use Rattle.pyx.specs.Decode.{unread, Opened, Over, Means, Decodes, Fits, noScratch}
+use Rattle.pyx.specs.Attributes.{Behind, Laid}
+use Rattle.pyx.specs.Decode.{unread, Means, Decodes, Fits, noScratch}
 use Rattle.pyx.specs.declared.Event.{Event}
 use Rattle.pyx.specs.declared.Event.the-variants.{Malformed, NoScratch, Instruction, Text, Closing, Opening, Crowded}
 use Rattle.pyx.proofs.Reach.{isEnd}

@@ -7,7 +7,7 @@ use native.Mathlib.Omega.{arith}
 use native.Mathlib.Numerals.{add-one}
 use lib.Dec.{eqb}
 use lib.ListN.{length, take, drop, getD, length-drop}
-use lib.Seq.{drop-cons, drop-drop, getD-drop, getD-take, take-all}
+use lib.Seq.{drop-cons, drop-drop, getD-drop, getD-take}
 use borrow.Author.Tests.{eqb-true, eqb-false, eq-eqb, ne-eqb}
 use Rattle.spec.specs.Bytes.{Bytes, ascii, byte, if_then_else_, begins, upTo, onto, split, each, _>>=_}
 use Rattle.spec.specs.Numbers.{Answer, refuse, good}

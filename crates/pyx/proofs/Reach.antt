@@ -1,19 +1,17 @@
 -- The bytes that surely belong to the first event, line by line.
 use mathlib.Core.Path.{_≡_, refl, sym, ap, _∙_}
-use mathlib.Core.Bool.{Bool, true, false, _&&_, _||_, true≢false, false≢true}
-use mathlib.Core.List.{List, [], _∷_, _++_, append-assoc, append-nil}
+use mathlib.Core.Bool.{Bool, true, false, _&&_, _||_, false≢true}
+use mathlib.Core.List.{[], _∷_, _++_, append-assoc, append-nil}
 use Prim.Native.Nat.{ℕ, zero, suc, _+_, _-_, _<_, _≤_, min}
 use native.Mathlib.Omega.{arith}
-use native.Mathlib.Numerals.{add-one}
 use lib.Dec.{eqb, ltb}
-use lib.ListN.{length, take, drop, getD, length-append, length-take, length-drop, drop-of-length-le}
-use lib.Seq.{drop-cons, drop-drop, take-add, take-length, drop-length, take-all, length-take-le}
+use lib.ListN.{length, take, drop, getD, length-append, length-drop, drop-of-length-le}
+use lib.Seq.{drop-cons, drop-drop, take-add, length-take-le}
 use borrow.Author.Tests.{ltb-true, ltb-false, lt-ltb, le-ltb, ne-eqb}
 use Rattle.spec.specs.Bytes.{Bytes, byte, if_then_else_, upTo}
 use Rattle.spec.specs.Limits.{mostEventBytes}
-use Rattle.spec.specs.PyxCut.{goesOn, mayGoOn, Ending, sure, lineEnd, midLine, inFront, reach, wait, unended, tooLong, whole, ended, inLength, cut}
-use Rattle.copy.specs.Copy.{part}
-use Rattle.pyx.specs.First.{Sized, Cuts, cutOf, inLine, atLineEnd}
+use Rattle.spec.specs.PyxCut.{goesOn, mayGoOn, Ending, sure, lineEnd, midLine, inFront, reach, tooLong, ended, inLength, cut}
+use Rattle.pyx.specs.First.{Sized, Cuts, inLine, atLineEnd}
 use Rattle.pyx.specs.declared.First.the-variants.{Wait, Unended, TooLong, Whole}
 
 -- a line's end

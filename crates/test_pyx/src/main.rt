@@ -137,7 +137,13 @@ fn print_attributes(scratch: &[u8], spans: &[u32], k: usize) {
         if j == k {
             return;
         }
-        print_attribute(scratch, spans[j * 4], spans[j * 4 + 1], spans[j * 4 + 2], spans[j * 4 + 3]);
+        print_attribute(
+            scratch,
+            spans[j * 4],
+            spans[j * 4 + 1],
+            spans[j * 4 + 2],
+            spans[j * 4 + 3],
+        );
         j += 1;
     }
 }

@@ -1,31 +1,25 @@
-use Rattle.pyx.specs.First.{atLineEnd}
-use Rattle.spec.specs.PyxCut.{mayGoOn}
-use Rattle.spec.specs.Limits.{mostEventBytes}
-use Rattle.spec.specs.Bytes.{byte, if_then_else_}
-use borrow.Author.Tests.{lt-ltb, le-ltb}
+-- `pyx::at_line_end` meets its contract. By the tests that led to each answer.
 use native.Mathlib.Omega.{arith}
-use borrow.Author.Needs.{needs}
+use borrow.Author.Tests.{lt-ltb, le-ltb}
+use Rattle.spec.specs.Bytes.{byte, if_then_else_}
+use Rattle.spec.specs.Limits.{mostEventBytes}
+use Rattle.spec.specs.PyxCut.{mayGoOn}
+use Rattle.pyx.specs.First.{atLineEnd}
 use Rattle.pyx.proofs.at_line_end.Statement.{statement}
 use Rattle.pyx.proofs.at_line_end.Tie as tie
-use Rattle.pyx.proofs.at_line_end.Reads as reads
-use Rattle.pyx.proofs.at_line_end.Lts as lts
 
--- src/lib.rt:161:9
 returns : tie.Need-returns
 unfolding atLineEnd mayGoOn mostEventBytes byte if_then_else_
 returns c = rw (lt-ltb 32_768 (c .before .args .seen) (omega arith))
 
--- src/lib.rt:164:9
 returns-2 : tie.Need-returns-2
 unfolding atLineEnd mayGoOn mostEventBytes byte if_then_else_
 returns-2 c = rw (le-ltb 32_768 (c .before .before .args .seen) (omega arith), c .if2 .taken)
 
--- src/lib.rt:167:9
 returns-3 : tie.Need-returns-3
 unfolding atLineEnd mayGoOn mostEventBytes byte if_then_else_
 returns-3 c = rw (le-ltb 32_768 (c .before .before .before .args .seen) (omega arith), c .before .if2 .left, c .if3 .taken)
 
--- src/lib.rt:157:1
 returns-4 : tie.Need-returns-4
 unfolding atLineEnd mayGoOn mostEventBytes byte if_then_else_
 returns-4 c = rw (le-ltb 32_768 (c .before .before .before .args .seen) (omega arith), c .before .if2 .left, c .if3 .left)

@@ -1,87 +1,67 @@
+-- `pyx::enter` meets its contract. Four words in a row are one write.
 use mathlib.Core.Path.{refl}
+use native.Mathlib.Omega.{arith}
 use lib.ListN.{length-set}
+use borrow.Author.Needs.{needs}
 use Rattle.copy.specs.Copy.{put-none}
 use Rattle.pyx.proofs.Attributes.{entered}
-use native.Mathlib.Omega.{arith}
-use borrow.Author.Needs.{needs}
 use Rattle.pyx.proofs.enter.Statement.{statement}
 use Rattle.pyx.proofs.enter.Tie as tie
-use Rattle.pyx.proofs.enter.Reads as reads
-use Rattle.pyx.proofs.enter.Lts as lts
 
--- src/lib.rt:296:9
 returns : tie.Need-returns
 returns c = put-none (omega arith)
 
--- src/lib.rt:298:14
 mul-at : tie.Need-mul-at
 mul-at c = search needs
 
--- src/lib.rt:299:17
 cast-spans : tie.Need-cast-spans
 cast-spans c = search needs
 
--- src/lib.rt:299:5
 mul-spans : tie.Need-mul-spans
 mul-spans c = search needs
 
--- src/lib.rt:299:5
 slice-write-spans : tie.Need-slice-write-spans
 slice-write-spans c = search needs
 
--- src/lib.rt:300:21
 cast-spans-2 : tie.Need-cast-spans-2
 cast-spans-2 c = search needs
 
--- src/lib.rt:300:11
 add-spans : tie.Need-add-spans
 add-spans c = search needs
 
--- src/lib.rt:300:5
 mul-spans-2 : tie.Need-mul-spans-2
 mul-spans-2 c = search needs
 
--- src/lib.rt:300:5
 slice-write-spans-2 : tie.Need-slice-write-spans-2
 slice-write-spans-2 c = simp length-set (omega arith)
 
--- src/lib.rt:301:21
 cast-spans-3 : tie.Need-cast-spans-3
 cast-spans-3 c = search needs
 
--- src/lib.rt:301:11
 add-spans-2 : tie.Need-add-spans-2
 add-spans-2 c = search needs
 
--- src/lib.rt:301:5
 mul-spans-3 : tie.Need-mul-spans-3
 mul-spans-3 c = search needs
 
--- src/lib.rt:301:5
 slice-write-spans-3 : tie.Need-slice-write-spans-3
 slice-write-spans-3 c = simp length-set (omega arith)
 
--- src/lib.rt:302:21
 cast-spans-4 : tie.Need-cast-spans-4
 cast-spans-4 c = search needs
 
--- src/lib.rt:302:11
 add-spans-3 : tie.Need-add-spans-3
 add-spans-3 c = search needs
 
--- src/lib.rt:302:5
 mul-spans-4 : tie.Need-mul-spans-4
 mul-spans-4 c = search needs
 
--- src/lib.rt:302:5
 slice-write-spans-4 : tie.Need-slice-write-spans-4
 slice-write-spans-4 c = simp length-set (omega arith)
 
--- src/lib.rt:291:1
 same-length : tie.Need-same-length
 same-length c = simp length-set refl
 
--- src/lib.rt:291:1
 returns-2 : tie.Need-returns-2
 returns-2 c = entered _ _ (omega arith)
 

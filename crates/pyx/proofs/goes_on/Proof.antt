@@ -1,13 +1,10 @@
-use Rattle.spec.specs.PyxCut.{goesOn}
-use Rattle.spec.specs.Bytes.{byte}
-use native.Mathlib.Omega.{arith}
+-- `pyx::goes_on` meets its contract. By computation.
 use borrow.Author.Needs.{needs}
+use Rattle.spec.specs.Bytes.{byte}
+use Rattle.spec.specs.PyxCut.{goesOn}
 use Rattle.pyx.proofs.goes_on.Statement.{statement}
 use Rattle.pyx.proofs.goes_on.Tie as tie
-use Rattle.pyx.proofs.goes_on.Reads as reads
-use Rattle.pyx.proofs.goes_on.Lts as lts
 
--- src/lib.rt:137:1
 returns : tie.Need-returns
 unfolding goesOn byte
 returns c = search needs

@@ -1,49 +1,38 @@
+-- `pyx::next_byte` meets its contract. Each arm is one law.
 use mathlib.Core.Path.{refl}
-use Rattle.pyx.proofs.Escapes.{stands-plain, wrong-last, stands-line-feed, stands-tab, stands-backslash, wrong-escape}
 use native.Mathlib.Omega.{arith}
 use borrow.Author.Needs.{needs}
+use Rattle.pyx.proofs.Escapes.{stands-plain, wrong-last, stands-line-feed, stands-tab, stands-backslash, wrong-escape}
 use Rattle.pyx.proofs.next_byte.Statement.{statement}
 use Rattle.pyx.proofs.next_byte.Tie as tie
-use Rattle.pyx.proofs.next_byte.Reads as reads
-use Rattle.pyx.proofs.next_byte.Lts as lts
 
--- src/lib.rt:383:13
 shared-slice-read-b : tie.Need-shared-slice-read-b
 shared-slice-read-b c = search needs
 
--- src/lib.rt:385:9
 returns : tie.Need-returns
 returns c = stands-plain _ _ _ (c .before .before .pre) refl (c .if1 .taken)
 
--- src/lib.rt:387:8
 sub-if2 : tie.Need-sub-if2
 sub-if2 c = search needs
 
--- src/lib.rt:388:9
 returns-2 : tie.Need-returns-2
 returns-2 c = wrong-last _ _ (c .before .before .before .pre) (c .before .if1 .left) (c .if2 .taken)
 
--- src/lib.rt:390:15
 add-c : tie.Need-add-c
 add-c c = search needs
 
--- src/lib.rt:390:13
 shared-slice-read-c : tie.Need-shared-slice-read-c
 shared-slice-read-c c = search needs
 
--- src/lib.rt:392:9
 returns-3 : tie.Need-returns-3
 returns-3 c = stands-line-feed (c .before .before .before .before .before .args .s .now) (c .before .before .before .before .before .args .i) (omega arith) (c .before .before .before .if1 .left) (c .if3 .taken)
 
--- src/lib.rt:395:9
 returns-4 : tie.Need-returns-4
 returns-4 c = stands-tab (c .before .before .before .before .before .before .args .s .now) (c .before .before .before .before .before .before .args .i) (omega arith) (c .before .before .before .before .if1 .left) (c .if4 .taken)
 
--- src/lib.rt:398:9
 returns-5 : tie.Need-returns-5
 returns-5 c = stands-backslash (c .before .before .before .before .before .before .before .args .s .now) (c .before .before .before .before .before .before .before .args .i) (omega arith) (c .before .before .before .before .before .if1 .left) (c .if5 .taken)
 
--- src/lib.rt:379:1
 returns-6 : tie.Need-returns-6
 returns-6 c = wrong-escape (c .before .before .before .before .before .before .before .args .s .now) (c .before .before .before .before .before .before .before .args .i) (omega arith) (c .before .before .before .before .before .if1 .left) (c .before .before .if3 .left) (c .before .if4 .left) (c .if5 .left)
 

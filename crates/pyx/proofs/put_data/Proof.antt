@@ -1,39 +1,30 @@
+-- `pyx::put_data` meets its contract. An empty line has no data.
+use native.Mathlib.Omega.{arith}
 use lib.ListN.{length-drop}
+use borrow.Author.Needs.{needs}
 use Rattle.copy.specs.Copy.{rest-of}
 use Rattle.pyx.proofs.Escapes.{data-empty}
-use native.Mathlib.Omega.{arith}
-use borrow.Author.Needs.{needs}
 use Rattle.pyx.proofs.put_data.Statement.{statement}
 use Rattle.pyx.proofs.put_data.Tie as tie
-use Rattle.pyx.proofs.put_data.Reads as reads
-use Rattle.pyx.proofs.put_data.Lts as lts
-use Rattle.pyx.proofs.unescape.Reads as unescape-reads
 
--- src/lib.rt:335:9
 returns : tie.Need-returns
 returns c = data-empty (c .before .before .before .args .line .now) (c .if1 .taken) (c .before .before .before .pre)
 
--- src/lib.rt:337:14
 sub-unescape : tie.Need-sub-unescape
 sub-unescape c = search needs
 
--- src/lib.rt:337:14
 part-unescape-start : tie.Need-part-unescape-start
 part-unescape-start c = search needs
 
--- src/lib.rt:337:14
 part-unescape-end : tie.Need-part-unescape-end
 part-unescape-end c = search needs
 
--- src/lib.rt:337:5
 unescape-requires : tie.Need-unescape-requires
 unescape-requires c κs = rw rest-of (omega (arith, length-drop 1 (c .before .before .before .before .before .args .line .now), c .before .before .before .before .before .pre))
 
--- src/lib.rt:330:1
 same-length : tie.Need-same-length
 same-length c = search needs
 
--- src/lib.rt:330:1
 returns-2 : tie.Need-returns-2
 returns-2 c = rw rest-of at (c .before .before .unescape .ensures)
 

@@ -1,14 +1,12 @@
+-- `pyx::unescape` meets its contract. The loop's invariant, `Passed`: what the first `i` bytes stand for is written, in front of what is left.
 use Prim.Native.Nat.{_-_}
+use native.Mathlib.Omega.{arith}
 use lib.ListN.{length}
+use borrow.Author.Needs.{needs}
 use Rattle.copy.specs.Copy.{wrote-same}
 use Rattle.pyx.proofs.Escapes.{Passed, passed-begins, passed-room, passed-within, passed-more, passed-wrong, passed-done}
-use native.Mathlib.Omega.{arith}
-use borrow.Author.Needs.{needs}
 use Rattle.pyx.proofs.unescape.Statement.{statement}
 use Rattle.pyx.proofs.unescape.Tie as tie
-use Rattle.pyx.proofs.unescape.Reads as reads
-use Rattle.pyx.proofs.unescape.Lts as lts
-use Rattle.pyx.proofs.next_byte.Reads as next-byte-reads
 
 abbrev Inv-loop : tie.InvT-loop
 Inv-loop s scratch₀ at i₀ to₀ scratch i to = Passed s scratch₀ scratch at i to
@@ -16,55 +14,42 @@ Inv-loop s scratch₀ at i₀ to₀ scratch i to = Passed s scratch₀ scratch a
 abbrev μ-loop : tie.MeasureT-loop
 μ-loop s scratch₀ at i₀ to₀ scratch i to = length s - i
 
--- src/lib.rt:365:5
 loop-holds : tie.Need-loop-holds Inv-loop μ-loop
 loop-holds c = passed-begins (c .before .before .pre)
 
--- src/lib.rt:366:15
 next-byte-requires : tie.Need-next-byte-requires Inv-loop μ-loop
 next-byte-requires c κs = search needs
 
--- src/lib.rt:367:28
 enum-told : tie.Need-enum-told Inv-loop μ-loop
 enum-told c = search needs
 
--- src/lib.rt:367:28
 same-length : tie.Need-same-length Inv-loop μ-loop
 same-length c = wrote-same (c .before .before .before .before .loop .inv .done .wrote)
 
--- src/lib.rt:367:28
 returns : tie.Need-returns Inv-loop μ-loop
 returns c = passed-wrong (c .before .before .before .before .loop .inv) (rw (c .enum-told .given .1) at (c .before .before .next-byte .ensures))
 
--- src/lib.rt:368:24
 enum-known-b : tie.Need-enum-known-b Inv-loop μ-loop
 enum-known-b c = search needs
 
--- src/lib.rt:369:17
 slice-write-scratch : tie.Need-slice-write-scratch Inv-loop μ-loop
 slice-write-scratch c = passed-room (c .before .before .before .before .before .loop .inv) (omega arith)
 
--- src/lib.rt:370:17
 add-to : tie.Need-add-to Inv-loop μ-loop
 add-to c = omega (arith, passed-room (c .before .before .before .before .before .loop .inv) (omega arith))
 
--- src/lib.rt:371:17
 add-i : tie.Need-add-i Inv-loop μ-loop
 add-i c = omega (arith, passed-within (c .before .before .before .before .before .loop .inv) (rw (c .before .b .given .1) at (c .before .before .before .next-byte .ensures)))
 
--- src/lib.rt:365:5
 loop-less : tie.Need-loop-less Inv-loop μ-loop
 loop-less c = let w = rw (c .before .b .given .1) at (c .before .before .before .next-byte .ensures) in omega (arith, w .some, passed-within (c .before .before .before .before .before .loop .inv) w)
 
--- src/lib.rt:365:5
 loop-again : tie.Need-loop-again Inv-loop μ-loop
 loop-again c = passed-more (c .before .before .before .before .before .loop .inv) (omega arith) (rw (c .before .b .given .1) at (c .before .before .before .next-byte .ensures))
 
--- src/lib.rt:359:1
 same-length-2 : tie.Need-same-length-2 Inv-loop μ-loop
 same-length-2 c = wrote-same (c .before .loop .inv .done .wrote)
 
--- src/lib.rt:359:1
 returns-2 : tie.Need-returns-2 Inv-loop μ-loop
 returns-2 c = passed-done (c .before .loop .inv) (omega arith)
 

@@ -1,25 +1,20 @@
-use Rattle.pyx.specs.First.{inLine}
-use Rattle.spec.specs.Limits.{mostEventBytes}
-use Rattle.spec.specs.Bytes.{if_then_else_}
-use borrow.Author.Tests.{lt-ltb, le-ltb}
+-- `pyx::within_line` meets its contract. By the tests that led to each answer.
 use native.Mathlib.Omega.{arith}
-use borrow.Author.Needs.{needs}
+use borrow.Author.Tests.{lt-ltb, le-ltb}
+use Rattle.spec.specs.Bytes.{if_then_else_}
+use Rattle.spec.specs.Limits.{mostEventBytes}
+use Rattle.pyx.specs.First.{inLine}
 use Rattle.pyx.proofs.within_line.Statement.{statement}
 use Rattle.pyx.proofs.within_line.Tie as tie
-use Rattle.pyx.proofs.within_line.Reads as reads
-use Rattle.pyx.proofs.within_line.Lts as lts
 
--- src/lib.rt:148:9
 returns : tie.Need-returns
 unfolding inLine mostEventBytes if_then_else_
 returns c = rw (lt-ltb 32_768 (c .before .args .seen) (omega arith))
 
--- src/lib.rt:151:9
 returns-2 : tie.Need-returns-2
 unfolding inLine mostEventBytes if_then_else_
 returns-2 c = rw (le-ltb 32_768 (c .before .before .args .seen) (omega arith), c .if2 .taken)
 
--- src/lib.rt:144:1
 returns-3 : tie.Need-returns-3
 unfolding inLine mostEventBytes if_then_else_
 returns-3 c = rw (le-ltb 32_768 (c .before .before .args .seen) (omega arith), c .if2 .left)
