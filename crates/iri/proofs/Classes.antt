@@ -1,0 +1,63 @@
+-- The tests of one character: an alternative that holds decides, and one that does not leaves the others.
+use mathlib.Core.Path.{_≡_, refl, sym, _∙_}
+use mathlib.Core.Bool.{Bool, true, false, _&&_, _||_, or-false}
+use mathlib.Core.List.{List, [], _∷_}
+use Prim.Native.Nat.{ℕ, _<_, _≤_}
+use native.Mathlib.Omega.{arith}
+use lib.Dec.{eqb, leb}
+use lib.ListN.{length, getD}
+use borrow.Author.Tests.{eq-eqb, ne-eqb, eqb-true, lt-leb, leb-true}
+use Rattle.spec.specs.Bytes.{Bytes, byte, between, inRanges}
+use Rattle.spec.specs.Abnf.{lower}
+use Rattle.spec.proofs.Booleans.{and-left, and-right}
+use Rattle.iri.specs.Parts.{isHex, escaped}
+use Rattle.iri.specs.Forms.{isMark}
+use Rattle.iri.proofs.Languages.{same-test, lower-mark, mark-lower}
+
+pub left : {t a b r : Bool} → t ≡ a → t ≡ false → r ≡ b → r ≡ (a || b)
+left e h q = rw (← e, h) q
+
+-- a word of one character that is no letter
+pub lower-is : (d : ℕ) → isMark d ≡ true → (c : ℕ) → eqb c d ≡ eqb (lower c) d
+lower-is d m c = same-test (eqb c d) (eqb (lower c) d) (λ e. rw (eqb-true c d e) (mark-lower d m)) (λ e. eq-eqb c d (lower-mark d m c e))
+
+pub beside : (d : ℕ) → isMark d ≡ true → (c : ℕ) {t a : Bool} → t ≡ a → (c ≡ d → ⊥) → t ≡ (a || eqb (lower c) d)
+beside d m c {t} {a} e n = e ∙ sym (rw (← lower-is d m c, ne-eqb c d n) (or-false a))
+
+pub within-high : (a z c : ℕ) → between a z c ≡ true → c ≤ z
+unfolding between
+within-high a z c h = leb-true c z (and-right (leb a c) (leb c z) h)
+
+-- ---- ranges from a number on
+
+unfoldable pub from-on : ℕ → List (ℕ × ℕ) → Bool
+from-on m [] = true
+from-on m (r ∷ rs) = leb m (r .0) && from-on m rs
+
+pub below : (m c : ℕ) (rs : List (ℕ × ℕ)) → from-on m rs ≡ true → c < m → inRanges rs c ≡ false
+unfolding inRanges between from-on
+below m c [] h l = refl
+below m c (r ∷ rs) h l = rw (lt-leb (r .0) c (omega (arith, leb-true m (r .0) (and-left (leb m (r .0)) (from-on m rs) h)))) (below m c rs (and-right (leb m (r .0)) (from-on m rs) h) l)
+
+-- ---- "%" and two digits
+
+pub escaped-short : (s : Bytes) → length s < 3 → escaped s ≡ false
+unfolding escaped
+escaped-short [] l = refl
+escaped-short (c ∷ []) l = refl
+escaped-short (c ∷ a ∷ []) l = refl
+escaped-short (c ∷ a ∷ b ∷ s) l = absurd (omega arith)
+
+pub escaped-other : (s : Bytes) → (getD s 0 0 ≡ 37 → ⊥) → escaped s ≡ false
+unfolding escaped byte
+escaped-other [] n = refl
+escaped-other (c ∷ []) n = refl
+escaped-other (c ∷ a ∷ []) n = refl
+escaped-other (c ∷ a ∷ b ∷ s) n = rw (ne-eqb c 37 n)
+
+pub escaped-by : (s : Bytes) → 3 ≤ length s → getD s 0 0 ≡ 37 → escaped s ≡ (isHex (getD s 1 0) && isHex (getD s 2 0))
+unfolding escaped byte
+escaped-by [] l e = absurd (omega arith)
+escaped-by (c ∷ []) l e = absurd (omega arith)
+escaped-by (c ∷ a ∷ []) l e = absurd (omega arith)
+escaped-by (c ∷ a ∷ b ∷ s) l e = rw (eq-eqb c 37 e)

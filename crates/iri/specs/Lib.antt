@@ -1,0 +1,4 @@
+-- What the contracts of this crate say beside the grammar of RFC 3987.
+pub mod Parts
+pub mod Forms
+pub mod Addresses
