@@ -1,12 +1,14 @@
 -- What is written piece by piece is the definitions' text.
-use mathlib.Core.Path.{_≡_}
+use mathlib.Core.Path.{_≡_, sym}
 use mathlib.Core.Bool.{true, false}
-use mathlib.Core.List.{[], _∷_, _++_, append-assoc, append-nil}
+use mathlib.Core.List.{List, [], _∷_, _++_, append-assoc, append-nil}
 use mathlib.Core.Option.{some}
+use Prim.Native.Nat.{ℕ, suc}
 use Rattle.spec.specs.Bytes.{Bytes, byte}
-use Rattle.spec.specs.NTriples.{Subject, named, blank, Term, node, triple, coded, iriByte, literalByte, writeIri, quoted, line, write}
+use Rattle.spec.specs.NTriples.{Subject, named, blank, Term, node, Triple, triple, label, coded, iriByte, literalByte, writeIri, quoted, line, write}
 use Rattle.spec.specs.Rdf.{rdf}
 use Rattle.spec.specs.Productions.{reification, statement}
+use Rattle.spec.specs.EndTag.{cells}
 use Rattle.writer.specs.Coded.{coded-append}
 use Rattle.ntriples.specs.Terms.{idOf, propertyOf, cellOf}
 
@@ -44,3 +46,15 @@ pub cell-lines : (l : Bytes) (first rest : Subject)
     → line (triple (blank l) (rdf "first") (node first)) ++ line (triple (blank l) (rdf "rest") (node rest)) ≡ write (cellOf l first rest)
 unfolding cellOf write
 cell-lines l first rest = simp append-nil
+
+-- ---- what callers cite
+
+pub write-one : (t : Triple) → line t ≡ write (t ∷ [])
+unfolding write
+write-one t = sym (append-nil (line t))
+
+-- a list is written cell by cell
+pub cells-more : (n : ℕ) (rest c : Subject) (cs : List Subject)
+    → write (cellOf (label (suc n)) c rest) ++ write (cells (suc n) (blank (label (suc n))) cs) ≡ write (cells n rest (c ∷ cs))
+unfolding cellOf cells write
+cells-more n rest c cs = simp (append-assoc, append-nil)
