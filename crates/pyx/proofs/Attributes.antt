@@ -21,7 +21,7 @@ use Rattle.copy.specs.Copy.{Put, Wrote, part, storedAt, length-part, then as an
 use Rattle.copy.specs.Texts.{length-upTo, upTo-take, from-drop, upTo-stop, after-drop}
 use Rattle.pyx.specs.Lines.{linesOf, front, Kept}
 use Rattle.pyx.specs.Names.{Name}
-use Rattle.pyx.specs.Escapes as Escaped
+use Rattle.pyx.specs.Escapes.{Stored}
 use Rattle.pyx.specs.Attributes.{row, startAt, sizeAt, colonAt, valueSizeAt, nameAt, valueAt, attributesOf, Placed, Read, Small, Behind, Laid}
 use Rattle.pyx.proofs.Reach.{isEnd}
 use Rattle.pyx.proofs.Lines.{first-line, no-line, front-nil, front-front, front-refuse, front-good, each-good, each-refuse, kept-all, kept-more, kept-then, kept-wrote, eqb-swap, clear-line}
@@ -302,7 +302,7 @@ module _ (l : Bytes) {n : ℕ} (nonempty : 0 < length l) (e : n ≡ length (upTo
       )
 
       -- a name in the scratch, and a value behind it
-      pub read-both : {to : ℕ} → Escaped.Put (unescape (drop (n + 2) l)) (length (drop (n + 2) l)) g f (at + n) to → Read l d f at n c (to - (at + n))
+      pub read-both : {to : ℕ} → Stored (unescape (drop (n + 2) l)) (length (drop (n + 2) l)) g f (at + n) to → Read l d f at n c (to - (at + n))
       read-both {to} p =
           let up : to ≡ at + n + length (p .text) = p .wrote .up in
           let z : at + n + (to - (at + n)) ≡ to = omega arith in

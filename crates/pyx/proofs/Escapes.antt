@@ -16,7 +16,7 @@ use Rattle.spec.specs.Pyx.{escaped, unescape}
 use Rattle.copy.specs.Copy.{Wrote, part, length-part, then as and-then, wrote-none, wrote-one, wrote-same}
 use Rattle.copy.specs.Texts.{length-upTo, after-drop}
 use Rattle.pyx.specs.Lines.{linesOf, front, Kept}
-use Rattle.pyx.specs.Escapes.{Stands, Put, dataOf}
+use Rattle.pyx.specs.Escapes.{Stands, Stored, dataOf}
 use Rattle.pyx.proofs.Reach.{isEnd}
 use Rattle.pyx.proofs.Lines.{first-line, no-line, front-nil, front-front, front-refuse, front-good, each-good, each-refuse, kept-wrote, kept-then, kept-more}
 
@@ -106,7 +106,7 @@ done-more {a} {left} {right} {t = t} h q w =
 pub done-refuse : {a left : Answer Bytes} {d e : List ℕ} {at to : ℕ} → Done a left d e at to → left ≡ refuse NotPyx → a ≡ refuse NotPyx
 done-refuse h q = h .rest ∙ (ap (front (h .text)) q ∙ front-refuse (h .text) NotPyx)
 
-pub done-ends : {a left : Answer Bytes} {d e : List ℕ} {at to n : ℕ} → Done a left d e at to → left ≡ good [] → to ≤ at + n → Put a n d e at to
+pub done-ends : {a left : Answer Bytes} {d e : List ℕ} {at to n : ℕ} → Done a left d e at to → left ≡ good [] → to ≤ at + n → Stored a n d e at to
 done-ends h q b =
     record { text = h .text; is = h .rest ∙ (ap (front (h .text)) q ∙ (front-good (h .text) [] ∙ ap good (append-nil (h .text)))); wrote = h .wrote; short = b }
 
@@ -139,7 +139,7 @@ module _ {s : Bytes} {d e : List ℕ} {at i to : ℕ} (p : Passed s d e at i to)
   pub passed-wrong : unescape (drop i s) ≡ refuse NotPyx → (unescape s ≡ refuse NotPyx) × Kept d e (at + length s)
   passed-wrong q = (done-refuse (p .done) q, kept-wrote (p .done .wrote) (omega (arith, p .short, p .within)))
 
-  pub passed-done : length s ≤ i → Put (unescape s) (length s) d e at to
+  pub passed-done : length s ≤ i → Stored (unescape s) (length s) d e at to
   unfolding unescape
   passed-done h = done-ends (p .done) (rw (drop-of-length-le s h) refl) (omega (arith, p .short, p .within))
 
@@ -182,14 +182,14 @@ pub record Texting (s : Bytes) (d e : List ℕ) (at used : ℕ) : Type 0 where
 pub texting-begins : {s : Bytes} {d : List ℕ} → length s ≤ length d → Texting s d d 0 0
 texting-begins h = record { within = omega arith; short = omega arith; room = h; done = done-begins (omega arith) }
 
-pub texting-done : {s : Bytes} {d e : List ℕ} {at used : ℕ} → Texting s d e at used → length s ≤ at → Put (dataOf s) (length s) d e 0 used
+pub texting-done : {s : Bytes} {d e : List ℕ} {at used : ℕ} → Texting s d e at used → length s ≤ at → Stored (dataOf s) (length s) d e 0 used
 texting-done {s} {at = at} t h = done-ends (t .done) (data-none (drop at s) refl (omega (arith, length-drop at s))) (omega (arith, t .short, t .within))
 
 module _ {s : Bytes} {d e : List ℕ} {at used : ℕ} (t : Texting s d e at used) {n : ℕ} (q : n ≡ length (upTo isEnd (drop at s))) where
   pub texting-end : at + n ≤ length s
   texting-end = omega (arith, length-upTo isEnd (drop at s), length-drop at s, t .within)
 
-  pub texting-unended : at + n ≡ length s → Put (dataOf s) (length s) d e 0 used
+  pub texting-unended : at + n ≡ length s → Stored (dataOf s) (length s) d e 0 used
   texting-unended h = done-ends (t .done) (data-none (drop at s) q (omega (arith, length-drop at s))) (omega (arith, t .short, t .within))
 
   sized : length (part s at n) ≡ n
@@ -212,7 +212,7 @@ module _ {s : Bytes} {d e : List ℕ} {at used : ℕ} (t : Texting s d e at used
       kept-then (kept-wrote (t .done .wrote) (omega (arith, t .short, t .within))) (kept-more (r .1) (omega (arith, data-size, texting-end, t .short))),
     )
 
-    pub texting-more : {f : List ℕ} {to : ℕ} → Put (unescape (drop 1 (part s at n))) (length (drop 1 (part s at n))) e f used to → Texting s d f (at + n + 1) to
+    pub texting-more : {f : List ℕ} {to : ℕ} → Stored (unescape (drop 1 (part s at n))) (length (drop 1 (part s at n))) e f used to → Texting s d f (at + n + 1) to
     unfolding part
     texting-more p =
         let z : at + (n + 1) ≡ at + n + 1 = omega arith in
@@ -224,7 +224,7 @@ module _ {s : Bytes} {d e : List ℕ} {at used : ℕ} (t : Texting s d e at used
         }
 
 -- `put_data`: what stands behind a line's first byte
-pub data-empty : (l : Bytes) {d : List ℕ} {at : ℕ} → length l ≡ 0 → at + length l ≤ length d → Put (unescape (drop 1 l)) (length (drop 1 l)) d d at at
+pub data-empty : (l : Bytes) {d : List ℕ} {at : ℕ} → length l ≡ 0 → at + length l ≤ length d → Stored (unescape (drop 1 l)) (length (drop 1 l)) d d at at
 unfolding unescape
 data-empty [] h r = record { text = []; is = refl; wrote = wrote-none (omega arith); short = omega arith }
 data-empty (a ∷ l) h r = absurd (omega arith)

@@ -20,9 +20,9 @@ use Rattle.copy.specs.Copy.{wrote-same, wrote-front}
 use Rattle.copy.specs.Texts.{after-drop, upTo-stop}
 use Rattle.pyx.specs.Lines.{linesOf, spaced, Kept}
 use Rattle.pyx.specs.Names.{Name}
-use Rattle.pyx.specs.Escapes.{Put, dataOf}
+use Rattle.pyx.specs.Escapes.{Stored, dataOf}
 use Rattle.pyx.specs.Attributes.{Behind, Laid}
-use Rattle.pyx.specs.Decode.{unread, Means, Decodes, Fits, noScratch}
+use Rattle.pyx.specs.Decode.{unread, Means, Says, Decodes, Fits, noScratch}
 use Rattle.pyx.specs.declared.Event.{Event}
 use Rattle.pyx.specs.declared.Event.the-variants.{Malformed, NoScratch, Instruction, Text, Closing, Opening, Crowded}
 use Rattle.pyx.proofs.Reach.{isEnd}
@@ -74,7 +74,7 @@ module _ (x : Bytes) (ls : List Bytes) where
   open-good l as′ e q r = open-by l e ∙ rw (q, r)
 
 -- where an answer other than `NoScratch` is right
-decoded : {r : Event} {a : Answer P.Event} {n : ℕ} {d e w v : List ℕ} → noScratch r ≡ false → Means r a n d e w v → Kept d e n → length v ≡ length w → Decodes r a false n d e w v
+decoded : {r : Event} {a : Answer P.Event} {n : ℕ} {d e w v : List ℕ} → noScratch r ≡ false → Means r a n d e w v → Kept d e n → length v ≡ length w → Says r a false n d e w v
 decoded q m k l = record { refused = q; means = m; kept = k; words = l }
 
 module _ {s d : Bytes} {n : ℕ} (f : Fits s d n) (h : 0 < n) where
@@ -88,7 +88,7 @@ module _ {s d : Bytes} {n : ℕ} (f : Fits s d n) (h : 0 < n) where
   line-end = eqb-true (getD s n 0) 10 (rw (← f .line) at (upTo-stop isEnd s (rw (← f .line) (f .ended))))
 
   module _ {e : List ℕ} (w : List ℕ) (m : (isQName (take (n - 1) (drop 1 s)) ≡ false) × (e ≡ d)) where
-    pub opening-nameless : (ls : List Bytes) → Decodes Malformed (readOpening (take n s) ls) false (length s) d e w w
+    pub opening-nameless : (ls : List Bytes) → Says Malformed (readOpening (take n s) ls) false (length s) d e w w
     opening-nameless ls = decoded refl (open-no-name (take (n - 1) (drop 1 s)) ls (take n s) (drop-take s n h) (m .0)) (rw (m .1) kept-all) refl
 
   module _ {c : ℕ} {e : List ℕ} (m : Name c (take (n - 1) (drop 1 s)) d e 0) where
@@ -116,7 +116,7 @@ module _ {s d : Bytes} {n : ℕ} (f : Fits s d n) (h : 0 < n) where
     -- the attributes behind it
     module _ {g : List ℕ} (w v : List ℕ) where
       pub opening-wrong : (each readAttribute (linesOf (drop (n + 1) s)) ≡ refuse NotPyx) × (Kept e g (length s)) × (length v ≡ length w)
-          → Decodes Malformed (readOpening (take n s) (linesOf (drop (n + 1) s))) false (length s) d g w v
+          → Says Malformed (readOpening (take n s) (linesOf (drop (n + 1) s))) false (length s) d g w v
       opening-wrong r =
           decoded refl (open-wrong (take (n - 1) (drop 1 s)) (linesOf (drop (n + 1) s)) (take n s) (drop-take s n h) (m .qname) (r .0)) (kept-then title-kept (r .1)) (r .2)
 
@@ -127,11 +127,11 @@ module _ {s d : Bytes} {n : ℕ} (f : Fits s d n) (h : 0 < n) where
         title-still : take (n - 1) g ≡ take (n - 1) (drop 1 s)
         title-still = r .before ∙ title-there
 
-        pub opening-crowded : length w / 4 < k → Decodes Crowded (readOpening (take n s) (linesOf (drop (n + 1) s))) false (length s) d g w v
+        pub opening-crowded : length w / 4 < k → Says Crowded (readOpening (take n s) (linesOf (drop (n + 1) s))) false (length s) d g w v
         opening-crowded b =
             decoded refl (record { name = take (n - 1) (drop 1 s); attributes = r .attributes; is = is-opening; many = omega (arith, r .count) }) (kept-then title-kept (r .kept)) (r .words)
 
-        pub opening-good : k ≤ length w / 4 → Decodes (Opening (n - 1) c k) (readOpening (take n s) (linesOf (drop (n + 1) s))) false (length s) d g w v
+        pub opening-good : k ≤ length w / 4 → Says (Opening (n - 1) c k) (readOpening (take n s) (linesOf (drop (n + 1) s))) false (length s) d g w v
         opening-good b =
             decoded refl
             (record {
@@ -150,7 +150,7 @@ module _ {s d : Bytes} {n : ℕ} (f : Fits s d n) where
   lines : linesOf s ≡ take n s ∷ linesOf (drop (n + 1) s)
   lines = first-line s (f .line) (f .ended)
 
-  pub nothing-first : (w : List ℕ) → n ≡ 0 → Decodes Malformed (readLines (linesOf s)) false (length s) d d w w
+  pub nothing-first : (w : List ℕ) → n ≡ 0 → Says Malformed (readLines (linesOf s)) false (length s) d d w w
   unfolding readLines if_then_else_ begins ascii
   nothing-first w z = decoded refl (rw (lines, z)) kept-all refl
 
@@ -167,12 +167,12 @@ module _ {s d : Bytes} {n : ℕ} (f : Fits s d n) where
     lines-closing e = by-first ∙ rw e
 
     pub closing-nameless : {e : List ℕ} (w : List ℕ) → getD s 0 0 ≡ 41 → (isQName (take (n - 1) (drop 1 s)) ≡ false) × (e ≡ d)
-        → Decodes Malformed (readLines (linesOf s)) false (length s) d e w w
+        → Says Malformed (readLines (linesOf s)) false (length s) d e w w
     unfolding P.name _>>=_ _>>_ require_or_
     closing-nameless w e m = decoded refl (lines-closing e ∙ rw (m .0)) (rw (m .1) kept-all) refl
 
     pub closing-good : {c : ℕ} {e : List ℕ} (w : List ℕ) → getD s 0 0 ≡ 41 → Name c (take (n - 1) (drop 1 s)) d e 0
-        → Decodes (Closing (n - 1)) (readLines (linesOf s)) false (length s) d e w w
+        → Says (Closing (n - 1)) (readLines (linesOf s)) false (length s) d e w w
     unfolding P.name _>>=_ _>>_ require_or_
     closing-good w e m = decoded refl (lines-closing e ∙ rw (m .qname, title-there f h m), omega (arith, f .ended)) (title-kept f h m) refl
 
@@ -184,41 +184,41 @@ module _ {s d : Bytes} {n : ℕ} (f : Fits s d n) where
         ∙ (ap readText (sym (lines ∙ rw (first-byte s n h (f .ended)))) ∙ text-joined (each (λ l. unescape (after (ascii "-") l)) (linesOf s))))
 
     pub text-wrong : {e : List ℕ} (w : List ℕ) → getD s 0 0 ≡ 45 → (dataOf s ≡ refuse NotPyx) × Kept d e (0 + length s)
-        → Decodes Malformed (readLines (linesOf s)) false (length s) d e w w
+        → Says Malformed (readLines (linesOf s)) false (length s) d e w w
     unfolding _>>=_
     text-wrong w e r = decoded refl (lines-text e ∙ rw (r .0)) (kept-more (r .1) (omega arith)) refl
 
-    pub text-good : {e : List ℕ} {to : ℕ} (w : List ℕ) → getD s 0 0 ≡ 45 → Put (dataOf s) (length s) d e 0 to → Decodes (Text to) (readLines (linesOf s)) false (length s) d e w w
+    pub text-good : {e : List ℕ} {to : ℕ} (w : List ℕ) → getD s 0 0 ≡ 45 → Stored (dataOf s) (length s) d e 0 to → Says (Text to) (readLines (linesOf s)) false (length s) d e w w
     unfolding _>>=_
     text-good w e p =
         decoded refl (lines-text e ∙ rw (p .is, wrote-front (p .wrote)), omega (arith, p .short)) (kept-wrote (p .wrote) (omega (arith, p .short))) refl
 
-    pub instruction-good : (w : List ℕ) → getD s 0 0 ≡ 63 → Decodes Instruction (readLines (linesOf s)) false (length s) d d w w
+    pub instruction-good : (w : List ℕ) → getD s 0 0 ≡ 63 → Says Instruction (readLines (linesOf s)) false (length s) d d w w
     unfolding readLines if_then_else_ begins ascii
     instruction-good w e = decoded refl (by-first ∙ rw e) kept-all refl
 
     pub other-first : (w : List ℕ) → (getD s 0 0 ≡ 40 → ⊥) → (getD s 0 0 ≡ 41 → ⊥) → (getD s 0 0 ≡ 45 → ⊥) → (getD s 0 0 ≡ 63 → ⊥)
-        → Decodes Malformed (readLines (linesOf s)) false (length s) d d w w
+        → Says Malformed (readLines (linesOf s)) false (length s) d d w w
     unfolding readLines if_then_else_ begins ascii
     other-first w a b c e = decoded refl (by-first ∙ rw (not-first 40 (getD s 0 0) a, not-first 41 (getD s 0 0) b, not-first 45 (getD s 0 0) c, not-first 63 (getD s 0 0) e)) kept-all refl
 
 -- ---- `decode`
 
 module _ (s d : Bytes) (w : List ℕ) where
-  no-scratch : unread s d ≡ true → Decodes NoScratch (readEvent s) (unread s d) (length s) d d w w
+  no-scratch : unread s d ≡ true → Decodes NoScratch s d d w w
   no-scratch u = record { refused = sym u; means = (refl, refl); kept = kept-all; words = refl }
 
-  pub decode-long : 32_768 < length s → Decodes NoScratch (readEvent s) (unread s d) (length s) d d w w
+  pub decode-long : 32_768 < length s → Decodes NoScratch s d d w w
   unfolding mostEventBytes unread
   decode-long h = no-scratch (rw (lt-ltb 32_768 (length s) h))
 
   module _ (a : length s ≤ 32_768) where
-    pub decode-short : length d < length s → Decodes NoScratch (readEvent s) (unread s d) (length s) d d w w
+    pub decode-short : length d < length s → Decodes NoScratch s d d w w
     unfolding mostEventBytes unread
     decode-short h = no-scratch (rw (le-ltb 32_768 (length s) a, lt-ltb (length d) (length s) h))
 
     module _ (b : length s ≤ length d) where
-      pub decode-spaced : true ≡ spaced s → Decodes NoScratch (readEvent s) (unread s d) (length s) d d w w
+      pub decode-spaced : true ≡ spaced s → Decodes NoScratch s d d w w
       unfolding mostEventBytes unread
       decode-spaced h = no-scratch (rw (le-ltb 32_768 (length s) a, le-ltb (length d) (length s) b) (sym h))
 
@@ -227,7 +227,7 @@ module _ (s d : Bytes) (w : List ℕ) where
         unfolding mostEventBytes unread
         read = rw (le-ltb 32_768 (length s) a, le-ltb (length d) (length s) b) (sym c)
 
-        pub decode-no-text : false ≡ asCharacters (every isChar) s → Decodes Malformed (readEvent s) (unread s d) (length s) d d w w
+        pub decode-no-text : false ≡ asCharacters (every isChar) s → Decodes Malformed s d d w w
         unfolding readEvent _>>_ require_or_
         decode-no-text t = rw read (decoded refl (rw (← t)) kept-all refl)
 
@@ -236,12 +236,12 @@ module _ (s d : Bytes) (w : List ℕ) where
           unfolding readEvent linesOf _>>_ require_or_
           lines-read = rw (← t)
 
-          pub decode-unended : n ≡ length s → Decodes Malformed (readEvent s) (unread s d) (length s) d d w w
+          pub decode-unended : n ≡ length s → Decodes Malformed s d d w w
           unfolding readLines
           decode-unended h = rw read (decoded refl (lines-read ∙ rw (no-line s q (omega arith))) kept-all refl)
 
           pub decode-fits : n < length s → Fits s d n
           decode-fits h = record { line = q; ended = h; room = b; most = a; clear = sym c }
 
-          pub decode-lines : {r : Event} {e v : List ℕ} → Decodes r (readLines (linesOf s)) false (length s) d e w v → Decodes r (readEvent s) (unread s d) (length s) d e w v
+          pub decode-lines : {r : Event} {e v : List ℕ} → Says r (readLines (linesOf s)) false (length s) d e w v → Decodes r s d e w v
           decode-lines z = rw (read, lines-read) z

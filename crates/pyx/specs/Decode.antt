@@ -9,7 +9,7 @@ use Rattle.spec.specs.Bytes.{Bytes, upTo}
 use Rattle.spec.specs.Limits.{mostEventBytes}
 use Rattle.spec.specs.Numbers.{Answer, refuse, good}
 use Rattle.spec.specs.declared.Refusal.the-variants.{NotPyx}
-use Rattle.spec.specs.Pyx.{Attribute, opening, closing, text, instruction}
+use Rattle.spec.specs.Pyx.{Attribute, opening, closing, text, instruction, readEvent}
 use Rattle.spec.specs.Pyx as P
 use Rattle.pyx.specs.Lines.{spaced, Kept}
 use Rattle.pyx.specs.Names.{colonOf}
@@ -56,12 +56,16 @@ Means (Closing m) a n d e w v = (a ≡ good (closing (take m e))) × (m ≤ n)
 Means (Opening m c k) a n d e w v = Opened a n e v m c k
 Means Crowded a n d e w v = Over a w
 
--- `decode` of an event of n bytes that is read as a, and unread where u is true: d and e are the scratch before and behind it, w and v the words
-pub record Decodes (r : Event) (a : Answer P.Event) (u : Bool) (n : ℕ) (d e w v : List ℕ) : Type 0 where
+-- an answer for an event of n bytes that is read as a, and unread where u is true: d and e are the scratch before and behind it, w and v the words
+pub record Says (r : Event) (a : Answer P.Event) (u : Bool) (n : ℕ) (d e w v : List ℕ) : Type 0 where
   pub refused : noScratch r ≡ u
   pub means : Means r a n d e w v
   pub kept : Kept d e n
   pub words : length v ≡ length w
+
+-- `decode`
+abbrev pub Decodes : Event → Bytes → List ℕ → List ℕ → List ℕ → List ℕ → Type 0
+Decodes r s d e w v = Says r (readEvent s) (unread s d) (length s) d e w v
 
 -- inside `decode`: the event's first line has n bytes, and its texts fit the scratch
 pub record Fits (s d : Bytes) (n : ℕ) : Type 0 where

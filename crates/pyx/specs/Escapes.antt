@@ -26,7 +26,7 @@ Nexts WrongNext s = unescape s ≡ refuse NotPyx
 Nexts (Byte b n) s = Stands b n s
 
 -- a text that was put into the scratch, of no more than n bytes
-pub record Put (a : Answer Bytes) (n : ℕ) (d e : List ℕ) (at to : ℕ) : Type 0 where
+pub record Stored (a : Answer Bytes) (n : ℕ) (d e : List ℕ) (at to : ℕ) : Type 0 where
   pub text : Bytes
   pub is : a ≡ good text
   pub wrote : Wrote d e at to text
@@ -35,7 +35,7 @@ pub record Put (a : Answer Bytes) (n : ℕ) (d e : List ℕ) (at to : ℕ) : Typ
 -- `unescape`, `put_data`, `put_text`
 abbrev pub Unescapes : Unescaped → Answer Bytes → ℕ → List ℕ → List ℕ → ℕ → Type 0
 Unescapes Wrong a n d e at = (a ≡ refuse NotPyx) × Kept d e (at + n)
-Unescapes (Upto to) a n d e at = Put a n d e at to
+Unescapes (Upto to) a n d e at = Stored a n d e at to
 
 -- the data of all lines, joined
 unfoldable pub dataOf : Bytes → Answer Bytes

@@ -5,7 +5,7 @@ ghost use Prim.Native.Nat.{_+_, _*_, _<_, _≤_};
 ghost use lib.ListN.{length, take, drop, getD};
 ghost use lib.Dec.{eqb};
 ghost use Rattle.spec.specs.PyxCut.{goesOn, mayGoOn};
-ghost use Rattle.spec.specs.Pyx.{readEvent, readLines, readOpening};
+ghost use Rattle.spec.specs.Pyx.{readLines, readOpening};
 ghost use Rattle.spec.specs.Pyx as escapes;
 ghost use Rattle.copy.specs.Copy.{Put};
 ghost use Rattle.pyx.specs.First.{Cuts, inLine, atLineEnd};
@@ -13,7 +13,7 @@ ghost use Rattle.pyx.specs.Lines.{linesOf, spaced};
 ghost use Rattle.pyx.specs.Names.{Named};
 ghost use Rattle.pyx.specs.Escapes.{Nexts, Unescapes, dataOf};
 ghost use Rattle.pyx.specs.Attributes.{Reads, Behind, Lays, Small, row};
-ghost use Rattle.pyx.specs.Decode.{unread, Decodes, Fits};
+ghost use Rattle.pyx.specs.Decode.{Says, Decodes, Fits};
 
 // What the rest of the input begins with: no complete event yet, a last line that is unended, an event that is too long, or an event of so many bytes.
 pub enum First {
@@ -112,7 +112,7 @@ pub fn rest(input: &[u8], consumed: usize) -> &[u8]
 // An event's lines decoded, names, values and data one behind the other from the start of the scratch. Of each attribute the
 // spans tell where its name starts, the name's length, the place of its colon plus 1 or 0, and the length of the value behind it.
 pub fn decode(event: &[u8], scratch: &mut [u8], spans: &mut [u32]) -> Event
-    ensures { λ r. ⌜ Decodes r (readEvent (now (event .entry))) (unread (now (event .entry)) (now (scratch .entry))) (length (now (event .entry))) (now (scratch .entry)) (now (scratch .exit)) (now (spans .entry)) (now (spans .exit)) ⌝ }
+    ensures { λ r. ⌜ Decodes r (now (event .entry)) (now (scratch .entry)) (now (scratch .exit)) (now (spans .entry)) (now (spans .exit)) ⌝ }
 {
     if event.len() > Event::MOST_BYTES {
         return Event::NoScratch;
@@ -186,7 +186,7 @@ fn has_spaced(event: &[u8]) -> bool
 // An event by the first byte of its first line, which has `n` bytes.
 fn by_first_line(event: &[u8], n: usize, scratch: &mut [u8], spans: &mut [u32]) -> Event
     requires { ⌜ Fits (now event) (now scratch) n ⌝ }
-    ensures { λ r. ⌜ Decodes r (readLines (linesOf (now (event .entry)))) false (length (now (event .entry))) (now (scratch .entry)) (now (scratch .exit)) (now (spans .entry)) (now (spans .exit)) ⌝ }
+    ensures { λ r. ⌜ Says r (readLines (linesOf (now (event .entry)))) false (length (now (event .entry))) (now (scratch .entry)) (now (scratch .exit)) (now (spans .entry)) (now (spans .exit)) ⌝ }
 {
     if n == 0 {
         return Event::Malformed;
@@ -217,7 +217,7 @@ fn by_first_line(event: &[u8], n: usize, scratch: &mut [u8], spans: &mut [u32]) 
 fn opening(event: &[u8], n: usize, scratch: &mut [u8], spans: &mut [u32]) -> Event
     requires { ⌜ Fits (now event) (now scratch) n ⌝ }
     requires { ⌜ 0 < n ⌝ }
-    ensures { λ r. ⌜ Decodes r (readOpening (take n (now (event .entry))) (linesOf (drop (n + 1) (now (event .entry))))) false (length (now (event .entry))) (now (scratch .entry)) (now (scratch .exit)) (now (spans .entry)) (now (spans .exit)) ⌝ }
+    ensures { λ r. ⌜ Says r (readOpening (take n (now (event .entry))) (linesOf (drop (n + 1) (now (event .entry))))) false (length (now (event .entry))) (now (scratch .entry)) (now (scratch .exit)) (now (spans .entry)) (now (spans .exit)) ⌝ }
 {
     match put_name(&event[1..n], scratch, 0) {
         Colon::NotName => Event::Malformed,
