@@ -62,6 +62,12 @@ impl Frame {
     // Words of a frame.
     pub const WORDS: usize = 18;
 
+    // Open elements, inside Literal content and outside.
+    pub const MOST: usize = 64;
+
+    // Words of the table of frames.
+    pub const TABLE: usize = 64 * 18;
+
     pub fn none() -> Self
         ensures { λ r. ⌜ r ≡ noFrame ⌝ }
     {
@@ -110,6 +116,14 @@ impl Frame {
 impl Row {
     // Words of a row.
     pub const WORDS: usize = 3;
+
+    // Bindings that open elements declare.
+    pub const MOST_BINDINGS: usize = 128;
+
+    // Words of the table of bindings, and of that of elements inside Literal content.
+    pub const BINDINGS: usize = 128 * 3;
+
+    pub const INNERS: usize = 64 * 3;
 
     // Row i of a table; where the table is too short, zeros.
     pub fn load(rows: &[u32], i: usize) -> Self
