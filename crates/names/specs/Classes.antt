@@ -1,6 +1,6 @@
 -- The class of each attribute's name, kept in words so that its prefix is looked up once.
 use mathlib.Core.Path.{_≡_, refl, sym, _∙_}
-use mathlib.Core.Bool.{Bool, true, false, _&&_, false≢true}
+use mathlib.Core.Bool.{Bool, true, false, _&&_, _||_, not, false≢true}
 use mathlib.Core.Option.{Option, none, some}
 use mathlib.Core.List.{List, [], _∷_, _++_, map, append-nil}
 use mathlib.Core.Logic.{inl}
@@ -11,10 +11,10 @@ use lib.Dec.{eqb, leb}
 use lib.ListN.{length, getD, set, length-set}
 use borrow.Author.Count.{below-more}
 use borrow.Author.Tests.{le-leb, lt-leb, eq-eqb, ne-eqb}
-use Rattle.spec.specs.Bytes.{Bytes, if_then_else_, same, isEmpty}
+use Rattle.spec.specs.Bytes.{Bytes, if_then_else_, same, isEmpty, isSome}
 use Rattle.spec.specs.XmlNames.{prefixOf, localOf}
 use Rattle.spec.specs.Pyx.{Attribute, attribute}
-use Rattle.spec.specs.Namespaces.{Binding, nameOf, xmlName, isDeclaration, namespace, joined, expandAttribute, repeatsExpanded}
+use Rattle.spec.specs.Namespaces.{Binding, nameOf, xmlName, isDeclaration, namespace, joined, expandAttribute, isKnown, repeatsExpanded}
 use Rattle.copy.specs.Copy.{part, Wrote, then as also, wrote-one, wrote-part, wrote-apart, wrote-same, getD-part}
 use Rattle.frames.specs.Words.{pick}
 use Rattle.names.specs.declared.Found.{Found}
@@ -245,6 +245,38 @@ module _ {e w : List ℕ} {k : ℕ} {v bs : List ℕ} {n : ℕ} {cs : List ℕ} 
   -- what `repeated_expanded` finds
   pub expanded-means : pairs (sameKeys e w v cs) 0 k ≡ repeatsExpanded (scope e w k v bs n) (attributesOf e w k)
   expanded-means = keys-pairs 0 k (omega arith) ∙ sym (repeats-by-keys (scope e w k v bs n) (attributesOf e w k))
+
+-- ---- what callers learn of an attribute from its class
+
+-- the expanded name of an attribute that is no declaration
+unfoldable pub expandedBy : List ℕ → List ℕ → Bytes → Bytes → Class → Option Bytes
+expandedBy e v n l Declaration = none
+expandedBy e v n l Unknown = none
+expandedBy e v n l Unprefixed = some n
+expandedBy e v n l Xml = some (xmlName ++ l)
+expandedBy e v n l (Own at m) = some (part e at m ++ l)
+expandedBy e v n l (Held at m) = some (part v at m ++ l)
+
+module _ (e v : List ℕ) (bs : List Binding) (a : Attribute) {p : Bytes} where
+  pub class-expands : {l : Bytes} (c : Class) → Says c e v bs a p → p ≡ prefixOf (nameOf a) → l ≡ localOf (nameOf a) → isDeclaration a ≡ false
+      → expandAttribute bs (nameOf a) ≡ expandedBy e v (nameOf a) l c
+  unfolding expandAttribute expandedBy joined if_then_else_
+  class-expands Declaration h q r d = absurd (false≢true (sym d ∙ h))
+  class-expands Unprefixed h q r d = rw (← q, h .1)
+  class-expands Unknown h q r d = rw (← q, h .some, h .is)
+  class-expands Xml h q r d = rw (← q, h .some, h .is, r)
+  class-expands (Own at m) h q r d = rw (← q, h .some, h .is, r)
+  class-expands (Held at m) h q r d = rw (← q, h .some, h .is, r)
+
+  -- in Literal content: 8 for the class `Unknown` alone
+  pub class-known : (c : Class) → Says c e v bs a p → p ≡ prefixOf (nameOf a) → (isDeclaration a || isKnown bs (nameOf a)) ≡ not (eqb (kindOf c) 1)
+  unfolding isKnown isSome
+  class-known Declaration h q = rw h
+  class-known Unprefixed h q = rw (h .0, ← q, h .1)
+  class-known Unknown h q = rw (h .other, ← q, h .some, h .is)
+  class-known Xml h q = rw (h .other, ← q, h .some, h .is)
+  class-known (Own at m) h q = rw (h .other, ← q, h .some, h .is)
+  class-known (Held at m) h q = rw (h .other, ← q, h .some, h .is)
 
 -- ---- the tests of `same_key`, by the classes c of attribute j and d of attribute i
 

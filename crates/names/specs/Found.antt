@@ -1,24 +1,24 @@
 -- Where the namespace of a prefix was found, and what an element's or an attribute's name is by it.
 use mathlib.Core.Path.{_≡_, refl, sym, ap, _∙_}
-use mathlib.Core.Bool.{Bool, true, false, _&&_}
+use mathlib.Core.Bool.{Bool, true, false, _&&_, _||_}
 use mathlib.Core.Option.{Option, none, some}
 use mathlib.Core.List.{List, [], _∷_, _++_}
 use Prim.Native.Nat.{ℕ, suc, _+_, _-_, _*_, _<_, _≤_}
 use native.Mathlib.Nat.{zero-add}
 use native.Mathlib.Omega.{arith}
 use lib.ListN.{length, getD}
-use Rattle.spec.specs.Bytes.{Bytes, ascii, if_then_else_, same, isEmpty, orElse, those, _>>_, require_or_}
+use Rattle.spec.specs.Bytes.{Bytes, ascii, if_then_else_, same, isEmpty, orElse, those, _>>_, require_or_, isSome}
 use Rattle.spec.specs.Numbers.{Answer, refuse, good}
 use Rattle.spec.specs.declared.Refusal.the-variants.{NoNamespace}
 use Rattle.spec.specs.Pyx.{Attribute}
-use Rattle.spec.specs.Namespaces.{Binding, xmlName, isDeclaration, declares, declared, lookUp, namespace, inNamespace}
+use Rattle.spec.specs.Namespaces.{Binding, xmlName, isDeclaration, declares, declared, lookUp, namespace, inNamespace, expandElement, isKnown}
 use Rattle.copy.specs.Copy.{part, getD-part}
 use Rattle.frames.specs.Words.{rowAt, rowOf}
 use Rattle.state.specs.Meaning.{bindingOf, bindingsOf}
 use Rattle.names.specs.declared.Found.{Found}
 use Rattle.names.specs.declared.Found.the-variants.{Unknown, Xml, Own, Held}
 use Rattle.names.specs.Declarations.{bindsTo, is-empty, not-empty}
-use Rattle.names.specs.Tag.{Word, start-word, startAt, sizeAt, valueSizeAt, valueAt, attributeAt, attributesFrom, attributesOf, attributes-all, attributes-more, attributes-end}
+use Rattle.names.specs.Tag.{Word, start-word, startAt, sizeAt, valueSizeAt, valueAt, attributeAt, attributesFrom, attributesOf, attributes-all, attributes-more, attributes-end, frontOf, backOf, Split}
 
 -- the namespace that was found: `Own` in the scratch e, `Held` in the work store v
 unfoldable pub foundBytes : List ℕ → List ℕ → Found → Option Bytes
@@ -175,3 +175,17 @@ module _ {e v : List ℕ} {q : Option Bytes} {f : Found} (h : foundBytes e v f �
   pub names-empty : {r : Found} {x y : Bytes} → f ≡ r → foundBytes e v r ≡ some x → y ≡ x → length y ≡ 0 → Names e v q Unknown
   unfolding answered inNamespace foundBytes _>>_ require_or_
   names-empty p k z m = record { is = λ l. rw (← h, p, k, ← z, is-empty _ m) }
+
+-- ---- what callers learn, where c tells the name's prefix and local part
+
+-- the expanded name of an element: the namespace that `element` answers, then the local part
+pub element-means : (e v : List ℕ) (bs : List Binding) {c : ℕ} {n : Bytes} {r : Found} → Split c n → Names e v (namespace bs (frontOf c n)) r
+    → answered (foundBytes e v r) (backOf c n) ≡ expandElement bs n
+unfolding expandElement
+element-means e v bs {c} {n} s h = h .is (backOf c n) ∙ rw (s .front, s .back)
+
+-- is a name's prefix known, from what `lookup` answers?
+pub known-means : (e v : List ℕ) (bs : List Binding) {c : ℕ} {n : Bytes} (r : Found) → Split c n → foundBytes e v r ≡ namespace bs (frontOf c n)
+    → isKnown bs n ≡ (isEmpty (frontOf c n) || isSome (foundBytes e v r))
+unfolding isKnown
+known-means e v bs r s h = rw (h, s .front)

@@ -1,9 +1,9 @@
 -- The attributes of a start tag, from its decoded bytes and the words that tell where they are: four for each.
 use mathlib.Core.Path.{_≡_, refl, sym, ap, _∙_}
 use mathlib.Core.Bool.{Bool, true, false}
-use mathlib.Core.List.{List, [], _∷_}
+use mathlib.Core.List.{List, [], _∷_, _++_}
 use Prim.Native.Nat.{ℕ, zero, suc, _+_, _-_, _*_, _<_, _≤_}
-use native.Mathlib.Nat.{add-zero}
+use native.Mathlib.Nat.{add-zero, zero-add}
 use native.Mathlib.Numerals.{add-one}
 use native.Mathlib.Omega.{arith}
 use lib.ListN.{length, getD, take, drop, length-drop, drop-of-length-le, List·getD-eq-default}
@@ -59,6 +59,18 @@ attributes-more e w k j h = let s : k - j ≡ suc (k - (j + 1)) = omega arith in
 pub attributes-end : (e w : List ℕ) (k j : ℕ) → k ≤ j → attributesFrom e w j (k - j) ≡ []
 unfolding attributesFrom
 attributes-end e w k j h = let z : k - j ≡ 0 = omega arith in rw z
+
+-- the last of them
+attributes-last : (e w : List ℕ) (j m : ℕ) → attributesFrom e w j (suc m) ≡ attributesFrom e w j m ++ (attributeAt e w (j + m) ∷ [])
+unfolding attributesFrom
+attributes-last e w j zero = rw (add-zero j)
+attributes-last e w j (suc m) =
+    let s : suc j + m ≡ j + suc m = omega arith in
+    ap (attributeAt e w j ∷_) (attributes-last e w (suc j) m ∙ ap (λ (i : ℕ). attributesFrom e w (suc j) m ++ (attributeAt e w i ∷ [])) s)
+
+pub last-attribute : (e w : List ℕ) (k : ℕ) → attributesOf e w (suc k) ≡ attributesOf e w k ++ (attribute (nameAt e w k) (valueAt e w k) ∷ [])
+unfolding attributeAt
+last-attribute e w k = attributes-last e w 0 k ∙ rw (zero-add k)
 
 -- ---- a name in two, where its colon's place plus 1, or 0, is c
 
