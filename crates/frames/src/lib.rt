@@ -1,0 +1,177 @@
+// What is kept of a document between events, as numbers: the records of its tables, and how they stand in lent words.
+ghost use mathlib.Core.Path.{_≡_};
+ghost use Rattle.copy.specs.Copy.{Put};
+ghost use Rattle.frames.specs.Words.{kindOf, kindNumber, loadFrame, StoredFrame, noFrame, loadRow, StoredRow};
+
+// What an open element outside Literal content is: the states of the Rust's parser.
+pub enum Kind {
+    Rdf,
+    NodeElt,
+    PropertyElt,
+    ParseTypeCollectionPropertyElt,
+    ParseTypeLiteralPropertyElt,
+    ParseTypeOtherPropertyElt,
+}
+
+// An open element outside Literal content. `at` has where its parts start in the work store, end to end, and where the last one ends:
+// name, bindings, own base, own tag, main part, rdf:ID, datatype, tail. `has` says what they are:
+// is there a base, a tag; is the main part a blank node; is there an rdf:ID, a datatype; what the tail is; a count; its first binding.
+pub struct Frame {
+    pub kind: Kind,
+    pub at: [u32; 9],
+    pub has: [u32; 8],
+}
+
+// A row of a table with three words a row. Of a binding: where its prefix starts, its length, the namespace's length.
+// Of an element inside Literal content: where it starts, its name's length, its first binding.
+pub struct Row {
+    pub at: u32,
+    pub name: u32,
+    pub more: u32,
+}
+
+impl Kind {
+    pub fn of(word: u32) -> Self
+        ensures { λ r. ⌜ r ≡ kindOf word ⌝ }
+    {
+        match word {
+            0 => Kind::Rdf,
+            1 => Kind::NodeElt,
+            2 => Kind::PropertyElt,
+            3 => Kind::ParseTypeCollectionPropertyElt,
+            4 => Kind::ParseTypeLiteralPropertyElt,
+            _ => Kind::ParseTypeOtherPropertyElt,
+        }
+    }
+
+    pub fn word(self) -> u32
+        ensures { λ r. ⌜ r ≡ kindNumber self ⌝ }
+    {
+        match self {
+            Kind::Rdf => 0,
+            Kind::NodeElt => 1,
+            Kind::PropertyElt => 2,
+            Kind::ParseTypeCollectionPropertyElt => 3,
+            Kind::ParseTypeLiteralPropertyElt => 4,
+            Kind::ParseTypeOtherPropertyElt => 5,
+        }
+    }
+}
+
+impl Frame {
+    // Words of a frame.
+    pub const WORDS: usize = 18;
+
+    // Open elements, inside Literal content and outside.
+    pub const MOST: usize = 64;
+
+    // Words of the table of frames.
+    pub const TABLE: usize = 64 * 18;
+
+    pub fn none() -> Self
+        ensures { λ r. ⌜ r ≡ noFrame ⌝ }
+    {
+        Frame {
+            kind: Kind::Rdf,
+            at: [0u32; 9],
+            has: [0u32; 8],
+        }
+    }
+
+    // Frame i of a table; where the table is too short, none.
+    pub fn load(frames: &[u32], i: usize) -> Self
+        ensures { λ r. ⌜ r ≡ loadFrame (now (frames .entry)) i ⌝ }
+    {
+        if frames.len() / Self::WORDS <= i {
+            return Frame::none();
+        }
+        let from = i * Self::WORDS;
+        let kind = Kind::of(frames[from]);
+        let mut at = [0u32; 9];
+        let mut has = [0u32; 8];
+        let a = from + 1;
+        let h = from + 10;
+        let e = from + 18;
+        put_words(&mut at, 0, &frames[a..h]);
+        put_words(&mut has, 0, &frames[h..e]);
+        Frame { kind, at, has }
+    }
+
+    pub fn store(frames: &mut [u32], i: usize, f: Frame) -> bool
+        ensures { λ r. ⌜ StoredFrame (now (frames .entry)) i f (now (frames .exit)) r ⌝ }
+    {
+        if frames.len() / Self::WORDS <= i {
+            return false;
+        }
+        let from = i * Self::WORDS;
+        let at = f.at;
+        let has = f.has;
+        let kind = f.kind;
+        frames[from] = kind.word();
+        put_words(frames, from + 1, &at);
+        put_words(frames, from + 10, &has)
+    }
+}
+
+impl Row {
+    // Words of a row.
+    pub const WORDS: usize = 3;
+
+    // Bindings that open elements declare.
+    pub const MOST_BINDINGS: usize = 128;
+
+    // Words of the table of bindings, and of that of elements inside Literal content.
+    pub const BINDINGS: usize = 128 * 3;
+
+    pub const INNERS: usize = 64 * 3;
+
+    // Row i of a table; where the table is too short, zeros.
+    pub fn load(rows: &[u32], i: usize) -> Self
+        ensures { λ r. ⌜ r ≡ loadRow (now (rows .entry)) i ⌝ }
+    {
+        if rows.len() / Self::WORDS <= i {
+            return Row {
+                at: 0,
+                name: 0,
+                more: 0,
+            };
+        }
+        let from = i * Self::WORDS;
+        Row {
+            at: rows[from],
+            name: rows[from + 1],
+            more: rows[from + 2],
+        }
+    }
+
+    pub fn store(rows: &mut [u32], i: usize, r: Row) -> bool
+        ensures { λ b. ⌜ StoredRow (now (rows .entry)) i r (now (rows .exit)) b ⌝ }
+    {
+        if rows.len() / Self::WORDS <= i {
+            return false;
+        }
+        let from = i * Self::WORDS;
+        rows[from] = r.at;
+        rows[from + 1] = r.name;
+        rows[from + 2] = r.more;
+        true
+    }
+}
+
+// All of `src` into `dst`, from `at` on. Where it does not fit, nothing changes and the answer is false.
+fn put_words(dst: &mut [u32], at: usize, src: &[u32]) -> bool
+    ensures { λ r. ⌜ Put (now (dst .entry)) at (now (src .entry)) (now (dst .exit)) r ⌝ }
+{
+    if dst.len() < at {
+        return false;
+    }
+    if dst.len() - at < src.len() {
+        return false;
+    }
+    let mut i = 0;
+    while i < src.len() {
+        dst[at + i] = src[i];
+        i += 1;
+    }
+    true
+}

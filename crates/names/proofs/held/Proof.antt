@@ -1,0 +1,69 @@
+-- `names::held` meets its contract. The loop's invariant: none of the rows from `i` on binds the prefix.
+use mathlib.Core.Path.{sym, ap, _∙_}
+use Rattle.spec.specs.Bytes.{same}
+use Rattle.names.specs.Found.{Sought, sought-begins, sought-more, sought-hit, sought-done}
+use native.Mathlib.Omega.{arith}
+use borrow.Author.Needs.{needs}
+use Rattle.names.proofs.held.Statement.{statement}
+use Rattle.names.proofs.held.Tie as tie
+
+abbrev Inv-loop : tie.InvT-loop
+Inv-loop prefix work bindings n i₀ i = Sought prefix work bindings n i
+
+abbrev μ-loop : tie.MeasureT-loop
+μ-loop prefix work bindings n i₀ i = i
+
+loop-holds : tie.Need-loop-holds Inv-loop μ-loop
+loop-holds c = sought-begins
+
+sub-i : tie.Need-sub-i Inv-loop μ-loop
+sub-i c = search needs
+
+row-word-requires : tie.Need-row-word-requires Inv-loop μ-loop
+row-word-requires c κs = search needs
+
+row-word-requires-2 : tie.Need-row-word-requires-2 Inv-loop μ-loop
+row-word-requires-2 c κs = search needs
+
+piece-requires : tie.Need-piece-requires Inv-loop μ-loop
+piece-requires c κs = search needs
+
+equal-requires : tie.Need-equal-requires Inv-loop μ-loop
+equal-requires c κs = search needs
+
+row-word-requires-3 : tie.Need-row-word-requires-3 Inv-loop μ-loop
+row-word-requires-3 c κs = search needs
+
+add-t12 : tie.Need-add-t12 Inv-loop μ-loop
+add-t12 c = search needs
+
+returns : tie.Need-returns Inv-loop μ-loop
+returns c = sought-hit (c .before .before .before .before .before .before .before .loop .inv) (omega arith) (c .before .before .before .before .before .row-word .ensures) (c .before .before .before .before .row-word2 .ensures) (sym (c .before .before .equal .ensures ∙ ap (same _) (c .before .before .before .piece .ensures)) ∙ c .before .if1 .taken) (c .row-word3 .ensures)
+
+loop-less : tie.Need-loop-less Inv-loop μ-loop
+loop-less c = search needs
+
+loop-again : tie.Need-loop-again Inv-loop μ-loop
+loop-again c = sought-more (c .before .before .before .before .before .before .loop .inv) (omega arith) (c .before .before .before .before .row-word .ensures) (c .before .before .before .row-word2 .ensures) (sym (c .before .equal .ensures ∙ ap (same _) (c .before .before .piece .ensures)) ∙ c .if1 .left)
+
+returns-2 : tie.Need-returns-2 Inv-loop μ-loop
+returns-2 c = sought-done (c .before .loop .inv) (omega arith)
+
+pub held-spec : {M : Type 1} → statement M
+held-spec =
+    tie.close
+    (tie.spec
+    Inv-loop
+    μ-loop
+    loop-holds
+    sub-i
+    row-word-requires
+    row-word-requires-2
+    piece-requires
+    equal-requires
+    row-word-requires-3
+    add-t12
+    returns
+    loop-less
+    loop-again
+    returns-2)

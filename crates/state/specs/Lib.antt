@@ -1,0 +1,5 @@
+pub mod Meaning
+pub mod Valid
+pub mod Stay
+pub mod Held
+pub mod Tests

@@ -1,0 +1,372 @@
+// What is kept of a document between events: registers by value, tables of words and the work store lent. specs/Meaning.antt says what
+// they mean, specs/Valid.antt when they mean something.
+ghost use mathlib.Core.Path.{_≡_};
+ghost use Prim.Native.Nat.{_+_, _-_, _*_, _≤_, _<_};
+ghost use mathlib.Core.Bool.{true};
+ghost use lib.Dec.{eqb};
+ghost use lib.ListN.{length};
+ghost use Rattle.frames.specs.Words.{pick};
+ghost use Rattle.state.specs.Meaning.{at, childSize};
+ghost use Rattle.state.specs.Valid.{rises, emptyOr, partsOk, chained, childrenOk, kindOk, isNode, nodeBelow, stands, elementOk, framesOk, ceiling, innersOk, countsOk, lengthsOk, validState};
+use frames::Frame;
+use frames::Kind;
+use frames::Row;
+use label::BlankNodeIdGenerator;
+
+// The numbers of a document. `base` is the start base's length; `depth` counts the open elements outside Literal content, `inner` those
+// inside; `outer` counts the bindings that the former declare, `bindings` all. The work store is used up to `top` and from `low` on.
+pub struct Registers {
+    pub closed: bool,
+    pub rooted: bool,
+    pub based: bool,
+    pub base: usize,
+    pub depth: usize,
+    pub inner: usize,
+    pub outer: usize,
+    pub bindings: usize,
+    pub top: usize,
+    pub low: usize,
+    pub labels: u64,
+}
+
+impl Registers {
+    // Bytes of the work store.
+    pub const STORE: usize = 65_536;
+}
+
+// May a call go on from this state?
+pub fn valid(r: Registers, frames: &[u32], bindings: &[u32], inners: &[u32], work: &[u8]) -> bool
+    ensures { λ b. ⌜ b ≡ validState r (now (frames .entry)) (now (bindings .entry)) (now (inners .entry)) (now (work .entry)) ⌝ }
+{
+    if !lengths_ok(frames, bindings, inners, work) {
+        return false;
+    }
+    if !counts_ok(r) {
+        return false;
+    }
+    if !inners_ok(inners, bindings, r.outer, r.inner, r.low, r.bindings) {
+        return false;
+    }
+    frames_ok(frames, bindings, work, r.base, r.depth, r.top, r.outer)
+}
+
+fn lengths_ok(frames: &[u32], bindings: &[u32], inners: &[u32], work: &[u8]) -> bool
+    ensures { λ b. ⌜ b ≡ lengthsOk (now (frames .entry)) (now (bindings .entry)) (now (inners .entry)) (now (work .entry)) ⌝ }
+{
+    if frames.len() != Frame::TABLE {
+        return false;
+    }
+    if bindings.len() != Row::BINDINGS {
+        return false;
+    }
+    if inners.len() != Row::INNERS {
+        return false;
+    }
+    work.len() == Registers::STORE
+}
+
+fn counts_ok(r: Registers) -> bool
+    ensures { λ b. ⌜ b ≡ countsOk r ⌝ }
+{
+    if r.depth > Frame::MOST {
+        return false;
+    }
+    if r.inner > Frame::MOST - r.depth {
+        return false;
+    }
+    if r.bindings > Row::MOST_BINDINGS {
+        return false;
+    }
+    if r.top > r.low {
+        return false;
+    }
+    if !based_ok(r.based, r.base) {
+        return false;
+    }
+    r.labels <= BlankNodeIdGenerator::MOST_LABELS
+}
+
+// Without a start base it has no bytes.
+fn based_ok(based: bool, base: usize) -> bool
+    ensures { λ r. ⌜ r ≡ pick based true (eqb base 0) ⌝ }
+{
+    if based { true } else { base == 0 }
+}
+
+// Do the elements inside Literal content lie end to end, from `low` to the store's end?
+fn inners_ok(
+    inners: &[u32],
+    bindings: &[u32],
+    outer: usize,
+    inner: usize,
+    low: usize,
+    bound: usize,
+) -> bool
+    requires { ⌜ (inner * 3 ≤ length (now inners)) × (bound * 3 ≤ length (now bindings)) ⌝ }
+    ensures { λ r. ⌜ r ≡ innersOk (now (inners .entry)) (now (bindings .entry)) outer inner low bound ⌝ }
+{
+    let mut i = inner;
+    let mut l = low;
+    let mut b = bound;
+    while i > 0 {
+        i -= 1;
+        let row = Row::load(inners, i);
+        let up = ceiling(inners, i);
+        let first = wide(row.more);
+        let at = wide(row.at);
+        if at != l {
+            return false;
+        }
+        if b < first {
+            return false;
+        }
+        if !chained(bindings, first, b - first, at + wide(row.name), up) {
+            return false;
+        }
+        l = up;
+        b = first;
+    }
+    if l != Registers::STORE {
+        return false;
+    }
+    b == outer
+}
+
+// Where inner element `i` ends.
+fn ceiling(inners: &[u32], i: usize) -> usize
+    requires { ⌜ i * 3 ≤ length (now inners) ⌝ }
+    ensures { λ r. ⌜ (r ≡ ceiling (now (inners .entry)) i) × (r < 4294967296) ⌝ }
+{
+    if i == 0 {
+        return Registers::STORE;
+    }
+    let row = Row::load(inners, i - 1);
+    wide(row.at)
+}
+
+// Do the elements outside Literal content lie end to end, from the start base to `top`?
+fn frames_ok(
+    frames: &[u32],
+    bindings: &[u32],
+    work: &[u8],
+    base: usize,
+    depth: usize,
+    top: usize,
+    outer: usize,
+) -> bool
+    requires { ⌜ (depth * 18 ≤ length (now frames)) × (outer * 3 ≤ length (now bindings)) × (top ≤ length (now work)) ⌝ }
+    ensures { λ r. ⌜ r ≡ framesOk (now (frames .entry)) (now (bindings .entry)) (now (work .entry)) base depth top outer ⌝ }
+{
+    let mut i = depth;
+    let mut t = top;
+    let mut b = outer;
+    while i > 0 {
+        i -= 1;
+        if !element_ok(frames, bindings, work, i, t, b) {
+            return false;
+        }
+        let f = Frame::load(frames, i);
+        let at = f.at;
+        let has = f.has;
+        t = wide(at[0]);
+        b = wide(has[7]);
+    }
+    if base != t {
+        return false;
+    }
+    b == 0
+}
+
+// One element, which ends at `top` and has bindings up to `b`.
+fn element_ok(frames: &[u32], bindings: &[u32], work: &[u8], n: usize, top: usize, b: usize) -> bool
+    requires { ⌜ (n * 18 + 18 ≤ length (now frames)) × (b * 3 ≤ length (now bindings)) × (top ≤ length (now work)) ⌝ }
+    ensures { λ r. ⌜ r ≡ elementOk (now (frames .entry)) (now (bindings .entry)) (now (work .entry)) n top b ⌝ }
+{
+    let f = Frame::load(frames, n);
+    let kind = f.kind;
+    let at = f.at;
+    let has = f.has;
+    let first = wide(has[7]);
+    if wide(at[8]) != top {
+        return false;
+    }
+    if !rises(at) {
+        return false;
+    }
+    if !parts_ok(f) {
+        return false;
+    }
+    if b < first {
+        return false;
+    }
+    if !chained(bindings, first, b - first, wide(at[1]), wide(at[2])) {
+        return false;
+    }
+    if !kind_ok(f, work) {
+        return false;
+    }
+    stands(kind, frames, n)
+}
+
+// Do the nine places go up?
+fn rises(at: [u32; 9]) -> bool
+    ensures { λ r. ⌜ r ≡ rises at 8 ⌝ }
+{
+    let mut k: usize = 8;
+    while k > 0 {
+        if at[k] < at[k - 1] {
+            return false;
+        }
+        k -= 1;
+    }
+    true
+}
+
+// A part that is missing is empty.
+fn empty_or(h: u32, a: u32, b: u32) -> bool
+    ensures { λ r. ⌜ r ≡ emptyOr h a b ⌝ }
+{
+    if h == 0 { a == b } else { true }
+}
+
+fn parts_ok(f: Frame) -> bool
+    ensures { λ r. ⌜ r ≡ partsOk f ⌝ }
+{
+    let at = f.at;
+    let has = f.has;
+    let a = empty_or(has[0], at[2], at[3]);
+    let b = empty_or(has[1], at[3], at[4]);
+    let c = empty_or(has[3], at[5], at[6]);
+    let d = empty_or(has[4], at[6], at[7]);
+    a & (b & (c & d))
+}
+
+// Do `n` bindings from `b` on lie end to end?
+fn chained(bindings: &[u32], b: usize, n: usize, from: usize, to: usize) -> bool
+    requires { ⌜ (b + n) * 3 ≤ length (now bindings) ⌝ }
+    ensures { λ r. ⌜ r ≡ chained (now (bindings .entry)) b n from to ⌝ }
+{
+    let mut i = n;
+    let mut t = to;
+    while i > 0 {
+        i -= 1;
+        let row = Row::load(bindings, b + i);
+        let at = wide(row.at);
+        if at + wide(row.name) + wide(row.more) != t {
+            return false;
+        }
+        t = at;
+    }
+    from == t
+}
+
+// Do `n` children lie end to end from `from` up to `to`?
+fn children_ok(work: &[u8], from: usize, n: usize, to: usize) -> bool
+    requires { ⌜ (to ≤ length (now work)) × (from < 4294967296) ⌝ }
+    ensures { λ r. ⌜ r ≡ childrenOk (now (work .entry)) from n to ⌝ }
+{
+    let mut i = n;
+    let mut e = to;
+    while i > 0 {
+        i -= 1;
+        if e < from + 4 {
+            return false;
+        }
+        let size = child_size(work, e);
+        if e < from + 4 + size {
+            return false;
+        }
+        e = e - 4 - size;
+    }
+    from == e
+}
+
+// What its kind does not have is empty.
+fn kind_ok(f: Frame, work: &[u8]) -> bool
+    requires { ⌜ at f 8 ≤ length (now work) ⌝ }
+    ensures { λ r. ⌜ r ≡ kindOk (f .kind) f (now (work .entry)) ⌝ }
+{
+    let kind = f.kind;
+    let at = f.at;
+    let has = f.has;
+    match kind {
+        Kind::Rdf => at[4] == at[8],
+        Kind::NodeElt => {
+            if at[5] != at[8] {
+                return false;
+            }
+            has[6] as u64 <= BlankNodeIdGenerator::MOST_LABELS
+        }
+        Kind::PropertyElt => empty_or(has[5], at[7], at[8]),
+        Kind::ParseTypeCollectionPropertyElt => {
+            if at[6] != at[7] {
+                return false;
+            }
+            children_ok(work, wide(at[7]), wide(has[6]), wide(at[8]))
+        }
+        Kind::ParseTypeLiteralPropertyElt => at[6] == at[7],
+        Kind::ParseTypeOtherPropertyElt => at[6] == at[8],
+    }
+}
+
+fn is_node(kind: Kind) -> bool
+    ensures { λ r. ⌜ r ≡ isNode kind ⌝ }
+{
+    match kind {
+        Kind::Rdf => false,
+        Kind::NodeElt => true,
+        Kind::PropertyElt => false,
+        Kind::ParseTypeCollectionPropertyElt => false,
+        Kind::ParseTypeLiteralPropertyElt => false,
+        Kind::ParseTypeOtherPropertyElt => false,
+    }
+}
+
+// Is the element around element `n` a node?
+fn node_below(frames: &[u32], n: usize) -> bool
+    requires { ⌜ n * 18 ≤ length (now frames) ⌝ }
+    ensures { λ r. ⌜ r ≡ nodeBelow (now (frames .entry)) n ⌝ }
+{
+    if n == 0 {
+        return false;
+    }
+    let f = Frame::load(frames, n - 1);
+    let kind = f.kind;
+    is_node(kind)
+}
+
+// A property stands in a node.
+fn stands(kind: Kind, frames: &[u32], n: usize) -> bool
+    requires { ⌜ n * 18 ≤ length (now frames) ⌝ }
+    ensures { λ r. ⌜ r ≡ stands kind (now (frames .entry)) n ⌝ }
+{
+    match kind {
+        Kind::Rdf => true,
+        Kind::NodeElt => true,
+        Kind::PropertyElt => node_below(frames, n),
+        Kind::ParseTypeCollectionPropertyElt => node_below(frames, n),
+        Kind::ParseTypeLiteralPropertyElt => node_below(frames, n),
+        Kind::ParseTypeOtherPropertyElt => node_below(frames, n),
+    }
+}
+
+// The size of the child that ends at `e`.
+fn child_size(work: &[u8], e: usize) -> usize
+    requires { ⌜ (4 ≤ e) × (e ≤ length (now work)) ⌝ }
+    ensures { λ r. ⌜ (r ≡ childSize (now (work .entry)) e) × (r < 65536) ⌝ }
+{
+    byte(work[e - 4]) + 256 * byte(work[e - 3])
+}
+
+// A word, and a byte, as a number.
+fn wide(x: u32) -> usize
+    ensures { λ r. ⌜ (r ≡ x) × (r < 4294967296) ⌝ }
+{
+    x as usize
+}
+
+fn byte(x: u8) -> usize
+    ensures { λ r. ⌜ (r ≡ x) × (r < 256) ⌝ }
+{
+    x as usize
+}
