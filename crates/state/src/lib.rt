@@ -8,6 +8,7 @@ ghost use lib.ListN.{length};
 ghost use Rattle.frames.specs.Words.{pick};
 ghost use Rattle.state.specs.Meaning.{at, childSize};
 ghost use Rattle.state.specs.Valid.{rises, emptyOr, partsOk, chained, childrenOk, kindOk, isNode, nodeBelow, stands, elementOk, framesOk, ceiling, innersOk, countsOk, lengthsOk, validState};
+use frames::wide;
 use frames::Frame;
 use frames::Kind;
 use frames::Row;
@@ -358,13 +359,7 @@ fn child_size(work: &[u8], e: usize) -> usize
     byte(work[e - 4]) + 256 * byte(work[e - 3])
 }
 
-// A word, and a byte, as a number.
-fn wide(x: u32) -> usize
-    ensures { λ r. ⌜ (r ≡ x) × (r < 4294967296) ⌝ }
-{
-    x as usize
-}
-
+// A byte as a number.
 fn byte(x: u8) -> usize
     ensures { λ r. ⌜ (r ≡ x) × (r < 256) ⌝ }
 {
