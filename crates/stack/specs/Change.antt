@@ -191,7 +191,7 @@ module _ {r : Registers} {fs bs is w : List ℕ} (x : Valid r fs bs is w) (n : �
         count = refl;
       }
 
--- ---- a change to the frame on top, while elements inside Literal content may stand open
+  -- ---- a change to the frame on top, while elements inside Literal content may stand open
 
   pub changed : {gs v : List ℕ} {f : Frame} {top : ℕ} → On fs gs bs bs w v f (r .base) n (at (frameAt fs n) 0) (first (frameAt fs n)) top (r .outer)
       → Kept w v (r .low) 65_536 → length gs ≡ length fs → length v ≡ length w → top ≤ r .low

@@ -5,10 +5,10 @@ ghost use Prim.Native.Nat.{_+_, _-_, _*_, _≤_, _<_};
 ghost use lib.ListN.{length};
 ghost use Rattle.stack.specs.Change.{toppedTo};
 ghost use Rattle.stack.specs.Calls.{Pushes, Pops, Binds, topFrame, sameKind, Texts, Xmls, Counts, Tails};
-use frames::wide;
 use frames::Frame;
 use frames::Kind;
 use frames::Row;
+use frames::wide;
 use label::BlankNodeIdGenerator;
 use state::Registers;
 
@@ -107,7 +107,14 @@ pub fn pop(r: Registers, frames: &[u32]) -> Changed
 }
 
 // A binding as row `n`, its prefix and namespace from `at` on.
-pub fn bind(work: &mut [u8], bindings: &mut [u32], at: usize, n: usize, prefix: &[u8], namespace: &[u8]) -> bool
+pub fn bind(
+    work: &mut [u8],
+    bindings: &mut [u32],
+    at: usize,
+    n: usize,
+    prefix: &[u8],
+    namespace: &[u8],
+) -> bool
     ensures { λ r. ⌜ Binds (now (work .entry)) (now (bindings .entry)) at n (now (prefix .entry)) (now (namespace .entry)) (now (work .exit)) (now (bindings .exit)) r ⌝ }
 {
     if work.len() > Registers::STORE {
@@ -208,7 +215,15 @@ pub fn count_li(r: Registers, frames: &mut [u32]) -> bool
 }
 
 // `s` into the work store from `from` on, as the tail of frame `f`, which is the one on top.
-fn write_tail(r: Registers, frames: &mut [u32], work: &mut [u8], f: Frame, from: usize, what: u32, s: &[u8]) -> Changed
+fn write_tail(
+    r: Registers,
+    frames: &mut [u32],
+    work: &mut [u8],
+    f: Frame,
+    from: usize,
+    what: u32,
+    s: &[u8],
+) -> Changed
     ensures { λ c. ⌜ Tails r (now (frames .entry)) (now (work .entry)) f from what (now (s .entry)) c (now (frames .exit)) (now (work .exit)) ⌝ }
 {
     let no = Changed {

@@ -8,10 +8,10 @@ ghost use lib.ListN.{length};
 ghost use Rattle.frames.specs.Words.{pick};
 ghost use Rattle.state.specs.Meaning.{at, childSize};
 ghost use Rattle.state.specs.Valid.{rises, emptyOr, partsOk, chained, childrenOk, kindOk, isNode, nodeBelow, stands, elementOk, framesOk, ceiling, innersOk, countsOk, lengthsOk, validState};
-use frames::wide;
 use frames::Frame;
 use frames::Kind;
 use frames::Row;
+use frames::wide;
 use label::BlankNodeIdGenerator;
 
 // The numbers of a document. `base` is the start base's length; `depth` counts the open elements outside Literal content, `inner` those
