@@ -224,13 +224,16 @@ pub frame-kept : {fs gs : List ℕ} {lo hi : ℕ} → Kept fs gs lo hi → (i : 
 unfolding frameAt
 frame-kept k i l h = rw (k .parts (i * 18) 18 l h)
 
+pub row-there : {ws vs : List ℕ} {r : Row} (i : ℕ) → Wrote ws vs (i * 3) (i * 3 + 3) (rowWords r) → rowAt vs i ≡ r
+unfolding rowAt rowOf
+row-there i p = rw (wrote-part p)
+
 module _ {ws vs : List ℕ} {i : ℕ} {r : Row} {b : Bool} (s : StoredRow ws i r vs b) (h : i * 3 + 3 ≤ length ws) where
   pub row-wrote : Wrote ws vs (i * 3) (i * 3 + 3) (rowWords r)
   row-wrote = record { room = h; up = refl; eq = s .wrote h }
 
   pub row-load-store : rowAt vs i ≡ r
-  unfolding rowAt rowOf
-  row-load-store = rw (wrote-part row-wrote)
+  row-load-store = row-there i row-wrote
 
 pub row-kept : {ws vs : List ℕ} {lo hi : ℕ} → Kept ws vs lo hi → (i : ℕ) → lo ≤ i * 3 → i * 3 + 3 ≤ hi → rowAt vs i ≡ rowAt ws i
 unfolding rowAt

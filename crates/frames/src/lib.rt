@@ -1,5 +1,6 @@
 // What is kept of a document between events, as numbers: the records of its tables, and how they stand in lent words.
 ghost use mathlib.Core.Path.{_≡_};
+ghost use Prim.Native.Nat.{_<_};
 ghost use Rattle.copy.specs.Copy.{Put};
 ghost use Rattle.frames.specs.Words.{kindOf, kindNumber, loadFrame, StoredFrame, noFrame, loadRow, StoredRow};
 
@@ -156,6 +157,13 @@ impl Row {
         rows[from + 2] = r.more;
         true
     }
+}
+
+// A word as a number.
+pub fn wide(x: u32) -> usize
+    ensures { λ r. ⌜ (r ≡ x) × (r < 4294967296) ⌝ }
+{
+    x as usize
 }
 
 // All of `src` into `dst`, from `at` on. Where it does not fit, nothing changes and the answer is false.

@@ -197,7 +197,7 @@ pub record Room (r : Registers) : Type 0 where
   pub outer : r .outer ≤ r .bindings
   pub base : r .base ≤ r .top
 
-frames-base : (fs bs w : List ℕ) (base n top b : ℕ) → framesOk fs bs w base n top b ≡ true → base ≤ top
+pub frames-base : (fs bs w : List ℕ) (base n top b : ℕ) → framesOk fs bs w base n top b ≡ true → base ≤ top
 unfolding framesOk
 frames-base fs bs w base zero top b h = omega (arith, eqb-true base top (and-left (eqb base top) _ h))
 frames-base fs bs w base (suc n) top b h =

@@ -188,7 +188,7 @@ module _ {w v : List ℕ} {hi : ℕ} (k : Kept w v 0 hi) (f : Frame) (r : Rising
 
 -- ---- elements outside Literal content
 
-stands-kept : {fs gs : List ℕ} (n : ℕ) → Kept fs gs 0 (n * 18) → (q : Kind) → stands q gs n ≡ stands q fs n
+pub stands-kept : {fs gs : List ℕ} (n : ℕ) → Kept fs gs 0 (n * 18) → (q : Kind) → stands q gs n ≡ stands q fs n
 unfolding stands nodeBelow
 stands-kept {fs} {gs} n k q = go q
   where

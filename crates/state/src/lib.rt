@@ -11,6 +11,7 @@ ghost use Rattle.state.specs.Valid.{rises, emptyOr, partsOk, chained, ch
 use frames::Frame;
 use frames::Kind;
 use frames::Row;
+use frames::wide;
 use label::BlankNodeIdGenerator;
 
 // The numbers of a document. `base` is the start base's length; `depth` counts the open elements outside Literal content, `inner` those
@@ -358,13 +359,7 @@ fn child_size(work: &[u8], e: usize) -> usize
     byte(work[e - 4]) + 256 * byte(work[e - 3])
 }
 
-// A word, and a byte, as a number.
-fn wide(x: u32) -> usize
-    ensures { λ r. ⌜ (r ≡ x) × (r < 4294967296) ⌝ }
-{
-    x as usize
-}
-
+// A byte as a number.
 fn byte(x: u8) -> usize
     ensures { λ r. ⌜ (r ≡ x) × (r < 256) ⌝ }
 {

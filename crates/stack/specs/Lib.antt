@@ -1,0 +1,4 @@
+pub mod Change
+pub mod Calls
+pub mod Top
+pub mod Laws

@@ -1,0 +1,286 @@
+// The open elements of a document as a stack: what an event may do at its top. Every call answers on every input; what it did to a
+// valid state is said by the laws of specs/.
+ghost use mathlib.Core.Path.{_≡_};
+ghost use Prim.Native.Nat.{_+_, _-_, _*_, _≤_, _<_};
+ghost use lib.ListN.{length};
+ghost use Rattle.stack.specs.Change.{toppedTo};
+ghost use Rattle.stack.specs.Calls.{Pushes, Pops, Binds, topFrame, sameKind, Texts, Xmls, Counts, Tails};
+use frames::Frame;
+use frames::Kind;
+use frames::Row;
+use frames::wide;
+use label::BlankNodeIdGenerator;
+use state::Registers;
+
+// What a change answers. Where it cannot be made `ok` is false, and nothing changed.
+pub struct Changed {
+    pub ok: bool,
+    pub registers: Registers,
+}
+
+// Bytes of the work store, if they are there.
+pub struct Found {
+    pub there: bool,
+    pub at: usize,
+    pub len: usize,
+}
+
+// ---- elements outside Literal content
+
+// One more element, whose bytes stand in the work store from `top` on, with bindings up to `bound`.
+pub fn push(r: Registers, frames: &mut [u32], f: Frame, bound: usize) -> Changed
+    ensures { λ c. ⌜ Pushes r (now (frames .entry)) f bound c (now (frames .exit)) ⌝ }
+{
+    let at = f.at;
+    if r.inner != 0 {
+        return Changed {
+            ok: false,
+            registers: r,
+        };
+    }
+    if r.depth >= Frame::MOST {
+        return Changed {
+            ok: false,
+            registers: r,
+        };
+    }
+    if !Frame::store(frames, r.depth, f) {
+        return Changed {
+            ok: false,
+            registers: r,
+        };
+    }
+    Changed {
+        ok: true,
+        registers: Registers {
+            closed: r.closed,
+            rooted: true,
+            based: r.based,
+            base: r.base,
+            depth: r.depth + 1,
+            inner: r.inner,
+            outer: bound,
+            bindings: bound,
+            top: wide(at[8]),
+            low: r.low,
+            labels: r.labels,
+        },
+    }
+}
+
+// One less; its bytes and bindings may be used again.
+pub fn pop(r: Registers, frames: &[u32]) -> Changed
+    ensures { λ c. ⌜ Pops r (now (frames .entry)) c ⌝ }
+{
+    if r.inner != 0 {
+        return Changed {
+            ok: false,
+            registers: r,
+        };
+    }
+    if r.depth == 0 {
+        return Changed {
+            ok: false,
+            registers: r,
+        };
+    }
+    let f = Frame::load(frames, r.depth - 1);
+    let at = f.at;
+    let has = f.has;
+    let first = wide(has[7]);
+    Changed {
+        ok: true,
+        registers: Registers {
+            closed: r.closed,
+            rooted: r.rooted,
+            based: r.based,
+            base: r.base,
+            depth: r.depth - 1,
+            inner: r.inner,
+            outer: first,
+            bindings: first,
+            top: wide(at[0]),
+            low: r.low,
+            labels: r.labels,
+        },
+    }
+}
+
+// A binding as row `n`, its prefix and namespace from `at` on.
+pub fn bind(
+    work: &mut [u8],
+    bindings: &mut [u32],
+    at: usize,
+    n: usize,
+    prefix: &[u8],
+    namespace: &[u8],
+) -> bool
+    ensures { λ r. ⌜ Binds (now (work .entry)) (now (bindings .entry)) at n (now (prefix .entry)) (now (namespace .entry)) (now (work .exit)) (now (bindings .exit)) r ⌝ }
+{
+    if work.len() > Registers::STORE {
+        return false;
+    }
+    if work.len() < at {
+        return false;
+    }
+    if work.len() - at < prefix.len() {
+        return false;
+    }
+    let middle = at + prefix.len();
+    if work.len() - middle < namespace.len() {
+        return false;
+    }
+    let row = Row {
+        at: at as u32,
+        name: prefix.len() as u32,
+        more: namespace.len() as u32,
+    };
+    if !Row::store(bindings, n, row) {
+        return false;
+    }
+    copy::put(work, at, prefix);
+    copy::put(work, middle, namespace);
+    true
+}
+
+// The frame on top; where there is none, no frame.
+pub fn top(r: Registers, frames: &[u32]) -> Frame
+    ensures { λ f. ⌜ f ≡ topFrame r (now (frames .entry)) ⌝ }
+{
+    if r.depth == 0 {
+        return Frame::none();
+    }
+    Frame::load(frames, r.depth - 1)
+}
+
+// The text of the default property on top, in place of the object so far.
+pub fn set_text(r: Registers, frames: &mut [u32], work: &mut [u8], text: &[u8]) -> Changed
+    ensures { λ c. ⌜ Texts r (now (frames .entry)) (now (work .entry)) (now (text .entry)) c (now (frames .exit)) (now (work .exit)) ⌝ }
+{
+    let f = top(r, frames);
+    let at = f.at;
+    let kind = f.kind;
+    if !same_kind(kind, Kind::PropertyElt) {
+        return Changed {
+            ok: false,
+            registers: r,
+        };
+    }
+    write_tail(r, frames, work, f, wide(at[7]), 3, text)
+}
+
+// More XML text of the Literal property on top; any other parseType keeps none.
+pub fn add_xml(r: Registers, frames: &mut [u32], work: &mut [u8], text: &[u8]) -> Changed
+    ensures { λ c. ⌜ Xmls r (now (frames .entry)) (now (work .entry)) (now (text .entry)) c (now (frames .exit)) (now (work .exit)) ⌝ }
+{
+    let f = top(r, frames);
+    let at = f.at;
+    let has = f.has;
+    let kind = f.kind;
+    if same_kind(kind, Kind::ParseTypeOtherPropertyElt) {
+        return Changed {
+            ok: true,
+            registers: r,
+        };
+    }
+    if !same_kind(kind, Kind::ParseTypeLiteralPropertyElt) {
+        return Changed {
+            ok: false,
+            registers: r,
+        };
+    }
+    write_tail(r, frames, work, f, wide(at[8]), has[5], text)
+}
+
+// One more rdf:li of the node on top.
+pub fn count_li(r: Registers, frames: &mut [u32]) -> bool
+    ensures { λ b. ⌜ Counts r (now (frames .entry)) b (now (frames .exit)) ⌝ }
+{
+    let f = top(r, frames);
+    let at = f.at;
+    let mut has = f.has;
+    let kind = f.kind;
+    if !same_kind(kind, Kind::NodeElt) {
+        return false;
+    }
+    if r.depth == 0 {
+        return false;
+    }
+    let count = has[6];
+    if count as u64 >= BlankNodeIdGenerator::MOST_LABELS {
+        return false;
+    }
+    has[6] = count + 1;
+    Frame::store(frames, r.depth - 1, Frame { kind, at, has })
+}
+
+// `s` into the work store from `from` on, as the tail of frame `f`, which is the one on top.
+fn write_tail(
+    r: Registers,
+    frames: &mut [u32],
+    work: &mut [u8],
+    f: Frame,
+    from: usize,
+    what: u32,
+    s: &[u8],
+) -> Changed
+    ensures { λ c. ⌜ Tails r (now (frames .entry)) (now (work .entry)) f from what (now (s .entry)) c (now (frames .exit)) (now (work .exit)) ⌝ }
+{
+    let no = Changed {
+        ok: false,
+        registers: r,
+    };
+    if r.depth == 0 {
+        return no;
+    }
+    if r.low > Registers::STORE {
+        return no;
+    }
+    if work.len() < r.low {
+        return no;
+    }
+    if r.low < from {
+        return no;
+    }
+    if r.low - from < s.len() {
+        return no;
+    }
+    let to = from + s.len();
+    let mut at = f.at;
+    let mut has = f.has;
+    let kind = f.kind;
+    at[8] = to as u32;
+    has[5] = what;
+    if !Frame::store(frames, r.depth - 1, Frame { kind, at, has }) {
+        return no;
+    }
+    copy::put(work, from, s);
+    Changed {
+        ok: true,
+        registers: with_top(r, to),
+    }
+}
+
+fn with_top(r: Registers, top: usize) -> Registers
+    ensures { λ q. ⌜ q ≡ toppedTo r top ⌝ }
+{
+    Registers {
+        closed: r.closed,
+        rooted: r.rooted,
+        based: r.based,
+        base: r.base,
+        depth: r.depth,
+        inner: r.inner,
+        outer: r.outer,
+        bindings: r.bindings,
+        top,
+        low: r.low,
+        labels: r.labels,
+    }
+}
+
+fn same_kind(a: Kind, b: Kind) -> bool
+    ensures { λ r. ⌜ r ≡ sameKind a b ⌝ }
+{
+    a.word() == b.word()
+}
