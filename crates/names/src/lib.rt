@@ -269,7 +269,7 @@ pub fn lookup(
     }
 }
 
-// The namespace of an element's name, whose colon is at c: it is known, and not empty. Else `Unknown`, and the refusal is 8.
+// The namespace of an element's name, known and not empty; else `Unknown`, and the refusal is 8. c is its colon's place plus 1, or 0.
 pub fn element(
     name: &[u8],
     c: usize,
@@ -629,6 +629,7 @@ fn row_word(rows: &[u32], i: usize, f: usize) -> usize
     wide(rows[from + f])
 }
 
+// The three of them.
 fn numbers(what: usize, at: usize, size: usize) -> ClassWords
     ensures { λ r. ⌜ r ≡ record { what = what; at = at; size = size } ⌝ }
 {
