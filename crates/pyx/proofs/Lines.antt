@@ -95,6 +95,10 @@ module _ {A B : Type 0} (f : A → Answer B) (a : A) (l : List A) where
   unfolding each _>>=_
   each-refuse n e = rw e refl
 
+-- a test for none failed
+pub positive : {n : ℕ} → (n ≡ 0 → ⊥) → 0 < n
+positive h = omega arith
+
 -- ---- what is kept of the scratch
 
 pub kept-all : {d : List ℕ} {n : ℕ} → Kept d d n
