@@ -184,7 +184,7 @@ push-holds {r} {fs} {bs} {is} {w} {gs} {cs} {v} {f} {b} {c} {bound} x p y n =
 
 -- ---- a pop
 
-may-pop : (r : Registers) → mayPop r ≡ true → (r .inner ≡ 0) × (0 < r .depth)
+pub may-pop : (r : Registers) → mayPop r ≡ true → (r .inner ≡ 0) × (0 < r .depth)
 unfolding mayPop
 may-pop r m = (eqb-true _ _ (and-left (eqb (r .inner) 0) _ m), ltb-true _ _ (and-right (eqb (r .inner) 0) _ m))
 
@@ -312,11 +312,11 @@ module _ {r : Registers} {fs bs is w s gs v : List ℕ} {from what : ℕ} {c : C
       let res = retailed x n (k .depth) (onValue h) al st (kept-less (kept-before wr) (omega arith) l′) (kept-less (kept-behind 65_536 wr) (t .room) (omega arith)) (p .sameBytes) (omega (arith, te)) (omega (arith, te, t .room)) kd wt in
       rw (p .moved m, ← te, ← topped-change x n (k .depth) h) res
 
-by : {A : Type 0} (b : Bool) → (b ≡ true → A) → (b ≡ false → A) → A
+pub by : {A : Type 0} (b : Bool) → (b ≡ true → A) → (b ≡ false → A) → A
 by true f g = f refl
 by false f g = g refl
 
-is-property : (k : Kind) → sameKind k PropertyElt ≡ true → k ≡ PropertyElt
+pub is-property : (k : Kind) → sameKind k PropertyElt ≡ true → k ≡ PropertyElt
 is-property Rdf e = absurd (false≢true e)
 is-property NodeElt e = absurd (false≢true e)
 is-property PropertyElt e = refl
@@ -324,7 +324,7 @@ is-property ParseTypeCollectionPropertyElt e = absurd (false≢true e)
 is-property ParseTypeLiteralPropertyElt e = absurd (false≢true e)
 is-property ParseTypeOtherPropertyElt e = absurd (false≢true e)
 
-is-literal : (k : Kind) → sameKind k ParseTypeLiteralPropertyElt ≡ true → k ≡ ParseTypeLiteralPropertyElt
+pub is-literal : (k : Kind) → sameKind k ParseTypeLiteralPropertyElt ≡ true → k ≡ ParseTypeLiteralPropertyElt
 is-literal Rdf e = absurd (false≢true e)
 is-literal NodeElt e = absurd (false≢true e)
 is-literal PropertyElt e = absurd (false≢true e)
@@ -332,7 +332,7 @@ is-literal ParseTypeCollectionPropertyElt e = absurd (false≢true e)
 is-literal ParseTypeLiteralPropertyElt e = refl
 is-literal ParseTypeOtherPropertyElt e = absurd (false≢true e)
 
-is-other : (k : Kind) → sameKind k ParseTypeOtherPropertyElt ≡ true → k ≡ ParseTypeOtherPropertyElt
+pub is-other : (k : Kind) → sameKind k ParseTypeOtherPropertyElt ≡ true → k ≡ ParseTypeOtherPropertyElt
 is-other Rdf e = absurd (false≢true e)
 is-other NodeElt e = absurd (false≢true e)
 is-other PropertyElt e = absurd (false≢true e)
@@ -340,7 +340,7 @@ is-other ParseTypeCollectionPropertyElt e = absurd (false≢true e)
 is-other ParseTypeLiteralPropertyElt e = absurd (false≢true e)
 is-other ParseTypeOtherPropertyElt e = refl
 
-is-node : (k : Kind) → sameKind k NodeElt ≡ true → k ≡ NodeElt
+pub is-node : (k : Kind) → sameKind k NodeElt ≡ true → k ≡ NodeElt
 is-node Rdf e = absurd (false≢true e)
 is-node NodeElt e = refl
 is-node PropertyElt e = absurd (false≢true e)
@@ -418,7 +418,7 @@ unfolding onValue takesXml whatOf
 other-stays f w t u e = ap (λ (k : Kind). onValue (takesXml t) (whatOf k f w u)) e ∙ ap (λ (k : Kind). whatOf k f w u) (sym e)
 
 -- the kind of a frame that is there
-top-deep : (r : Registers) (fs : List ℕ) → (topFrame r fs .kind ≡ Rdf → ⊥) → 0 < r .depth
+pub top-deep : (r : Registers) (fs : List ℕ) → (topFrame r fs .kind ≡ Rdf → ⊥) → 0 < r .depth
 unfolding topFrame
 top-deep r fs h =
     by (eqb (r .depth) 0)

@@ -261,7 +261,7 @@ fn write_tail(
     }
 }
 
-fn with_top(r: Registers, top: usize) -> Registers
+pub fn with_top(r: Registers, top: usize) -> Registers
     ensures { λ q. ⌜ q ≡ toppedTo r top ⌝ }
 {
     Registers {
@@ -279,7 +279,7 @@ fn with_top(r: Registers, top: usize) -> Registers
     }
 }
 
-fn same_kind(a: Kind, b: Kind) -> bool
+pub fn same_kind(a: Kind, b: Kind) -> bool
     ensures { λ r. ⌜ r ≡ sameKind a b ⌝ }
 {
     a.word() == b.word()

@@ -1,0 +1,194 @@
+// Elements inside Literal content, which stand at the far end of the work store; and what is read of all open elements.
+ghost use mathlib.Core.Path.{_≡_};
+ghost use Prim.Native.Nat.{_+_, _-_, _*_, _≤_, _<_};
+ghost use mathlib.Core.Bool.{true};
+ghost use Rattle.stack.specs.Change.{insideTo};
+ghost use Rattle.inside.specs.Calls.{Opens, Closes, ceilingIn, nameIn, innermostIn, baseIn, languageIn, heldIn};
+use frames::wide;
+use frames::Frame;
+use frames::Row;
+use stack::Changed;
+use stack::Found;
+use state::Registers;
+
+// One more element inside, whose name and bindings stand in the work store from `at` up to `low`, with bindings up to `bound`.
+pub fn open_inside(r: Registers, inners: &mut [u32], at: usize, name: usize, bound: usize) -> Changed
+    ensures { λ c. ⌜ Opens r (now (inners .entry)) at name bound c (now (inners .exit)) ⌝ }
+{
+    let no = Changed {
+        ok: false,
+        registers: r,
+    };
+    if r.depth > Frame::MOST {
+        return no;
+    }
+    if r.inner >= Frame::MOST - r.depth {
+        return no;
+    }
+    if at > Registers::STORE {
+        return no;
+    }
+    if name > Registers::STORE {
+        return no;
+    }
+    if r.bindings > Row::MOST_BINDINGS {
+        return no;
+    }
+    let row = Row {
+        at: at as u32,
+        name: name as u32,
+        more: r.bindings as u32,
+    };
+    if !Row::store(inners, r.inner, row) {
+        return no;
+    }
+    Changed {
+        ok: true,
+        registers: inside(r, r.inner + 1, at, bound),
+    }
+}
+
+// One less.
+pub fn close_inside(r: Registers, inners: &[u32]) -> Changed
+    ensures { λ c. ⌜ Closes r (now (inners .entry)) c ⌝ }
+{
+    if r.inner == 0 {
+        return Changed {
+            ok: false,
+            registers: r,
+        };
+    }
+    let n = r.inner - 1;
+    let row = Row::load(inners, n);
+    Changed {
+        ok: true,
+        registers: inside(r, n, ceiling(inners, n), wide(row.more)),
+    }
+}
+
+// The name of the innermost open element.
+pub fn name(r: Registers, frames: &[u32], inners: &[u32]) -> Found
+    ensures { λ f. ⌜ f ≡ nameIn r (now (frames .entry)) (now (inners .entry)) ⌝ }
+{
+    if r.inner != 0 {
+        let row = Row::load(inners, r.inner - 1);
+        return Found {
+            there: true,
+            at: wide(row.at),
+            len: wide(row.name),
+        };
+    }
+    if r.depth == 0 {
+        return Found {
+            there: false,
+            at: 0,
+            len: 0,
+        };
+    }
+    let f = Frame::load(frames, r.depth - 1);
+    let at = f.at;
+    between(wide(at[0]), wide(at[1]))
+}
+
+// xml:base in force, from the start base at last.
+pub fn base_in_force(r: Registers, frames: &[u32]) -> Found
+    ensures { λ f. ⌜ f ≡ baseIn r (now (frames .entry)) ⌝ }
+{
+    let f = innermost(frames, r.depth, 0, 2);
+    if f.there {
+        return f;
+    }
+    Found {
+        there: r.based,
+        at: 0,
+        len: r.base,
+    }
+}
+
+// xml:lang in force.
+pub fn language_in_force(r: Registers, frames: &[u32]) -> Found
+    ensures { λ f. ⌜ f ≡ languageIn r (now (frames .entry)) ⌝ }
+{
+    innermost(frames, r.depth, 1, 3)
+}
+
+// Held bytes.
+pub fn held(r: Registers) -> usize
+    ensures { λ n. ⌜ n ≡ heldIn r ⌝ }
+{
+    if r.low > Registers::STORE {
+        return Registers::STORE;
+    }
+    if r.top > r.low {
+        return Registers::STORE;
+    }
+    r.top + (Registers::STORE - r.low)
+}
+
+// The part that starts at `place` of the innermost frame that has it.
+fn innermost(frames: &[u32], depth: usize, mark: usize, place: usize) -> Found
+    requires { ⌜ (mark < 8) × (place < 8) ⌝ }
+    ensures { λ f. ⌜ f ≡ innermostIn (now (frames .entry)) mark place depth ⌝ }
+{
+    let mut i = depth;
+    while i > 0 {
+        i -= 1;
+        let f = Frame::load(frames, i);
+        let at = f.at;
+        let has = f.has;
+        if has[mark] != 0 {
+            return between(wide(at[place]), wide(at[place + 1]));
+        }
+    }
+    Found {
+        there: false,
+        at: 0,
+        len: 0,
+    }
+}
+
+fn between(a: usize, b: usize) -> Found
+    ensures { λ f. ⌜ (f .there ≡ true) × (f .at ≡ a) × (f .len ≡ b - a) ⌝ }
+{
+    if b < a {
+        return Found {
+            there: true,
+            at: a,
+            len: 0,
+        };
+    }
+    Found {
+        there: true,
+        at: a,
+        len: b - a,
+    }
+}
+
+// Where inner element `i` ends.
+fn ceiling(inners: &[u32], i: usize) -> usize
+    ensures { λ r. ⌜ r ≡ ceilingIn (now (inners .entry)) i ⌝ }
+{
+    if i == 0 {
+        return Registers::STORE;
+    }
+    let row = Row::load(inners, i - 1);
+    wide(row.at)
+}
+
+fn inside(r: Registers, inner: usize, low: usize, bound: usize) -> Registers
+    ensures { λ q. ⌜ q ≡ insideTo r inner low bound ⌝ }
+{
+    Registers {
+        closed: r.closed,
+        rooted: r.rooted,
+        based: r.based,
+        base: r.base,
+        depth: r.depth,
+        inner,
+        outer: r.outer,
+        bindings: bound,
+        top: r.top,
+        low,
+        labels: r.labels,
+    }
+}

@@ -1,0 +1,328 @@
+-- What a node that closes does to a valid state, said of the document that it means.
+use Prim.Native.Nat.{ℕ, zero, suc, _+_, _-_, _*_, _/_, _%_, _<_, _≤_}
+use mathlib.Core.Path.{_≡_, refl, sym, ap, _∙_}
+use mathlib.Core.Bool.{Bool, true, false, _&&_, not, false≢true}
+use mathlib.Core.List.{List, [], _∷_, _++_}
+use native.Mathlib.Omega.{arith}
+use native.Mathlib.Numerals.{add-one}
+use lib.Dec.{eqb, leb, ltb}
+use lib.ListN.{length, getD, set, length-set, length-append}
+use lib.Seq.{getD-set-same, getD-set-other}
+use borrow.Author.Tests.{eqb-true, leb-true, ltb-true, eq-eqb, ne-eqb, le-leb}
+use Rattle.spec.proofs.Booleans.{and-left, and-right}
+use Rattle.spec.specs.NTriples.{Subject, named, blank}
+use Rattle.spec.specs.Document.{Object, nodeObject, textObject, noObject, Value, default, collection, literal, other, Kind as What, rdfRDF, nodeElement, propertyElement, xmlElement, Frame as Element, onValue, changeValue}
+use Rattle.spec.specs.EndTag.{takesNode}
+use Rattle.copy.specs.Copy.{part, storedAt, Wrote, wrote-part, wrote-same, length-part}
+use Rattle.frames.specs.declared.Kind.{Kind}
+use Rattle.frames.specs.declared.Kind.the-variants.{Rdf, NodeElt, PropertyElt, ParseTypeCollectionPropertyElt, ParseTypeLiteralPropertyElt, ParseTypeOtherPropertyElt}
+use Rattle.frames.specs.declared.Frame.{Frame}
+use Rattle.frames.specs.Kept.{Kept as Stays, kept-less, kept-before, kept-behind}
+use Rattle.frames.specs.Words.{pick, frameAt, wordsOf, loadFrame, StoredFrame, load-frame}
+use Rattle.state.specs.declared.Registers.{Registers}
+use Rattle.state.specs.Meaning.{at, has, count, first, span, nodeOf, objectOf, childSize, childFrom, childOf, childrenOf, subjectOf, whatOf, elementOf, subjectBelow, framesOf, innersOf, startOf, elementsOf}
+use Rattle.state.specs.Valid.{emptyOr, childrenOk, kindOk, Rising, Valid, rising}
+use Rattle.state.specs.Stay.{LastChild, children-on, children-ok-kept, children-kept, Collected, collected, collected-ok}
+use Rattle.stack.specs.declared.Changed.{Changed}
+use Rattle.stack.specs.Change.{Holds, toppedTo, poppedTo, popped, top-frame, top-element}
+use Rattle.stack.specs.Calls.{topFrame, sameKind, tailTo, mayPop}
+use Rattle.stack.specs.Top.{Alike, alike-property, topped, retailed, topped-change, topped-same}
+use Rattle.stack.specs.Laws.{Fresh, by, is-property, is-node, may-pop, top-deep, topmost, tail-alike, tail-end, tail-what, length-at, length-has, stored-frame, front-of, back-of}
+use Rattle.nodes.specs.Take.{mayTake, mayChild, objectWord, blankByte, mainSize, objectFrame, childFrame, markOf, Taken, TakesNode, ClosesNode, mayClose, mayTakeNode, without, Movable, movable}
+
+-- ---- an object
+
+module _ (f n : Frame) (w v : List ℕ) (z : Fresh f) (wr : Wrote w v (at f 7) (at f 7 + mainSize n) (part w (at n 4) (mainSize n))) (l : at n 4 + mainSize n ≤ length w) where
+  object-kind : kindOk PropertyElt (objectFrame f n) v ≡ true
+  unfolding kindOk emptyOr objectWord
+  object-kind = rw (tail-what f (at f 7 + mainSize n) (objectWord (has n 2)) (z .places) (z .marks)) (go (eqb (has n 2) 0))
+    where
+      go : (t : Bool) → pick (eqb (pick t 1 2) 0) (eqb (at (objectFrame f n) 7) (at (objectFrame f n) 8)) true ≡ true
+      go true = refl
+      go false = refl
+
+  word-object : (h : ℕ) (s : List ℕ) → objectOf (objectWord h) s ≡ nodeObject (nodeOf h s)
+  unfolding objectOf objectWord nodeOf
+  word-object h s = go (eqb h 0)
+    where
+      go : (t : Bool) → pick (eqb (pick t 1 2) 0) noObject (pick (eqb (pick t 1 2) 1) (nodeObject (named s)) (pick (eqb (pick t 1 2) 2) (nodeObject (blank s)) (textObject s)))
+          ≡ nodeObject (pick t (named s) (blank s))
+      go true = refl
+      go false = refl
+
+  object-what : (u : Subject) → whatOf PropertyElt (objectFrame f n) v u ≡ onValue (takesNode (subjectOf n w)) (whatOf PropertyElt f w u)
+  unfolding whatOf onValue takesNode span subjectOf
+  object-what u =
+      let al = tail-alike f (at f 7 + mainSize n) (objectWord (has n 2)) (z .places) (z .marks) in
+      let up = z .up in
+      let k : Stays w v 0 (at f 7) = kept-before wr in
+      let d : at f 7 + mainSize n - at f 7 ≡ mainSize n = omega arith in
+      let p : part v (at f 7) (mainSize n) ≡ part w (at n 4) (mainSize n) =
+      ap (part v (at f 7)) (sym (length-part w (at n 4) (mainSize n) l)) ∙ wrote-part wr in
+      rw (
+        alike-property al up k u,
+        al .hasType,
+        al .type,
+        al .tail,
+        tail-what f (at f 7 + mainSize n) (objectWord (has n 2)) (z .places) (z .marks),
+        tail-end f (at f 7 + mainSize n) (objectWord (has n 2)) (z .places) (z .marks),
+        k .parts (at f 6) (at f 7 - at f 6) (omega arith) (omega arith),
+        d,
+        p,
+        word-object (has n 2) (part w (at n 4) (mainSize n)),
+      )
+
+-- ---- a child
+
+child-alike : (f n : Frame) → length (f .at) ≡ 9 → length (f .has) ≡ 8 → Alike f (childFrame f n)
+child-alike f n a b =
+    let to : ℕ = at f 8 + mainSize n + 4 in
+    record {
+      kind = refl;
+      name = getD-set-other (f .at) 8 0 to 0 (λ e. omega arith);
+      bindings = getD-set-other (f .at) 8 1 to 0 (λ e. omega arith);
+      base = getD-set-other (f .at) 8 2 to 0 (λ e. omega arith);
+      tag = getD-set-other (f .at) 8 3 to 0 (λ e. omega arith);
+      main = getD-set-other (f .at) 8 4 to 0 (λ e. omega arith);
+      id = getD-set-other (f .at) 8 5 to 0 (λ e. omega arith);
+      type = getD-set-other (f .at) 8 6 to 0 (λ e. omega arith);
+      tail = getD-set-other (f .at) 8 7 to 0 (λ e. omega arith);
+      hasBase = getD-set-other (f .has) 6 0 (count f + 1) 0 (λ e. omega arith);
+      hasTag = getD-set-other (f .has) 6 1 (count f + 1) 0 (λ e. omega arith);
+      isBlank = getD-set-other (f .has) 6 2 (count f + 1) 0 (λ e. omega arith);
+      hasId = getD-set-other (f .has) 6 3 (count f + 1) 0 (λ e. omega arith);
+      hasType = getD-set-other (f .has) 6 4 (count f + 1) 0 (λ e. omega arith);
+      least = getD-set-other (f .has) 6 7 (count f + 1) 0 (λ e. omega arith);
+      places = length-set (f .at) 8 to ∙ a;
+      marks = length-set (f .has) 6 (count f + 1) ∙ b;
+    }
+
+node-mark : (h : ℕ) (s : List ℕ) → nodeOf (blankByte h) s ≡ nodeOf h s
+unfolding nodeOf blankByte
+node-mark h s = go (eqb h 0)
+  where
+    go : (t : Bool) → pick (eqb (pick t 0 1) 0) (named s) (blank s) ≡ pick t (named s) (blank s)
+    go true = refl
+    go false = refl
+
+module _ (f n : Frame) (w v : List ℕ) (z : Fresh f) (l : at n 4 + mainSize n ≤ length w)
+    (wr : Wrote w v (at f 8) (at f 8 + mainSize n + 4) (part w (at n 4) (mainSize n) ++ markOf (mainSize n) (has n 2))) where
+  size : length (part w (at n 4) (mainSize n)) ≡ mainSize n
+  size = length-part w (at n 4) (mainSize n) l
+
+  end : at (childFrame f n) 8 ≡ at f 8 + mainSize n + 4
+  end = getD-set-same (f .at) 8 (at f 8 + mainSize n + 4) 0 (omega (arith, z .places))
+
+  more : count (childFrame f n) ≡ suc (count f)
+  more = getD-set-same (f .has) 6 (count f + 1) 0 (omega (arith, z .marks)) ∙ add-one (count f)
+
+  mark : part v (at f 8 + mainSize n + 4 - 4) 4 ≡ markOf (mainSize n) (has n 2)
+  mark =
+      let e : at f 8 + mainSize n + 4 - 4 ≡ at f 8 + length (part w (at n 4) (mainSize n)) = omega (arith, size) in
+      rw e (back-of (part w (at n 4) (mainSize n)) (markOf (mainSize n) (has n 2)) wr)
+
+  new-size : childSize v (at f 8 + mainSize n + 4) ≡ mainSize n
+  unfolding childSize
+  new-size = rw mark (omega arith)
+
+  new-from : childFrom v (at f 8 + mainSize n + 4) ≡ at f 8
+  new-from = rw new-size (omega arith)
+
+  new-child : childOf v (at f 8 + mainSize n + 4) ≡ subjectOf n w
+  unfolding childOf subjectOf span
+  new-child =
+      let p : part v (at f 8) (mainSize n) ≡ part w (at n 4) (mainSize n) =
+      ap (part v (at f 8)) (sym size) ∙ front-of (part w (at n 4) (mainSize n)) (markOf (mainSize n) (has n 2)) wr in
+      rw (new-from, new-size, mark, p) (node-mark (has n 2) (part w (at n 4) (mainSize n)))
+
+  child-kind : kindOk ParseTypeCollectionPropertyElt f w ≡ true → kindOk ParseTypeCollectionPropertyElt (childFrame f n) v ≡ true
+  child-kind h =
+      let al = child-alike f n (z .places) (z .marks) in
+      let up = z .up in
+      let c = collected f w h in
+      let rest : childrenOk v (at f 7) (count f) (at f 8) ≡ true = children-ok-kept (kept-before wr) (at f 7) (count f) (at f 8) (omega arith) (omega arith) (c .children) in
+      let all : childrenOk v (at f 7) (suc (count f)) (at f 8 + mainSize n + 4) ≡ true =
+      children-on v (at f 7) (count f) (at f 8 + mainSize n + 4) (record { fits = rw new-size (omega arith); rest = rw new-from rest }) in
+      collected-ok (childFrame f n) v (record { typed = al .type ∙ (c .typed ∙ sym (al .tail)); children = rw (al .tail, more, end) all })
+
+  child-what : kindOk ParseTypeCollectionPropertyElt f w ≡ true → (u : Subject) → whatOf ParseTypeCollectionPropertyElt (childFrame f n) v u ≡ onValue (takesNode (subjectOf n w)) (whatOf ParseTypeCollectionPropertyElt f w u)
+  unfolding whatOf onValue takesNode childrenOf
+  child-what h u =
+      let al = child-alike f n (z .places) (z .marks) in
+      let up = z .up in
+      let c = collected f w h in
+      rw (
+        alike-property al up (kept-less (kept-before wr) (omega arith) (omega arith)) u,
+        more,
+        end,
+        new-child,
+        new-from,
+        children-kept (kept-before wr) (at f 7) (count f) (at f 8) (omega arith) (omega arith) (c .children),
+      )
+
+-- ---- what else may stand around a node takes nothing
+
+node-stays : (k : Kind) (f : Frame) (w : List ℕ) (s u : Subject) → sameKind k PropertyElt ≡ false → sameKind k ParseTypeCollectionPropertyElt ≡ false
+    → onValue (takesNode s) (whatOf k f w u) ≡ whatOf k f w u
+unfolding onValue takesNode whatOf
+node-stays Rdf f w s u p q = refl
+node-stays NodeElt f w s u p q = refl
+node-stays PropertyElt f w s u p q = absurd (false≢true (sym p))
+node-stays ParseTypeCollectionPropertyElt f w s u p q = absurd (false≢true (sym q))
+node-stays ParseTypeLiteralPropertyElt f w s u p q = refl
+node-stays ParseTypeOtherPropertyElt f w s u p q = refl
+
+none-open : (r : Registers) (fs bs is w : List ℕ) → r .inner ≡ 0 → r .depth ≡ 0 → elementsOf r fs bs is w ≡ []
+unfolding elementsOf innersOf framesOf
+none-open r fs bs is w z d = rw (z, d)
+
+is-collection : (k : Kind) → sameKind k ParseTypeCollectionPropertyElt ≡ true → k ≡ ParseTypeCollectionPropertyElt
+is-collection Rdf e = absurd (false≢true e)
+is-collection NodeElt e = absurd (false≢true e)
+is-collection PropertyElt e = absurd (false≢true e)
+is-collection ParseTypeCollectionPropertyElt e = refl
+is-collection ParseTypeLiteralPropertyElt e = absurd (false≢true e)
+is-collection ParseTypeOtherPropertyElt e = absurd (false≢true e)
+
+module _ {r : Registers} {fs bs is w gs v : List ℕ} {n : Frame} {c : Changed} (x : Valid r fs bs is w) (flat : r .inner ≡ 0) (t : TakesNode r fs w n c gs v) (y : c .ok ≡ true) where
+  -- a frame stored on top, with bytes moved down
+  stored-holds : (m : ℕ) (d : r .depth ≡ suc m) {g : Frame} {to end : ℕ} {s : List ℕ} → Alike (frameAt fs m) g → m * 18 + 18 ≤ length fs → Taken r fs w g to end s c gs v → at g 8 ≡ end
+      → at (frameAt fs m) 7 ≤ to → at (frameAt fs m) 7 ≤ end → end ≤ r .low → kindOk (frameAt fs m .kind) g v ≡ true
+      → ((u : Subject) → whatOf (frameAt fs m .kind) g v u ≡ onValue (takesNode (subjectOf n w)) (whatOf (frameAt fs m .kind) (frameAt fs m) w u))
+      → Holds (c .registers) gs bs is v (startOf r w) (changeValue (takesNode (subjectOf n w)) (elementsOf r fs bs is w)) (r .rooted) (r .labels)
+  stored-holds m d {g} {to} {end} {s} al room k e l l′ b kd wt =
+      let st : StoredFrame fs m g gs true =
+      stored-frame m room (al .places) (al .marks) (k .stored ∙ ap (λ (i : ℕ). storedAt fs (i * 18) (wordsOf g)) (omega (arith, d))) in
+      let res = retailed x m d (onValue (takesNode (subjectOf n w))) al st (kept-less (kept-before (k .wrote)) (omega arith) l) (kept-less (kept-behind 65_536 (k .wrote)) b (omega arith)) (wrote-same (k .wrote)) (omega (arith, e)) (omega (arith, e)) (ap (λ (q : Kind). kindOk q g v) (al .kind) ∙ kd) wt in
+      rw (k .moved, ← e, ← topped-change x m d (takesNode (subjectOf n w))) res
+
+  object-holds : sameKind (topFrame r fs .kind) PropertyElt ≡ true
+      → Holds (c .registers) gs bs is v (startOf r w) (changeValue (takesNode (subjectOf n w)) (elementsOf r fs bs is w)) (r .rooted) (r .labels)
+  object-holds o =
+      let k = topmost x (top-deep r fs (λ i. false≢true (ap (λ (g : Kind). sameKind g PropertyElt) (sym i) ∙ o))) in
+      let m : ℕ = r .depth - 1 in
+      let f : Frame = frameAt fs m in
+      let e = k .frame in
+      let kind : f .kind ≡ PropertyElt = is-property (f .kind) (rw e at o) in
+      let ob = rw e at (t .object o) in
+      let tp = top-frame x m (k .depth) in
+      let up : Rising f = rising f (tp .up) in
+      let z : Fresh f = record { up = up; places = length-at fs m (k .room); marks = length-has fs m (k .room) } in
+      let may : Bool = mayTake r (length fs) (at n 4) (at f 7) (mainSize n) (at f 7 + mainSize n) in
+      by may
+      (λ h.
+      let mv = movable r (length fs) (at n 4) (at f 7) (mainSize n) (at f 7 + mainSize n) h in
+      let ta = ob .takes h in
+      let fit : at n 4 + mainSize n ≤ length w = omega (arith, mv .fits, x .store) in
+      stored-holds m (k .depth) (tail-alike f (at f 7 + mainSize n) (objectWord (has n 2)) (z .places) (z .marks)) (k .room) ta
+      (tail-end f (at f 7 + mainSize n) (objectWord (has n 2)) (z .places) (z .marks)) (omega arith) (omega arith) (mv .below)
+      (ap (λ (q : Kind). kindOk q (objectFrame f n) v) kind ∙ object-kind f n w v z (ta .wrote) fit)
+      (λ u.
+      ap (λ (q : Kind). whatOf q (objectFrame f n) v u) kind
+      ∙ (object-what f n w v z (ta .wrote) fit u ∙ ap (λ (q : Kind). onValue (takesNode (subjectOf n w)) (whatOf q f w u)) (sym kind))))
+      (λ h. absurd (false≢true (sym (ob .kept h .ok) ∙ y)))
+
+  child-holds : sameKind (topFrame r fs .kind) PropertyElt ≡ false → sameKind (topFrame r fs .kind) ParseTypeCollectionPropertyElt ≡ true
+      → Holds (c .registers) gs bs is v (startOf r w) (changeValue (takesNode (subjectOf n w)) (elementsOf r fs bs is w)) (r .rooted) (r .labels)
+  unfolding mayChild
+  child-holds p o =
+      let k = topmost x (top-deep r fs (λ i. false≢true (ap (λ (g : Kind). sameKind g ParseTypeCollectionPropertyElt) (sym i) ∙ o))) in
+      let m : ℕ = r .depth - 1 in
+      let f : Frame = frameAt fs m in
+      let e = k .frame in
+      let kind : f .kind ≡ ParseTypeCollectionPropertyElt = is-collection (f .kind) (rw e at o) in
+      let ch = rw e at (t .child p o) in
+      let tp = top-frame x m (k .depth) in
+      let up : Rising f = rising f (tp .up) in
+      let z : Fresh f = record { up = up; places = length-at fs m (k .room); marks = length-has fs m (k .room) } in
+      let ok : kindOk ParseTypeCollectionPropertyElt f w ≡ true = sym (ap (λ (q : Kind). kindOk q f w) kind) ∙ tp .kind in
+      by (mayChild r (length fs) f n)
+      (λ h.
+      let mt : mayTake r (length fs) (at n 4) (at f 8) (mainSize n) (at f 8 + mainSize n + 4) ≡ true =
+      and-left (mayTake r (length fs) (at n 4) (at f 8) (mainSize n) (at f 8 + mainSize n + 4)) _ h in
+      let mv = movable r (length fs) (at n 4) (at f 8) (mainSize n) (at f 8 + mainSize n + 4) mt in
+      let ta = ch .takes h in
+      let fit : at n 4 + mainSize n ≤ length w = omega (arith, mv .fits, x .store) in
+      stored-holds m (k .depth) (child-alike f n (z .places) (z .marks)) (k .room) ta (end f n w v z fit (ta .wrote)) (omega arith) (omega arith) (mv .below)
+      (ap (λ (q : Kind). kindOk q (childFrame f n) v) kind ∙ child-kind f n w v z fit (ta .wrote) ok)
+      (λ u.
+      ap (λ (q : Kind). whatOf q (childFrame f n) v u) kind
+      ∙ (child-what f n w v z fit (ta .wrote) ok u ∙ ap (λ (q : Kind). onValue (takesNode (subjectOf n w)) (whatOf q f w u)) (sym kind))))
+      (λ h. absurd (false≢true (sym (ch .kept h .ok) ∙ y)))
+
+  none-holds : sameKind (topFrame r fs .kind) PropertyElt ≡ false → sameKind (topFrame r fs .kind) ParseTypeCollectionPropertyElt ≡ false
+      → Holds (c .registers) gs bs is v (startOf r w) (changeValue (takesNode (subjectOf n w)) (elementsOf r fs bs is w)) (r .rooted) (r .labels)
+  unfolding changeValue
+  none-holds p o =
+      let q = t .none p o in
+      let same : changeValue (takesNode (subjectOf n w)) (elementsOf r fs bs is w) ≡ elementsOf r fs bs is w =
+      by (eqb (r .depth) 0)
+      (λ e. rw (none-open r fs bs is w flat (eqb-true (r .depth) 0 e)))
+      (λ e.
+      let k = topmost x (Rattle.state.specs.Tests.positive (r .depth) (borrow.Author.Tests.eqb-false (r .depth) 0 e)) in
+      let m : ℕ = r .depth - 1 in
+      sym (topped-change x m (k .depth) (takesNode (subjectOf n w)))
+      ∙ topped-same x m (k .depth) (onValue (takesNode (subjectOf n w)))
+      (node-stays (frameAt fs m .kind) (frameAt fs m) w (subjectOf n w) (subjectBelow fs w m) (rw (k .frame) at p) (rw (k .frame) at o))) in
+      rw (q .0, q .1, q .2, same) (record { valid = x; base = refl; elements = refl; root = refl; count = refl })
+
+  taken-holds : Holds (c .registers) gs bs is v (startOf r w) (changeValue (takesNode (subjectOf n w)) (elementsOf r fs bs is w)) (r .rooted) (r .labels)
+  taken-holds =
+      by (sameKind (topFrame r fs .kind) PropertyElt)
+      object-holds
+      (λ p. by (sameKind (topFrame r fs .kind) ParseTypeCollectionPropertyElt) (child-holds p) (none-holds p))
+
+-- ---- the law
+
+leaves : What → List Element → List Element
+leaves rdfRDF es = es
+leaves (nodeElement s li) es = changeValue (takesNode s) es
+leaves (propertyElement p v) es = es
+leaves xmlElement es = es
+
+-- the elements behind a node that closes: `endKind`
+pub closedNode : List Element → List Element
+closedNode [] = []
+closedNode (e ∷ es) = leaves (e .kind) es
+
+pub closed-node : (e : Element) (es : List Element) (s : Subject) (li : ℕ) → e .kind ≡ nodeElement s li → closedNode (e ∷ es) ≡ changeValue (takesNode s) es
+unfolding closedNode leaves
+closed-node e es s li q = rw q
+
+closed-top : (f : Frame) (w : List ℕ) (u : Subject) (bound : List Rattle.spec.specs.Namespaces.Binding) (es : List Element) → f .kind ≡ NodeElt
+    → closedNode (elementOf f bound w u ∷ es) ≡ changeValue (takesNode (subjectOf f w)) es
+unfolding closedNode leaves elementOf whatOf
+closed-top f w u bound es e = ap (λ (k : Kind). leaves (whatOf k f w u) es) e
+
+record Closable (r : Registers) (fs w : List ℕ) : Type 0 where
+  node : sameKind (topFrame r fs .kind) NodeElt ≡ true
+  pop : mayPop r ≡ true
+
+closable : (r : Registers) (fs w : List ℕ) → mayClose r fs w ≡ true → Closable r fs w
+unfolding mayClose
+closable r fs w m =
+    let m1 = and-right (eqb (length w) 65_536) _ m in
+    let m2 = and-right (sameKind (topFrame r fs .kind) NodeElt) _ m1 in
+    record { node = and-left (sameKind (topFrame r fs .kind) NodeElt) _ m1; pop = and-left (mayPop r) _ m2 }
+
+flat-top : (r : Registers) (fs bs is w : List ℕ) → r .inner ≡ 0 → elementsOf r fs bs is w ≡ framesOf fs bs w (r .depth) (r .outer)
+unfolding elementsOf innersOf
+flat-top r fs bs is w z = rw z
+
+pub close-holds : {r : Registers} {fs bs is w gs v : List ℕ} {c : Changed} → Valid r fs bs is w → ClosesNode r fs w c gs v → c .ok ≡ true
+    → Holds (c .registers) gs bs is v (startOf r w) (closedNode (elementsOf r fs bs is w)) (r .rooted) (r .labels)
+close-holds {r} {fs} {bs} {is} {w} {gs} {v} {c} x p y =
+    let m : mayClose r fs w ≡ true = sym (p .answer) ∙ y in
+    let ca = closable r fs w m in
+    let k = may-pop r (ca .pop) in
+    let tm = topmost x (k .1) in
+    let i : ℕ = r .depth - 1 in
+    let n : Frame = frameAt fs i in
+    let kind : n .kind ≡ NodeElt = is-node (n .kind) (rw (tm .frame) at (ca .node)) in
+    let h = popped x i (tm .depth) (k .0) in
+    let q : without r fs ≡ poppedTo r (at n 0) (first n) = rw (load-frame fs i (tm .room)) in
+    let t : TakesNode (poppedTo r (at n 0) (first n)) fs w n c gs v = rw (tm .frame, q) at (p .takes m) in
+    let res = taken-holds (h .valid) (k .0) t y in
+    let es : closedNode (elementsOf r fs bs is w) ≡ changeValue (takesNode (subjectOf n w)) (framesOf fs bs w i (first n)) =
+    ap closedNode (flat-top r fs bs is w (k .0) ∙ top-element x i (tm .depth)) ∙ closed-top n w (subjectBelow fs w i) _ (framesOf fs bs w i (first n)) kind in
+    rw (es, ← h .elements, ← h .base) res
