@@ -1,35 +1,33 @@
 -- What the calls do to a valid state, and what they read of it, said of the document that it means.
 use Prim.Native.Nat.{ℕ, zero, suc, _+_, _-_, _*_, _<_, _≤_}
 use mathlib.Core.Path.{_≡_, refl, sym, ap, _∙_}
-use mathlib.Core.Bool.{Bool, true, false, _&&_}
+use mathlib.Core.Bool.{Bool, true, false}
 use mathlib.Core.Option.{Option, none, some}
 use mathlib.Core.List.{List, [], _∷_, _++_}
 use native.Mathlib.Omega.{arith}
-use native.Mathlib.Numerals.{add-one}
 use lib.Dec.{eqb, leb, ltb}
-use lib.ListN.{length, getD}
-use borrow.Author.Tests.{eqb-true, eqb-false, leb-true, ltb-true, eq-eqb, ne-eqb, le-leb, lt-ltb}
+use lib.ListN.{length}
+use borrow.Author.Tests.{eqb-true, eqb-false, leb-true, ltb-true, eq-eqb, ne-eqb}
 use Rattle.spec.proofs.Booleans.{and-left, and-right}
 use Rattle.spec.specs.Bytes.{Bytes, orElse}
 use Rattle.spec.specs.Namespaces.{Binding}
 use Rattle.spec.specs.Document.{Frame as Element, xmlElement, languageInForce, baseInForce, heldBytes}
 use Rattle.copy.specs.Copy.{part, Wrote}
-use Rattle.frames.specs.declared.Frame.{Frame}
 use Rattle.frames.specs.declared.Row.{Row}
-use Rattle.frames.specs.Kept.{Kept, kept-less, kept-before}
-use Rattle.frames.specs.Words.{pick, frameAt, rowAt, loadFrame, loadRow, load-frame, load-row, row-there, row-kept}
+use Rattle.frames.specs.Kept.{Kept, kept-before}
+use Rattle.frames.specs.Words.{pick, frameAt, rowAt, load-frame, load-row, row-there, row-kept}
 use Rattle.state.specs.declared.Registers.{Registers}
-use Rattle.state.specs.Meaning.{at, has, first, span, optional, bindingsOf, elementOf, subjectBelow, framesOf, innerOf, innersOf, startOf, elementsOf, docOf}
-use Rattle.state.specs.Valid.{ceiling, innersOk, Inside, Valid, top-inside}
+use Rattle.state.specs.Meaning.{at, has, first, span, optional, elementOf, framesOf, innerOf, innersOf, startOf, elementsOf, docOf}
+use Rattle.state.specs.Valid.{ceiling, Valid, top-inside}
 use Rattle.state.specs.Tests.{positive}
 use Rattle.spec.specs.Limits.{workStoreBytes}
-use Rattle.state.specs.Held.{Room, room}
+use Rattle.state.specs.Held.{room}
 use Rattle.state.specs.Held as Held
 use Rattle.stack.specs.declared.Changed.{Changed}
 use Rattle.stack.specs.declared.Found.{Found}
-use Rattle.stack.specs.Change.{Holds, flat, insideTo, inside-opened, inside-closed, inside-element}
-use Rattle.stack.specs.Laws.{Bound, by, topmost}
-use Rattle.inside.specs.Calls.{Opens, mayOpen, Closes, ceilingIn, nowhere, stretch, nameIn, innermostIn, baseIn, languageIn, heldIn, held-is}
+use Rattle.stack.specs.Change.{Holds, flat, inside-opened, inside-closed, inside-element}
+use Rattle.stack.specs.Laws.{Bound, by}
+use Rattle.inside.specs.Calls.{Opens, mayOpen, Closes, ceilingIn, stretch, nameIn, innermostIn, baseIn, languageIn, heldIn, held-is}
 
 -- the bytes that were found
 unfoldable pub found : Found → List ℕ → Option Bytes

@@ -2,17 +2,25 @@
 ghost use mathlib.Core.Path.{_≡_};
 ghost use Prim.Native.Nat.{_+_, _-_, _*_, _≤_, _<_};
 ghost use mathlib.Core.Bool.{true};
+ghost use lib.Dec.{leb};
+ghost use Rattle.spec.specs.Limits.{mostHeldBytes};
 ghost use Rattle.stack.specs.Change.{insideTo};
 ghost use Rattle.inside.specs.Calls.{Opens, Closes, ceilingIn, nameIn, innermostIn, baseIn, languageIn, heldIn};
-use frames::wide;
 use frames::Frame;
 use frames::Row;
+use frames::wide;
 use stack::Changed;
 use stack::Found;
 use state::Registers;
 
 // One more element inside, whose name and bindings stand in the work store from `at` up to `low`, with bindings up to `bound`.
-pub fn open_inside(r: Registers, inners: &mut [u32], at: usize, name: usize, bound: usize) -> Changed
+pub fn open_inside(
+    r: Registers,
+    inners: &mut [u32],
+    at: usize,
+    name: usize,
+    bound: usize,
+) -> Changed
     ensures { λ c. ⌜ Opens r (now (inners .entry)) at name bound c (now (inners .exit)) ⌝ }
 {
     let no = Changed {
@@ -123,6 +131,13 @@ pub fn held(r: Registers) -> usize
         return Registers::STORE;
     }
     r.top + (Registers::STORE - r.low)
+}
+
+// May an event leave this much held?
+pub fn holds_no_more(r: Registers) -> bool
+    ensures { λ b. ⌜ b ≡ leb (heldIn r) mostHeldBytes ⌝ }
+{
+    held(r) <= Registers::MOST_HELD
 }
 
 // The part that starts at `place` of the innermost frame that has it.

@@ -1,34 +1,34 @@
 -- What a node that closes does to a valid state, said of the document that it means.
-use Prim.Native.Nat.{ℕ, zero, suc, _+_, _-_, _*_, _/_, _%_, _<_, _≤_}
+use Prim.Native.Nat.{ℕ, suc, _+_, _-_, _*_, _≤_}
 use mathlib.Core.Path.{_≡_, refl, sym, ap, _∙_}
-use mathlib.Core.Bool.{Bool, true, false, _&&_, not, false≢true}
+use mathlib.Core.Bool.{Bool, true, false, false≢true}
 use mathlib.Core.List.{List, [], _∷_, _++_}
 use native.Mathlib.Omega.{arith}
 use native.Mathlib.Numerals.{add-one}
-use lib.Dec.{eqb, leb, ltb}
-use lib.ListN.{length, getD, set, length-set, length-append}
+use lib.Dec.{eqb}
+use lib.ListN.{length, length-set}
 use lib.Seq.{getD-set-same, getD-set-other}
-use borrow.Author.Tests.{eqb-true, leb-true, ltb-true, eq-eqb, ne-eqb, le-leb}
+use borrow.Author.Tests.{eqb-true}
 use Rattle.spec.proofs.Booleans.{and-left, and-right}
 use Rattle.spec.specs.NTriples.{Subject, named, blank}
-use Rattle.spec.specs.Document.{Object, nodeObject, textObject, noObject, Value, default, collection, literal, other, Kind as What, rdfRDF, nodeElement, propertyElement, xmlElement, Frame as Element, onValue, changeValue}
+use Rattle.spec.specs.Document.{nodeObject, textObject, noObject, Kind as What, rdfRDF, nodeElement, propertyElement, xmlElement, Frame as Element, onValue, changeValue}
 use Rattle.spec.specs.EndTag.{takesNode}
 use Rattle.copy.specs.Copy.{part, storedAt, Wrote, wrote-part, wrote-same, length-part}
 use Rattle.frames.specs.declared.Kind.{Kind}
 use Rattle.frames.specs.declared.Kind.the-variants.{Rdf, NodeElt, PropertyElt, ParseTypeCollectionPropertyElt, ParseTypeLiteralPropertyElt, ParseTypeOtherPropertyElt}
 use Rattle.frames.specs.declared.Frame.{Frame}
 use Rattle.frames.specs.Kept.{Kept as Stays, kept-less, kept-before, kept-behind}
-use Rattle.frames.specs.Words.{pick, frameAt, wordsOf, loadFrame, StoredFrame, load-frame}
+use Rattle.frames.specs.Words.{pick, frameAt, wordsOf, StoredFrame, load-frame}
 use Rattle.state.specs.declared.Registers.{Registers}
 use Rattle.state.specs.Meaning.{at, has, count, first, span, nodeOf, objectOf, childSize, childFrom, childOf, childrenOf, subjectOf, whatOf, elementOf, subjectBelow, framesOf, innersOf, startOf, elementsOf}
 use Rattle.state.specs.Valid.{emptyOr, childrenOk, kindOk, Rising, Valid, rising}
-use Rattle.state.specs.Stay.{LastChild, children-on, children-ok-kept, children-kept, Collected, collected, collected-ok}
+use Rattle.state.specs.Stay.{children-on, children-ok-kept, children-kept, collected, collected-ok}
 use Rattle.stack.specs.declared.Changed.{Changed}
-use Rattle.stack.specs.Change.{Holds, toppedTo, poppedTo, popped, top-frame, top-element}
-use Rattle.stack.specs.Calls.{topFrame, sameKind, tailTo, mayPop}
-use Rattle.stack.specs.Top.{Alike, alike-property, topped, retailed, topped-change, topped-same}
+use Rattle.stack.specs.Change.{Holds, poppedTo, popped, top-frame, top-element}
+use Rattle.stack.specs.Calls.{topFrame, sameKind, mayPop}
+use Rattle.stack.specs.Top.{Alike, alike-property, retailed, topped-change, topped-same}
 use Rattle.stack.specs.Laws.{Fresh, by, is-property, is-node, may-pop, top-deep, topmost, tail-alike, tail-end, tail-what, length-at, length-has, stored-frame, front-of, back-of}
-use Rattle.nodes.specs.Take.{mayTake, mayChild, objectWord, blankByte, mainSize, objectFrame, childFrame, markOf, Taken, TakesNode, ClosesNode, mayClose, mayTakeNode, without, Movable, movable}
+use Rattle.nodes.specs.Take.{mayTake, mayChild, objectWord, blankByte, mainSize, objectFrame, childFrame, markOf, Taken, TakesNode, ClosesNode, mayClose, without, movable}
 
 -- ---- an object
 

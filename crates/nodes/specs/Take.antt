@@ -1,26 +1,22 @@
 -- What the calls answer and change.
-use Prim.Native.Nat.{ℕ, zero, suc, _+_, _-_, _*_, _/_, _%_, _<_, _≤_}
+use Prim.Native.Nat.{ℕ, _+_, _-_, _*_, _/_, _%_, _<_, _≤_}
 use mathlib.Core.Path.{_≡_, refl, sym, ap, _∙_}
 use mathlib.Core.Bool.{Bool, true, false, _&&_, not, false≢true}
 use mathlib.Core.List.{List, [], _∷_, _++_}
 use native.Mathlib.Omega.{arith}
 use lib.Dec.{eqb, leb, ltb}
 use lib.ListN.{length, getD, set, drop}
-use lib.Seq.{getD-drop, drop-paste, paste, getD-set-same, getD-set-other}
-use borrow.Author.Tests.{eqb-true, leb-true, ltb-true, eq-eqb, ne-eqb, lt-ltb, le-ltb, lt-leb, le-leb}
+use lib.Seq.{getD-drop, drop-paste}
+use borrow.Author.Tests.{leb-true, ltb-true, eq-eqb, ne-eqb, lt-ltb, le-ltb, lt-leb, le-leb}
 use Rattle.spec.proofs.Booleans.{and-left, and-right}
-use Rattle.spec.specs.Document.{Kind as What, rdfRDF, nodeElement, propertyElement, xmlElement, Frame as Element, changeValue}
-use Rattle.spec.specs.EndTag.{takesNode}
 use Rattle.copy.specs.Copy.{part, storedAt, Put, Copied, copied-begins, copied-more, copied-done, length-part, getD-part, put-fits, wrote-same, Wrote, then}
-use Rattle.frames.specs.declared.Kind.{Kind}
-use Rattle.frames.specs.declared.Kind.the-variants.{Rdf, NodeElt, PropertyElt, ParseTypeCollectionPropertyElt, ParseTypeLiteralPropertyElt, ParseTypeOtherPropertyElt}
+use Rattle.frames.specs.declared.Kind.the-variants.{NodeElt, PropertyElt, ParseTypeCollectionPropertyElt}
 use Rattle.frames.specs.declared.Frame.{Frame}
 use Rattle.frames.specs.Words.{pick, wordsOf, loadFrame, StoredFrame}
 use Rattle.state.specs.declared.Registers.{Registers}
-use Rattle.state.specs.Meaning.{at, has, count, first, childSize, childFrom, startOf, elementsOf}
-use Rattle.state.specs.Valid.{Valid}
+use Rattle.state.specs.Meaning.{at, has, count, first}
 use Rattle.stack.specs.declared.Changed.{Changed}
-use Rattle.stack.specs.Change.{Holds, toppedTo, poppedTo}
+use Rattle.stack.specs.Change.{toppedTo, poppedTo}
 use Rattle.stack.specs.Calls.{topFrame, sameKind, tailTo, Pops, mayPop}
 use Rattle.nodes.specs.declared.Child.{Child}
 

@@ -4,9 +4,9 @@ ghost use Prim.Native.Nat.{_+_, _-_, _*_, _≤_, _<_};
 ghost use lib.ListN.{length};
 ghost use Rattle.copy.specs.Copy.{part, storedAt};
 ghost use Rattle.nodes.specs.Take.{mayTake, objectWord, blankByte, TakesObject, TakesChild, TakesNode, ClosesNode, childIn};
-use frames::wide;
 use frames::Frame;
 use frames::Kind;
+use frames::wide;
 use stack::Changed;
 use state::Registers;
 
@@ -149,7 +149,12 @@ fn take_child(r: Registers, frames: &mut [u32], work: &mut [u8], f: Frame, n: Fr
     has[6] = count + 1;
     Frame::store(frames, r.depth - 1, Frame { kind, at, has });
     shift(work, from, to, len);
-    let mark = [(len % 256) as u8, (len / 256) as u8, blank_byte(marks[2]), 0];
+    let mark = [
+        (len % 256) as u8,
+        (len / 256) as u8,
+        blank_byte(marks[2]),
+        0,
+    ];
     copy::put(work, to + len, &mark);
     Changed {
         ok: true,

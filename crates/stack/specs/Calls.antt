@@ -1,25 +1,22 @@
 -- What the calls answer and change, on every input.
-use Prim.Native.Nat.{ℕ, zero, suc, _+_, _-_, _*_, _<_, _≤_}
+use Prim.Native.Nat.{ℕ, _+_, _-_, _*_, _<_, _≤_}
 use mathlib.Core.Path.{_≡_, refl, sym, ap, _∙_}
 use mathlib.Core.Bool.{Bool, true, false, _&&_, false≢true}
 use mathlib.Core.List.{List, [], _∷_, _++_}
 use native.Mathlib.Omega.{arith}
 use lib.Dec.{eqb, leb, ltb}
-use lib.ListN.{length, getD, set}
-use borrow.Author.Tests.{eqb-true, leb-true, leb-false, ltb-true, eq-eqb, ne-eqb, le-leb, lt-leb, lt-ltb, le-ltb}
-use Rattle.spec.proofs.Booleans.{and-left, and-right}
-use Rattle.copy.specs.Copy.{part, storedAt, Put, Wrote, then, put-fits, wrote-same}
+use lib.ListN.{length, set}
+use borrow.Author.Tests.{leb-true, leb-false, eq-eqb, ne-eqb, le-leb, lt-leb, lt-ltb, le-ltb}
+use Rattle.copy.specs.Copy.{storedAt, Put, then, put-fits, wrote-same}
 use Rattle.frames.specs.declared.Kind.{Kind}
 use Rattle.frames.specs.declared.Kind.the-variants.{Rdf, NodeElt, PropertyElt, ParseTypeCollectionPropertyElt, ParseTypeLiteralPropertyElt, ParseTypeOtherPropertyElt}
 use Rattle.frames.specs.declared.Frame.{Frame}
-use Rattle.frames.specs.declared.Row.{Row}
-use Rattle.frames.specs.Words.{pick, kindNumber, noFrame, frameAt, rowAt, loadFrame, loadRow, wordsOf, rowWords, StoredFrame, StoredRow}
+use Rattle.frames.specs.Words.{pick, kindNumber, noFrame, loadFrame, wordsOf, StoredFrame, StoredRow}
 use Rattle.state.specs.declared.Registers.{Registers}
 use Rattle.state.specs.Meaning.{at, has, count, first}
 use Rattle.state.specs.Tests.{positive}
 use Rattle.stack.specs.declared.Changed.{Changed}
-use Rattle.stack.specs.declared.Found.{Found}
-use Rattle.stack.specs.Change.{pushedTo, poppedTo, toppedTo, insideTo}
+use Rattle.stack.specs.Change.{pushedTo, poppedTo, toppedTo}
 
 -- ---- push
 

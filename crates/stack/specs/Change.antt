@@ -1,27 +1,26 @@
 -- What changes at the top of the stack do to a valid state: it stays valid, and what it means is said.
-use Prim.Native.Nat.{ℕ, zero, suc, _+_, _-_, _*_, _<_, _≤_}
+use Prim.Native.Nat.{ℕ, suc, _+_, _-_, _*_, _<_, _≤_}
 use mathlib.Core.Path.{_≡_, refl, sym, ap, _∙_}
-use mathlib.Core.Bool.{Bool, true, false, _&&_}
-use mathlib.Core.Option.{Option, none, some}
-use mathlib.Core.List.{List, [], _∷_, _++_}
+use mathlib.Core.Bool.{Bool, true}
+use mathlib.Core.Option.{Option}
+use mathlib.Core.List.{List, _∷_, _++_}
 use native.Mathlib.Omega.{arith}
-use lib.Dec.{eqb, leb}
-use lib.ListN.{length, getD}
+use lib.Dec.{eqb}
+use lib.ListN.{length}
 use borrow.Author.Tests.{eqb-true, eq-eqb}
 use Rattle.spec.specs.Bytes.{Bytes}
 use Rattle.spec.specs.Limits.{workStoreBytes}
 use Rattle.spec.specs.Document.{Frame as Element, Doc}
 use Rattle.spec.proofs.Booleans.{and-left, and-right}
-use Rattle.copy.specs.Copy.{part}
 use Rattle.frames.specs.declared.Frame.{Frame}
 use Rattle.frames.specs.declared.Row.{Row}
 use Rattle.frames.specs.Kept.{Kept, kept-all, kept-less}
-use Rattle.frames.specs.Words.{pick, frameAt, rowAt}
+use Rattle.frames.specs.Words.{frameAt, rowAt}
 use Rattle.state.specs.declared.Registers.{Registers}
 use Rattle.state.specs.Meaning.{at, first, bindingsOf, elementOf, subjectBelow, framesOf, innerOf, innersOf, startOf, elementsOf, docOf}
 use Rattle.state.specs.Valid.{framesOk, innersOk, ceiling, Sound, Inside, Valid, rising, top-sound, rest-ok, frames-on, top-inside, inners-rest, inners-on}
-use Rattle.state.specs.Stay.{frames-ok-kept, frames-kept, inners-ok-kept, inners-kept, inners-up, chained-up}
-use Rattle.state.specs.Held.{Room, room, frames-base}
+use Rattle.state.specs.Stay.{frames-ok-kept, frames-kept, inners-ok-kept, inners-kept, chained-up}
+use Rattle.state.specs.Held.{room, frames-base}
 
 -- a valid state, and what it means but for the rdf:IDs
 pub record Holds (r : Registers) (fs bs is w : List ℕ) (start : Option Bytes) (es : List Element) (rooted : Bool) (labels : ℕ) : Type 0 where

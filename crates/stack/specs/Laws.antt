@@ -1,12 +1,11 @@
 -- What the calls do to a valid state, said of the document that it means. These are the laws to cite.
-use Prim.Native.Nat.{ℕ, zero, suc, _+_, _-_, _*_, _<_, _≤_}
+use Prim.Native.Nat.{ℕ, suc, _+_, _-_, _*_, _<_, _≤_}
 use mathlib.Core.Path.{_≡_, refl, sym, ap, _∙_}
-use mathlib.Core.Bool.{Bool, true, false, _&&_, false≢true}
+use mathlib.Core.Bool.{Bool, true, false, false≢true}
 use mathlib.Core.List.{List, [], _∷_, _++_}
-use mathlib.Core.Logic.{inl, inr}
 use native.Mathlib.Omega.{arith}
 use lib.Dec.{eqb, leb, ltb}
-use lib.ListN.{length, getD, set, length-set, length-append}
+use lib.ListN.{length, length-set, length-append}
 use lib.Seq.{getD-set-same, getD-set-other, take-length, take-append-seam, drop-append-seam}
 use native.Mathlib.Nat.{add-zero}
 use native.Mathlib.Numerals.{add-one}
@@ -15,29 +14,28 @@ use Rattle.spec.specs.Bytes.{Bytes, if_then_else_}
 use Rattle.spec.specs.Limits.{mostLabels}
 use Rattle.spec.specs.Namespaces.{Binding}
 use Rattle.spec.specs.NTriples.{Subject}
-use Rattle.spec.specs.Document.{Object, textObject, Value, default, collection, literal, other, Property, Kind as What, rdfRDF, nodeElement, propertyElement, xmlElement, Frame as Element, withKind, onValue, changeValue}
+use Rattle.spec.specs.Document.{Value, onValue, changeValue}
 use Rattle.spec.specs.Productions.{isLi}
 use Rattle.spec.specs.Opening.{countLi}
 use Rattle.spec.specs.Opening as G
 use Rattle.spec.specs.XmlLiteral.{takesXml}
 use Rattle.spec.specs.RdfXml.{takesText}
 use Rattle.spec.proofs.Booleans.{and-left, and-right}
-use Rattle.copy.specs.Copy.{part, storedAt, Wrote, part-inside, part-add, part-stored, wrote-part, wrote-apart, length-stored}
+use Rattle.copy.specs.Copy.{part, storedAt, Wrote, part-inside, part-add, wrote-part, length-stored}
 use Rattle.frames.specs.declared.Kind.{Kind}
 use Rattle.frames.specs.declared.Kind.the-variants.{Rdf, NodeElt, PropertyElt, ParseTypeCollectionPropertyElt, ParseTypeLiteralPropertyElt, ParseTypeOtherPropertyElt}
 use Rattle.frames.specs.declared.Frame.{Frame}
-use Rattle.frames.specs.declared.Row.{Row}
-use Rattle.frames.specs.Kept.{Kept, kept-all, kept-less, kept-then, kept-before, kept-behind}
-use Rattle.frames.specs.Words.{pick, kindNumber, noFrame, frameAt, rowAt, loadFrame, wordsOf, StoredFrame, load-frame, load-store, frame-wrote, row-kept, row-there, length-words}
+use Rattle.frames.specs.Kept.{Kept, kept-all, kept-less, kept-before, kept-behind}
+use Rattle.frames.specs.Words.{frameAt, rowAt, wordsOf, StoredFrame, load-frame, load-store, frame-wrote, row-there, length-words}
 use Rattle.state.specs.declared.Registers.{Registers}
-use Rattle.state.specs.Meaning.{at, has, count, first, span, objectOf, optional, bindingOf, bindingsOf, subjectOf, propertyOf, whatOf, elementOf, subjectBelow, framesOf, innersOf, startOf, elementsOf}
-use Rattle.state.specs.Valid.{partsOk, chained, kindOk, emptyOr, stands, Rising, Sound, Valid, rising, rises-up}
+use Rattle.state.specs.Meaning.{at, has, count, first, span, objectOf, bindingOf, bindingsOf, subjectOf, whatOf, elementOf, subjectBelow, framesOf, startOf, elementsOf}
+use Rattle.state.specs.Valid.{partsOk, chained, kindOk, emptyOr, stands, Rising, Valid, rising, rises-up}
 use Rattle.state.specs.Tests.{positive}
-use Rattle.state.specs.Stay.{span-kept, Last, chained-on, chained-kept, chained-up, bindings-kept, stands-kept, below-kept}
+use Rattle.state.specs.Stay.{chained-on, chained-kept, bindings-kept, stands-kept, below-kept}
 use Rattle.stack.specs.declared.Changed.{Changed}
-use Rattle.stack.specs.Change.{Holds, On, pushedTo, poppedTo, toppedTo, pushed, popped, top-frame, top-element}
-use Rattle.stack.specs.Calls.{Pushes, mayPush, Pops, mayPop, Binds, mayBind, topFrame, sameKind, tailTo, counted, Tails, mayTail, Nothing, Texts, Xmls, Counts, mayCount}
-use Rattle.stack.specs.Top.{Alike, alike-property, topped, retailed, topped-change, topped-same, topped-flat}
+use Rattle.stack.specs.Change.{Holds, On, pushed, popped, top-frame}
+use Rattle.stack.specs.Calls.{Pushes, mayPush, Pops, mayPop, Binds, mayBind, topFrame, sameKind, tailTo, counted, Tails, mayTail, Texts, Xmls, Counts, mayCount}
+use Rattle.stack.specs.Top.{Alike, alike-property, retailed, topped-change, topped-same, topped-flat}
 
 -- ---- bytes of a part among others
 

@@ -1,27 +1,24 @@
 -- The frame on top with another tail: the state stays valid, and only the kind of its element changes.
-use Prim.Native.Nat.{ℕ, zero, suc, _+_, _-_, _*_, _<_, _≤_}
+use Prim.Native.Nat.{ℕ, zero, suc, _+_, _-_, _*_, _≤_}
 use mathlib.Core.Path.{_≡_, refl, sym, ap, _∙_}
-use mathlib.Core.Bool.{Bool, true, false, _&&_}
-use mathlib.Core.List.{List, [], _∷_, _++_}
+use mathlib.Core.Bool.{Bool, true, false}
+use mathlib.Core.List.{List, _∷_, _++_}
 use native.Mathlib.Omega.{arith}
-use lib.Dec.{eqb, leb}
-use lib.ListN.{length, getD, set, length-set}
-use lib.Seq.{getD-set-same, getD-set-other}
+use lib.ListN.{length}
 use Rattle.spec.specs.Bytes.{Bytes, if_then_else_}
 use Rattle.spec.specs.Opening.{counted, countLi}
 use Rattle.spec.specs.Namespaces.{Binding}
 use Rattle.spec.specs.NTriples.{Subject}
 use Rattle.spec.specs.Document.{Value, Kind as What, Frame as Element, withKind, onValue, isXmlElement, changeValue}
-use Rattle.copy.specs.Copy.{part, storedAt}
 use Rattle.frames.specs.declared.Kind.{Kind}
 use Rattle.frames.specs.declared.Kind.the-variants.{Rdf, NodeElt, PropertyElt, ParseTypeCollectionPropertyElt, ParseTypeLiteralPropertyElt, ParseTypeOtherPropertyElt}
 use Rattle.frames.specs.declared.Frame.{Frame}
 use Rattle.frames.specs.Kept.{Kept, kept-all, kept-less, kept-before}
-use Rattle.frames.specs.Words.{frameAt, wordsOf, StoredFrame, frame-wrote, load-store}
+use Rattle.frames.specs.Words.{frameAt, StoredFrame, frame-wrote, load-store}
 use Rattle.state.specs.declared.Registers.{Registers}
-use Rattle.state.specs.Meaning.{at, has, count, first, span, bindingsOf, propertyOf, subjectOf, whatOf, elementOf, subjectBelow, framesOf, innerOf, innersOf, startOf, elementsOf}
-use Rattle.state.specs.Valid.{rises, partsOk, emptyOr, kindOk, stands, Rising, Sound, Valid, rising, rises-up, framesOk}
-use Rattle.state.specs.Stay.{span-kept, chained-kept, bindings-kept, stands-kept, below-kept}
+use Rattle.state.specs.Meaning.{at, has, count, first, bindingsOf, propertyOf, whatOf, elementOf, subjectBelow, framesOf, innerOf, innersOf, startOf, elementsOf}
+use Rattle.state.specs.Valid.{partsOk, kindOk, Rising, Sound, Valid, rising, rises-up}
+use Rattle.state.specs.Stay.{span-kept, bindings-kept, stands-kept, below-kept}
 use Rattle.stack.specs.Change.{Holds, On, toppedTo, changed, top-frame, under, top-element}
 
 -- g is f but for where its tail ends, and what the tail is

@@ -3,3 +3,4 @@ pub mod Valid
 pub mod Stay
 pub mod Held
 pub mod Tests
+pub mod Live

@@ -11,6 +11,7 @@ ghost use Rattle.state.specs.Valid.{rises, emptyOr, partsOk, chained, ch
 use frames::Frame;
 use frames::Kind;
 use frames::Row;
+ghost use Rattle.state.specs.Live.{startedWith, noRegisters};
 use frames::wide;
 use label::BlankNodeIdGenerator;
 
@@ -33,6 +34,47 @@ pub struct Registers {
 impl Registers {
     // Bytes of the work store.
     pub const STORE: usize = 65_536;
+
+    // Bytes that an event may leave held.
+    pub const MOST_HELD: usize = 49_152;
+
+    // Before any document: closed.
+    pub fn none() -> Self
+        ensures { λ r. ⌜ r ≡ noRegisters ⌝ }
+    {
+        Registers {
+            closed: true,
+            rooted: false,
+            based: false,
+            base: 0,
+            depth: 0,
+            inner: 0,
+            outer: 0,
+            bindings: 0,
+            top: 0,
+            low: Self::STORE,
+            labels: 0,
+        }
+    }
+
+    // Of a fresh document, with a start base of `base` bytes, if there is one.
+    pub fn started(based: bool, base: usize) -> Self
+        ensures { λ r. ⌜ r ≡ startedWith based base ⌝ }
+    {
+        Registers {
+            closed: false,
+            rooted: false,
+            based,
+            base,
+            depth: 0,
+            inner: 0,
+            outer: 0,
+            bindings: 0,
+            top: base,
+            low: Self::STORE,
+            labels: 0,
+        }
+    }
 }
 
 // May a call go on from this state?

@@ -3,11 +3,6 @@ use native.Mathlib.Omega.{arith}
 use borrow.Author.Needs.{needs}
 use Rattle.inside.proofs.innermost.Statement.{statement}
 use Rattle.inside.proofs.innermost.Tie as tie
-use Rattle.inside.proofs.innermost.Reads as reads
-use Rattle.inside.proofs.innermost.Lts as lts
-use Rattle.frames.proofs.Frame.load.Reads as load-reads
-use Rattle.frames.proofs.wide.Reads as wide-reads
-use Rattle.inside.proofs.between.Reads as between-reads
 
 abbrev Inv-loop : tie.InvT-loop
 Inv-loop frames depth mark place i₀ i = Sought frames mark place depth i
@@ -15,71 +10,54 @@ Inv-loop frames depth mark place i₀ i = Sought frames mark place depth i
 abbrev μ-loop : tie.MeasureT-loop
 μ-loop frames depth mark place i₀ i = i
 
--- src/lib.rt:134:5
 loop-holds : tie.Need-loop-holds Inv-loop μ-loop
 loop-holds c = sought-begins
 
--- src/lib.rt:135:9
 sub-i : tie.Need-sub-i Inv-loop μ-loop
 sub-i c = search needs
 
--- src/lib.rt:136:13
 load-requires : tie.Need-load-requires Inv-loop μ-loop
 load-requires c κs = search needs
 
--- src/lib.rt:139:12
 mul-if1 : tie.Need-mul-if1 Inv-loop μ-loop
 mul-if1 c = search needs
 
--- src/lib.rt:139:12
 array-read-if1 : tie.Need-array-read-if1 Inv-loop μ-loop
 array-read-if1 c = search needs
 
--- src/lib.rt:140:33
 mul-wide : tie.Need-mul-wide Inv-loop μ-loop
 mul-wide c = search needs
 
--- src/lib.rt:140:33
 array-read-wide : tie.Need-array-read-wide Inv-loop μ-loop
 array-read-wide c = search needs
 
--- src/lib.rt:140:28
 wide-requires : tie.Need-wide-requires Inv-loop μ-loop
 wide-requires c κs = search needs
 
--- src/lib.rt:140:53
 add-wide : tie.Need-add-wide Inv-loop μ-loop
 add-wide c = search needs
 
--- src/lib.rt:140:50
 mul-wide-2 : tie.Need-mul-wide-2 Inv-loop μ-loop
 mul-wide-2 c = search needs
 
--- src/lib.rt:140:50
 array-read-wide-2 : tie.Need-array-read-wide-2 Inv-loop μ-loop
 array-read-wide-2 c = search needs
 
--- src/lib.rt:140:45
 wide-requires-2 : tie.Need-wide-requires-2 Inv-loop μ-loop
 wide-requires-2 c κs = search needs
 
--- src/lib.rt:140:13
 between-requires : tie.Need-between-requires Inv-loop μ-loop
 between-requires c κs = search needs
 
--- src/lib.rt:140:13
 returns : tie.Need-returns Inv-loop μ-loop
 returns c = sought-stop (c .before .before .before .before .before .before .before .before .loop .inv) (omega arith) (c .before .before .before .before .before .before .load .ensures) (c .before .before .before .if1 .taken) (c .before .before .wide .ensures .0) (c .before .wide2 .ensures .0) (c .between .ensures)
 
--- src/lib.rt:134:5
 loop-less : tie.Need-loop-less Inv-loop μ-loop
 loop-less c = search needs
 
--- src/lib.rt:134:5
 loop-again : tie.Need-loop-again Inv-loop μ-loop
 loop-again c = sought-more (c .before .before .before .before .before .loop .inv) (omega arith) (c .before .before .before .load .ensures) (c .if1 .left)
 
--- src/lib.rt:129:1
 returns-2 : tie.Need-returns-2 Inv-loop μ-loop
 returns-2 c = sought-done (c .before .loop .inv) (omega arith)
 

@@ -1,18 +1,12 @@
 use borrow.Author.Tests.{eq-eqb, ne-eqb}
 use Rattle.nodes.specs.Take.{blankByte}
-use native.Mathlib.Omega.{arith}
-use borrow.Author.Needs.{needs}
 use Rattle.nodes.proofs.blank_byte.Statement.{statement}
 use Rattle.nodes.proofs.blank_byte.Tie as tie
-use Rattle.nodes.proofs.blank_byte.Reads as reads
-use Rattle.nodes.proofs.blank_byte.Lts as lts
 
--- src/lib.rt:120:1
 returns : tie.Need-returns
 unfolding blankByte
 returns c = rw (eq-eqb _ _ (c .if1 .taken))
 
--- src/lib.rt:120:1
 returns-2 : tie.Need-returns-2
 unfolding blankByte
 returns-2 c = rw (ne-eqb _ _ (c .if1 .left))

@@ -1,17 +1,12 @@
 use Rattle.nodes.specs.Take.{mayTake}
 use mathlib.Core.Path.{refl}
-use native.Mathlib.Omega.{arith}
 use borrow.Author.Needs.{needs}
 use Rattle.nodes.proofs.may_take.Statement.{statement}
 use Rattle.nodes.proofs.may_take.Tie as tie
-use Rattle.nodes.proofs.may_take.Reads as reads
-use Rattle.nodes.proofs.may_take.Lts as lts
 
--- src/lib.rt:93:13
 add-b : tie.Need-add-b
 add-b c = search needs
 
--- src/lib.rt:88:1
 returns : tie.Need-returns
 unfolding mayTake
 returns c = refl

@@ -1,18 +1,12 @@
 use borrow.Author.Tests.{eq-eqb, ne-eqb}
 use Rattle.nodes.specs.Take.{objectWord}
-use native.Mathlib.Omega.{arith}
-use borrow.Author.Needs.{needs}
 use Rattle.nodes.proofs.object_word.Statement.{statement}
 use Rattle.nodes.proofs.object_word.Tie as tie
-use Rattle.nodes.proofs.object_word.Reads as reads
-use Rattle.nodes.proofs.object_word.Lts as lts
 
--- src/lib.rt:114:1
 returns : tie.Need-returns
 unfolding objectWord
 returns c = rw (eq-eqb _ _ (c .if1 .taken))
 
--- src/lib.rt:114:1
 returns-2 : tie.Need-returns-2
 unfolding objectWord
 returns-2 c = rw (ne-eqb _ _ (c .if1 .left))

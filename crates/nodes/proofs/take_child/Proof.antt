@@ -5,154 +5,109 @@ use native.Mathlib.Omega.{arith}
 use borrow.Author.Needs.{needs}
 use Rattle.nodes.proofs.take_child.Statement.{statement}
 use Rattle.nodes.proofs.take_child.Tie as tie
-use Rattle.nodes.proofs.take_child.Reads as reads
-use Rattle.nodes.proofs.take_child.Lts as lts
-use Rattle.copy.proofs.put.Reads as put-reads
-use Rattle.frames.proofs.Frame.store.Reads as store-reads
-use Rattle.frames.proofs.wide.Reads as wide-reads
-use Rattle.nodes.proofs.blank_byte.Reads as blank-byte-reads
-use Rattle.nodes.proofs.may_take.Reads as may-take-reads
-use Rattle.nodes.proofs.minus.Reads as minus-reads
-use Rattle.nodes.proofs.shift.Reads as shift-reads
-use Rattle.stack.proofs.with_top.Reads as with-top-reads
 
--- src/lib.rt:59:21
 array-read-wide : tie.Need-array-read-wide
 array-read-wide c = search needs
 
--- src/lib.rt:59:9
 wide-requires : tie.Need-wide-requires
 wide-requires c κs = search needs
 
--- src/lib.rt:60:26
 array-read-wide-2 : tie.Need-array-read-wide-2
 array-read-wide-2 c = search needs
 
--- src/lib.rt:60:21
 wide-requires-2 : tie.Need-wide-requires-2
 wide-requires-2 c κs = search needs
 
--- src/lib.rt:60:9
 minus-requires : tie.Need-minus-requires
 minus-requires c κs = search needs
 
--- src/lib.rt:61:19
 array-read-wide-3 : tie.Need-array-read-wide-3
 array-read-wide-3 c = search needs
 
--- src/lib.rt:61:9
 wide-requires-3 : tie.Need-wide-requires-3
 wide-requires-3 c κs = search needs
 
--- src/lib.rt:62:17
 array-read-count : tie.Need-array-read-count
 array-read-count c = search needs
 
--- src/lib.rt:63:50
 add-may-take : tie.Need-add-may-take
 add-may-take c = search needs
 
--- src/lib.rt:63:50
 add-may-take-2 : tie.Need-add-may-take-2
 add-may-take-2 c = search needs
 
--- src/lib.rt:63:9
 may-take-requires : tie.Need-may-take-requires
 may-take-requires c κs = search needs
 
--- src/lib.rt:64:9
 returns : tie.Need-returns
 returns c = child-none (c .before .before .before .before .before .wide .ensures .0) (c .before .before .before .minus .ensures ∙ rw (c .before .before .before .before .before .wide .ensures .0, c .before .before .before .before .wide2 .ensures .0)) (c .before .before .wide3 .ensures .0) (no (c .before .may-take .ensures) (c .if1 .taken))
 
--- src/lib.rt:70:9
 returns-2 : tie.Need-returns-2
 returns-2 c = child-many (c .before .before .before .before .before .before .wide .ensures .0) (c .before .before .before .before .minus .ensures ∙ rw (c .before .before .before .before .before .before .wide .ensures .0, c .before .before .before .before .before .wide2 .ensures .0)) (c .before .before .before .wide3 .ensures .0) (yes (c .before .before .may-take .ensures) (c .before .if1 .left)) (omega arith)
 
--- src/lib.rt:75:14
 add-at : tie.Need-add-at
 add-at c = search needs
 
--- src/lib.rt:75:14
 add-at-2 : tie.Need-add-at-2
 add-at-2 c = search needs
 
--- src/lib.rt:75:13
 cast-at : tie.Need-cast-at
 cast-at c = let m = movable _ _ _ _ _ _ (yes (c .before .before .may-take .ensures) (c .before .if1 .left)) in omega arith
 
--- src/lib.rt:75:5
 array-write-at : tie.Need-array-write-at
 array-write-at c = search needs
 
--- src/lib.rt:76:14
 add-has : tie.Need-add-has
 add-has c = search needs
 
--- src/lib.rt:76:5
 array-write-has : tie.Need-array-write-has
 array-write-has c = search needs
 
--- src/lib.rt:77:26
 sub-store : tie.Need-sub-store
 sub-store c = let m = movable _ _ _ _ _ _ (yes (c .before .before .before .before .may-take .ensures) (c .before .before .before .if1 .left)) in omega arith
 
--- src/lib.rt:77:5
 store-requires : tie.Need-store-requires
 store-requires c κs = search needs
 
--- src/lib.rt:78:5
 shift-requires : tie.Need-shift-requires
 shift-requires c κs = let m = movable _ _ _ _ _ _ (yes (c .before .before .before .before .before .before .before .before .may-take .ensures) (c .before .before .before .before .before .before .before .if1 .left)) in omega arith
 
--- src/lib.rt:79:17
 cast-t42 : tie.Need-cast-t42
 cast-t42 c = search needs
 
--- src/lib.rt:79:36
 cast-t43 : tie.Need-cast-t43
 cast-t43 c = let m = movable _ _ _ _ _ _ (yes (c .before .before .before .before .before .before .before .before .before .before .before .may-take .ensures) (c .before .before .before .before .before .before .before .before .before .before .if1 .left)) in omega arith
 
--- src/lib.rt:79:66
 array-read-blank-byte : tie.Need-array-read-blank-byte
 array-read-blank-byte c = search needs
 
--- src/lib.rt:79:55
 blank-byte-requires : tie.Need-blank-byte-requires
 blank-byte-requires c κs = search needs
 
--- src/lib.rt:80:21
 add-put : tie.Need-add-put
 add-put c = search needs
 
--- src/lib.rt:80:31
 slice-aggregate-put : tie.Need-slice-aggregate-put
 slice-aggregate-put c = search needs
 
--- src/lib.rt:80:5
 put-requires : tie.Need-put-requires
 put-requires c κs = search needs
 
--- src/lib.rt:83:39
 add-with-top : tie.Need-add-with-top
 add-with-top c = search needs
 
--- src/lib.rt:83:39
 add-with-top-2 : tie.Need-add-with-top-2
 add-with-top-2 c = search needs
 
--- src/lib.rt:83:20
 with-top-requires : tie.Need-with-top-requires
 with-top-requires c κs = search needs
 
--- src/lib.rt:50:1
 same-length : tie.Need-same-length
 same-length c = search needs
 
--- src/lib.rt:50:1
 same-length-2 : tie.Need-same-length-2
 same-length-2 c = search needs
 
--- src/lib.rt:50:1
 returns-3 : tie.Need-returns-3
 returns-3 c = child-made (c .before .before .before .before .before .before .before .before .before .before .before .before .before .before .before .before .before .before .before .before .before .before .wide .ensures .0) (c .before .before .before .before .before .before .before .before .before .before .before .before .before .before .before .before .before .before .before .before .minus .ensures ∙ rw (c .before .before .before .before .before .before .before .before .before .before .before .before .before .before .before .before .before .before .before .before .before .before .wide .ensures .0, c .before .before .before .before .before .before .before .before .before .before .before .before .before .before .before .before .before .before .before .before .before .wide2 .ensures .0)) (c .before .before .before .before .before .before .before .before .before .before .before .before .before .before .before .before .before .before .before .wide3 .ensures .0) (c .before .before .before .before .before .before .blank-byte .ensures) (c .before .before .before .before .before .before .before .before .before .before .before .before .before .before .before .before .before .before .before .before .before .before .before .before .before .before .before .before .before .pre) (yes (c .before .before .before .before .before .before .before .before .before .before .before .before .before .before .before .before .before .before .may-take .ensures) (c .before .before .before .before .before .before .before .before .before .before .before .before .before .before .before .before .before .if1 .left)) (omega arith) (c .before .before .before .before .before .before .before .before .before .before .before .before .before .store .ensures) (c .before .before .before .before .before .before .before .before .before .shift .ensures) (c .before .before .before .put .ensures) (c .with-top .ensures)
 

@@ -1,65 +1,45 @@
 use Rattle.nodes.specs.Take.{took-object, took-child, took-none}
 use mathlib.Core.Path.{_∙_, sym}
-use native.Mathlib.Omega.{arith}
 use borrow.Author.Needs.{needs}
 use Rattle.nodes.proofs.take_node.Statement.{statement}
 use Rattle.nodes.proofs.take_node.Tie as tie
-use Rattle.nodes.proofs.take_node.Reads as reads
-use Rattle.nodes.proofs.take_node.Lts as lts
-use Rattle.nodes.proofs.take_child.Reads as take-child-reads
-use Rattle.nodes.proofs.take_object.Reads as take-object-reads
-use Rattle.stack.proofs.same_kind.Reads as same-kind-reads
-use Rattle.stack.proofs.top.Reads as top-reads
 
--- src/lib.rt:79:9
 top-requires : tie.Need-top-requires
 top-requires c κs = search needs
 
--- src/lib.rt:81:8
 same-kind-requires : tie.Need-same-kind-requires
 same-kind-requires c κs = search needs
 
--- src/lib.rt:82:9
 take-object-requires : tie.Need-take-object-requires
 take-object-requires c κs = search needs
 
--- src/lib.rt:82:9
 same-length : tie.Need-same-length
 same-length c = search needs
 
--- src/lib.rt:82:9
 same-length-2 : tie.Need-same-length-2
 same-length-2 c = search needs
 
--- src/lib.rt:82:9
 returns : tie.Need-returns
 returns c = took-object (c .before .before .before .before .before .before .before .before .before .top .ensures) (sym (c .before .before .before .before .before .before .before .before .same-kind .ensures) ∙ c .before .before .before .before .before .before .before .if1 .taken) (c .before .before .before .before .take-object .ensures)
 
--- src/lib.rt:84:8
 same-kind-requires-2 : tie.Need-same-kind-requires-2
 same-kind-requires-2 c κs = search needs
 
--- src/lib.rt:85:9
 take-child-requires : tie.Need-take-child-requires
 take-child-requires c κs = search needs
 
--- src/lib.rt:85:9
 same-length-3 : tie.Need-same-length-3
 same-length-3 c = search needs
 
--- src/lib.rt:85:9
 same-length-4 : tie.Need-same-length-4
 same-length-4 c = search needs
 
--- src/lib.rt:85:9
 returns-2 : tie.Need-returns-2
 returns-2 c = took-child (c .before .before .before .before .before .before .before .before .before .before .before .top .ensures) (sym (c .before .before .before .before .before .before .before .before .before .before .same-kind .ensures) ∙ c .before .before .before .before .before .before .before .before .before .if1 .left) (sym (c .before .before .before .before .before .before .before .before .same-kind2 .ensures) ∙ c .before .before .before .before .before .before .before .if2 .taken) (c .before .before .before .before .take-child .ensures)
 
--- src/lib.rt:75:1
 same-length-5 : tie.Need-same-length-5
 same-length-5 c = search needs
 
--- src/lib.rt:75:1
 returns-3 : tie.Need-returns-3
 returns-3 c = took-none (c .before .before .before .before .top .ensures) (sym (c .before .before .before .same-kind .ensures) ∙ c .before .before .if1 .left) (sym (c .before .same-kind2 .ensures) ∙ c .if2 .left)
 

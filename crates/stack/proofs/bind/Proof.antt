@@ -4,80 +4,58 @@ use native.Mathlib.Omega.{arith}
 use borrow.Author.Needs.{needs}
 use Rattle.stack.proofs.bind.Statement.{statement}
 use Rattle.stack.proofs.bind.Tie as tie
-use Rattle.stack.proofs.bind.Reads as reads
-use Rattle.stack.proofs.bind.Lts as lts
-use Rattle.copy.proofs.put.Reads as put-reads
-use Rattle.frames.proofs.Row.store.Reads as store-reads
 
--- src/lib.rt:113:9
 returns : tie.Need-returns
 returns c = bind-large (omega arith)
 
--- src/lib.rt:116:9
 returns-2 : tie.Need-returns-2
 returns-2 c = bind-full (omega arith) (omega arith)
 
--- src/lib.rt:118:8
 sub-if3 : tie.Need-sub-if3
 sub-if3 c = search needs
 
--- src/lib.rt:119:9
 returns-3 : tie.Need-returns-3
 returns-3 c = bind-full (omega arith) (omega arith)
 
--- src/lib.rt:121:18
 add-middle : tie.Need-add-middle
 add-middle c = search needs
 
--- src/lib.rt:122:8
 sub-if4 : tie.Need-sub-if4
 sub-if4 c = search needs
 
--- src/lib.rt:123:9
 returns-4 : tie.Need-returns-4
 returns-4 c = bind-full (omega arith) (omega arith)
 
--- src/lib.rt:126:13
 cast-t13 : tie.Need-cast-t13
 cast-t13 c = search needs
 
--- src/lib.rt:127:15
 cast-t14 : tie.Need-cast-t14
 cast-t14 c = search needs
 
--- src/lib.rt:128:15
 cast-t15 : tie.Need-cast-t15
 cast-t15 c = search needs
 
--- src/lib.rt:130:9
 store-requires : tie.Need-store-requires
 store-requires c κs = search needs
 
--- src/lib.rt:131:9
 same-length : tie.Need-same-length
 same-length c = search needs
 
--- src/lib.rt:131:9
 returns-5 : tie.Need-returns-5
 returns-5 c = bind-short (omega arith) (omega arith) (c .before .before .before .store .ensures) (not-true _ (c .if5 .taken))
 
--- src/lib.rt:133:5
 put-requires : tie.Need-put-requires
 put-requires c κs = search needs
 
--- src/lib.rt:134:5
 put-requires-2 : tie.Need-put-requires-2
 put-requires-2 c κs = search needs
 
--- src/lib.rt:109:1
 same-length-2 : tie.Need-same-length-2
 same-length-2 c = search needs
 
--- src/lib.rt:109:1
 same-length-3 : tie.Need-same-length-3
 same-length-3 c = search needs
 
--- src/lib.rt:109:1
 returns-6 : tie.Need-returns-6
 returns-6 c = bind-done (omega arith) (omega arith) (c .before .before .before .before .before .before .before .before .before .before .before .store .ensures) (not-false _ (c .before .before .before .before .before .before .before .before .if5 .left)) (c .before .before .before .before .before .before .put .ensures) (c .before .before .put2 .ensures)
 

@@ -4,73 +4,52 @@ use native.Mathlib.Omega.{arith}
 use borrow.Author.Needs.{needs}
 use Rattle.stack.proofs.count_li.Statement.{statement}
 use Rattle.stack.proofs.count_li.Tie as tie
-use Rattle.stack.proofs.count_li.Reads as reads
-use Rattle.stack.proofs.count_li.Lts as lts
-use Rattle.frames.proofs.Frame.store.Reads as store-reads
-use Rattle.stack.proofs.same_kind.Reads as same-kind-reads
-use Rattle.stack.proofs.top.Reads as top-reads
 
--- src/lib.rt:192:9
 top-requires : tie.Need-top-requires
 top-requires c κs = search needs
 
--- src/lib.rt:196:9
 same-kind-requires : tie.Need-same-kind-requires
 same-kind-requires c κs = search needs
 
--- src/lib.rt:197:9
 same-length : tie.Need-same-length
 same-length c = search needs
 
--- src/lib.rt:197:9
 returns : tie.Need-returns
 returns c = count-other (c .before .before .before .before .top .ensures) (no (c .before .same-kind .ensures) (c .if1 .taken))
 
--- src/lib.rt:200:9
 same-length-2 : tie.Need-same-length-2
 same-length-2 c = search needs
 
--- src/lib.rt:200:9
 returns-2 : tie.Need-returns-2
 returns-2 c = count-empty (c .before .before .before .before .before .before .top .ensures) (yes (c .before .before .before .same-kind .ensures) (c .before .before .if1 .left)) (c .if2 .taken)
 
--- src/lib.rt:202:17
 array-read-count : tie.Need-array-read-count
 array-read-count c = search needs
 
--- src/lib.rt:203:8
 cast-if3 : tie.Need-cast-if3
 cast-if3 c = search needs
 
--- src/lib.rt:204:9
 same-length-3 : tie.Need-same-length-3
 same-length-3 c = search needs
 
--- src/lib.rt:204:9
 returns-3 : tie.Need-returns-3
 returns-3 c = count-spent (c .before .before .before .before .before .before .before .top .ensures) (yes (c .before .before .before .before .same-kind .ensures) (c .before .before .before .if1 .left)) (c .before .if2 .left) (omega arith)
 
--- src/lib.rt:206:14
 add-has : tie.Need-add-has
 add-has c = search needs
 
--- src/lib.rt:206:5
 array-write-has : tie.Need-array-write-has
 array-write-has c = search needs
 
--- src/lib.rt:207:26
 sub-store : tie.Need-sub-store
 sub-store c = search needs
 
--- src/lib.rt:207:5
 store-requires : tie.Need-store-requires
 store-requires c κs = search needs
 
--- src/lib.rt:189:1
 same-length-4 : tie.Need-same-length-4
 same-length-4 c = search needs
 
--- src/lib.rt:189:1
 returns-4 : tie.Need-returns-4
 returns-4 c = count-done (c .before .before .before .before .before .before .before .before .before .before .before .before .top .ensures) (yes (c .before .before .before .before .before .before .before .before .before .same-kind .ensures) (c .before .before .before .before .before .before .before .before .if1 .left)) (c .before .before .before .before .before .before .if2 .left) (omega arith) (c .before .before .store .ensures)
 

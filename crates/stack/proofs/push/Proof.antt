@@ -4,48 +4,34 @@ use native.Mathlib.Omega.{arith}
 use borrow.Author.Needs.{needs}
 use Rattle.stack.proofs.push.Statement.{statement}
 use Rattle.stack.proofs.push.Tie as tie
-use Rattle.stack.proofs.push.Reads as reads
-use Rattle.stack.proofs.push.Lts as lts
-use Rattle.frames.proofs.Frame.store.Reads as store-reads
-use Rattle.frames.proofs.wide.Reads as wide-reads
 
--- src/lib.rt:35:9
 returns : tie.Need-returns
 returns c = push-inside (c .if1 .taken)
 
--- src/lib.rt:41:9
 returns-2 : tie.Need-returns-2
 returns-2 c = push-deep (omega arith) (omega arith)
 
--- src/lib.rt:46:9
 store-requires : tie.Need-store-requires
 store-requires c κs = search needs
 
--- src/lib.rt:47:9
 same-length : tie.Need-same-length
 same-length c = search needs
 
--- src/lib.rt:47:9
 returns-3 : tie.Need-returns-3
 returns-3 c = push-short (omega arith) (omega arith) (c .before .before .before .store .ensures) (not-true _ (c .if3 .taken))
 
--- src/lib.rt:59:20
 add-t10 : tie.Need-add-t10
 add-t10 c = search needs
 
--- src/lib.rt:63:23
 array-read-wide : tie.Need-array-read-wide
 array-read-wide c = search needs
 
--- src/lib.rt:63:18
 wide-requires : tie.Need-wide-requires
 wide-requires c κs = search needs
 
--- src/lib.rt:30:1
 same-length-2 : tie.Need-same-length-2
 same-length-2 c = search needs
 
--- src/lib.rt:30:1
 returns-4 : tie.Need-returns-4
 returns-4 c = rw (c .wide .ensures .0) (push-done (omega arith) (omega arith) (c .before .before .before .before .before .store .ensures) (not-false _ (c .before .before .if3 .left)))
 

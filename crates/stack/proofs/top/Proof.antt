@@ -1,31 +1,21 @@
 use Rattle.stack.specs.Calls.{top-none, top-there}
 use mathlib.Core.Path.{_∙_}
-use native.Mathlib.Omega.{arith}
 use borrow.Author.Needs.{needs}
 use Rattle.stack.proofs.top.Statement.{statement}
 use Rattle.stack.proofs.top.Tie as tie
-use Rattle.stack.proofs.top.Reads as reads
-use Rattle.stack.proofs.top.Lts as lts
-use Rattle.frames.proofs.Frame.load.Reads as load-reads
-use Rattle.frames.proofs.Frame.none.Reads as none-reads
 
--- src/lib.rt:144:9
 none-requires : tie.Need-none-requires
 none-requires c κs = search needs
 
--- src/lib.rt:144:9
 returns : tie.Need-returns
 returns c = c .none .ensures ∙ top-none _ _ (c .before .if1 .taken)
 
--- src/lib.rt:146:25
 sub-load : tie.Need-sub-load
 sub-load c = search needs
 
--- src/lib.rt:146:5
 load-requires : tie.Need-load-requires
 load-requires c κs = search needs
 
--- src/lib.rt:140:1
 returns-2 : tie.Need-returns-2
 returns-2 c = c .load .ensures ∙ top-there _ _ (c .before .before .if1 .left)
 

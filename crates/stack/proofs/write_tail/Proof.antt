@@ -4,81 +4,58 @@ use native.Mathlib.Omega.{arith}
 use borrow.Author.Needs.{needs}
 use Rattle.stack.proofs.write_tail.Statement.{statement}
 use Rattle.stack.proofs.write_tail.Tie as tie
-use Rattle.stack.proofs.write_tail.Reads as reads
-use Rattle.stack.proofs.write_tail.Lts as lts
-use Rattle.copy.proofs.put.Reads as put-reads
-use Rattle.frames.proofs.Frame.store.Reads as store-reads
-use Rattle.stack.proofs.with_top.Reads as with-top-reads
 
--- src/lib.rt:219:9
 returns : tie.Need-returns
 returns c = tail-empty (c .if1 .taken)
 
--- src/lib.rt:222:9
 returns-2 : tie.Need-returns-2
 returns-2 c = tail-large (c .before .before .if1 .left) (omega arith)
 
--- src/lib.rt:225:9
 returns-3 : tie.Need-returns-3
 returns-3 c = tail-beyond (c .before .before .before .before .if1 .left) (omega arith) (omega arith)
 
--- src/lib.rt:228:9
 returns-4 : tie.Need-returns-4
 returns-4 c = tail-full (c .before .before .before .before .before .before .if1 .left) (omega arith) (omega arith) (omega arith)
 
--- src/lib.rt:231:9
 returns-5 : tie.Need-returns-5
 returns-5 c = tail-full (c .before .before .before .before .before .before .before .before .if1 .left) (omega arith) (omega arith) (omega arith)
 
--- src/lib.rt:233:14
 add-to : tie.Need-add-to
 add-to c = search needs
 
--- src/lib.rt:237:13
 cast-at : tie.Need-cast-at
 cast-at c = search needs
 
--- src/lib.rt:237:5
 array-write-at : tie.Need-array-write-at
 array-write-at c = search needs
 
--- src/lib.rt:238:5
 array-write-has : tie.Need-array-write-has
 array-write-has c = search needs
 
--- src/lib.rt:239:30
 sub-store : tie.Need-sub-store
 sub-store c = search needs
 
--- src/lib.rt:239:9
 store-requires : tie.Need-store-requires
 store-requires c κs = search needs
 
--- src/lib.rt:240:9
 same-length : tie.Need-same-length
 same-length c = search needs
 
--- src/lib.rt:240:9
 returns-6 : tie.Need-returns-6
 returns-6 c = tail-short (c .before .before .before .before .before .before .before .before .before .before .before .before .before .before .before .before .if1 .left) (omega arith) (omega arith) (omega arith) (c .before .before .before .store .ensures) (not-true _ (c .if6 .taken))
 
--- src/lib.rt:242:5
 put-requires : tie.Need-put-requires
 put-requires c κs = search needs
 
--- src/lib.rt:245:20
 with-top-requires : tie.Need-with-top-requires
 with-top-requires c κs = search needs
 
--- src/lib.rt:211:1
 same-length-2 : tie.Need-same-length-2
 same-length-2 c = search needs
 
--- src/lib.rt:211:1
 same-length-3 : tie.Need-same-length-3
 same-length-3 c = search needs
 
--- src/lib.rt:211:1
 returns-7 : tie.Need-returns-7
 returns-7 c = tail-done (c .before .before .before .before .before .before .before .before .before .before .before .before .before .before .before .before .before .before .before .before .before .if1 .left) (omega arith) (omega arith) (omega arith) (c .before .before .before .before .before .before .before .before .store .ensures) (not-false _ (c .before .before .before .before .before .if6 .left)) (c .before .before .before .put .ensures) (c .with-top .ensures)
 
