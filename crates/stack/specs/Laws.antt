@@ -71,11 +71,11 @@ unfolding chained bindingsOf
 bound-none {bs} {w} {b} {from} = record { chain = eq-eqb from from refl; are = refl }
 
 -- ---- where the binds of one start tag went: behind others' rows, and behind what is held below
-pub record Row-put (w bs v cs : List ℕ) (a n : ℕ) (p s : Bytes) : Type 0 where
+pub record RowPut (w bs v cs : List ℕ) (a n : ℕ) (p s : Bytes) : Type 0 where
   pub bytes : Wrote w v a (a + (length p + length s)) (p ++ s)
   pub words : Wrote bs cs (n * 3) (n * 3 + 3) (a ∷ length p ∷ length s ∷ [])
 
-pub bind-put : {w bs v cs : List ℕ} {a n : ℕ} {p s : Bytes} {r : Bool} → Binds w bs a n p s v cs r → r ≡ true → Row-put w bs v cs a n p s
+pub bind-put : {w bs v cs : List ℕ} {a n : ℕ} {p s : Bytes} {r : Bool} → Binds w bs a n p s v cs r → r ≡ true → RowPut w bs v cs a n p s
 unfolding mayBind
 bind-put {w} {bs} {v} {cs} {a} {n} {p} {s} {r} h y =
     let m : mayBind w bs a n p s ≡ true = sym (h .answer) ∙ y in
@@ -89,7 +89,7 @@ bind-put {w} {bs} {v} {cs} {a} {n} {p} {s} {r} h y =
     }
 
 -- one more binding of the same start tag
-pub bound-more : {w bs v cs : List ℕ} {b n from a : ℕ} {p s : Bytes} {bound : List Binding} → Bound bs w b n from a bound → Row-put w bs v cs a (b + n) p s
+pub bound-more : {w bs v cs : List ℕ} {b n from a : ℕ} {p s : Bytes} {bound : List Binding} → Bound bs w b n from a bound → RowPut w bs v cs a (b + n) p s
     → Bound cs v b (suc n) from (a + (length p + length s)) ((p, s) ∷ bound)
 unfolding bindingsOf bindingOf
 bound-more {w} {bs} {v} {cs} {b} {n} {from} {a} {p} {s} {bound} h q =

@@ -1,3 +1,4 @@
+-- `nodes::may_take` meets its contract. From what the calls ensure.
 use Rattle.nodes.specs.Take.{mayTake}
 use mathlib.Core.Path.{refl}
 use borrow.Author.Needs.{needs}
