@@ -1,2 +1,3 @@
+-- Words, and stretches that are kept.
 pub mod Kept
 pub mod Words

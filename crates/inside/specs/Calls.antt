@@ -7,6 +7,8 @@ use native.Mathlib.Omega.{arith}
 use lib.Dec.{eqb, leb, ltb}
 use lib.ListN.{length}
 use borrow.Author.Tests.{leb-true, leb-false, eq-eqb, ne-eqb, le-leb, lt-leb, lt-ltb, le-ltb}
+use Rattle.spec.specs.Limits as L
+use Rattle.spec.specs.Limits.{mostOpenElements, mostBindings, workStoreBytes}
 use Rattle.copy.specs.Copy.{storedAt}
 use Rattle.frames.specs.declared.Frame.{Frame}
 use Rattle.frames.specs.declared.Row.{Row}
@@ -22,7 +24,7 @@ use Rattle.stack.specs.Change.{insideTo}
 
 unfoldable pub mayOpen : Registers → List ℕ → ℕ → ℕ → Bool
 mayOpen r is a n =
-    ltb (r .depth + r .inner) 64 && (leb a 65_536 && (leb n 65_536 && (leb (r .bindings) 128 && leb (r .inner * 3 + 3) (length is))))
+    ltb (r .depth + r .inner) mostOpenElements && (leb a workStoreBytes && (leb n workStoreBytes && (leb (r .bindings) mostBindings && leb (r .inner * 3 + 3) (length is))))
 
 pub record Opens (r : Registers) (is : List ℕ) (a n b : ℕ) (c : Changed) (js : List ℕ) : Type 0 where
   pub answer : c .ok ≡ mayOpen r is a n
@@ -33,7 +35,7 @@ pub record Opens (r : Registers) (is : List ℕ) (a n b : ℕ) (c : Changed) (js
 
 -- where inner element i ends
 unfoldable pub ceilingIn : List ℕ → ℕ → ℕ
-ceilingIn is i = pick (eqb i 0) 65_536 (loadRow is (i - 1) .at)
+ceilingIn is i = pick (eqb i 0) workStoreBytes (loadRow is (i - 1) .at)
 
 pub record Closes (r : Registers) (is : List ℕ) (c : Changed) : Type 0 where
   pub answer : c .ok ≡ ltb 0 (r .inner)
@@ -68,7 +70,7 @@ languageIn r fs = innermostIn fs 1 3 (r .depth)
 
 -- where the numbers are not a valid state's, all of the store
 unfoldable pub heldIn : Registers → ℕ
-heldIn r = pick (leb (r .low) 65_536 && leb (r .top) (r .low)) (r .top + (65_536 - r .low)) 65_536
+heldIn r = pick (leb (r .low) workStoreBytes && leb (r .top) (r .low)) (r .top + (workStoreBytes - r .low)) workStoreBytes
 
 -- ---- how the calls come to their answers
 
@@ -80,33 +82,33 @@ module _ {r : Registers} {is : List ℕ} {a n b : ℕ} where
   open-refused h e = record { answer = sym h; stored = λ y. differ y h; moved = λ y. differ y h; kept = λ _. (e, refl); same = ap length e }
 
   pub open-deep : 64 ≤ r .depth + r .inner → Opens r is a n b (record { ok = false; registers = r }) is
-  unfolding mayOpen
+  unfolding L.all mayOpen
   open-deep h = open-refused (rw (le-ltb (r .depth + r .inner) 64 h)) refl
 
   module _ (d : r .depth + r .inner < 64) where
     pub open-far : 65_536 < a → Opens r is a n b (record { ok = false; registers = r }) is
-    unfolding mayOpen
+    unfolding L.all mayOpen
     open-far h = open-refused (rw (lt-ltb (r .depth + r .inner) 64 d, lt-leb a 65_536 h)) refl
 
     module _ (l : a ≤ 65_536) where
       pub open-long : 65_536 < n → Opens r is a n b (record { ok = false; registers = r }) is
-      unfolding mayOpen
+      unfolding L.all mayOpen
       open-long h = open-refused (rw (lt-ltb (r .depth + r .inner) 64 d, le-leb a 65_536 l, lt-leb n 65_536 h)) refl
 
       module _ (m : n ≤ 65_536) where
         pub open-many : 128 < r .bindings → Opens r is a n b (record { ok = false; registers = r }) is
-        unfolding mayOpen
+        unfolding L.all mayOpen
         open-many h = open-refused (rw (lt-ltb (r .depth + r .inner) 64 d, le-leb a 65_536 l, le-leb n 65_536 m, lt-leb (r .bindings) 128 h)) refl
 
         module _ {js : List ℕ} {q : Bool} (k : r .bindings ≤ 128) (s : StoredRow is (r .inner) (record { at = a; name = n; more = r .bindings }) js q) where
           pub open-short : q ≡ false → Opens r is a n b (record { ok = false; registers = r }) js
-          unfolding mayOpen
+          unfolding L.all mayOpen
           open-short h =
               let x : leb (r .inner * 3 + 3) (length is) ≡ false = sym (s .answer) ∙ h in
               open-refused (rw (lt-ltb (r .depth + r .inner) 64 d, le-leb a 65_536 l, le-leb n 65_536 m, le-leb (r .bindings) 128 k, x)) (s .kept (leb-false (r .inner * 3 + 3) (length is) x))
 
           pub open-done : {r′ : Registers} → q ≡ true → r′ ≡ insideTo r (r .inner + 1) a b → Opens r is a n b (record { ok = true; registers = r′ }) js
-          unfolding mayOpen
+          unfolding L.all mayOpen
           open-done h e =
               let x : leb (r .inner * 3 + 3) (length is) ≡ true = sym (s .answer) ∙ h in
               let y : mayOpen r is a n ≡ true = rw (lt-ltb (r .depth + r .inner) 64 d, le-leb a 65_536 l, le-leb n 65_536 m, le-leb (r .bindings) 128 k, x) in
@@ -122,11 +124,11 @@ module _ {r : Registers} {is : List ℕ} where
       record { answer = sym (lt-ltb 0 (r .inner) (positive (r .inner) h)); moved = λ _. k ∙ rw (l, m, e); kept = λ z. absurd (h z) }
 
 pub ceiling-none : (is : List ℕ) (i : ℕ) → i ≡ 0 → 65_536 ≡ ceilingIn is i
-unfolding ceilingIn
+unfolding L.all ceilingIn
 ceiling-none is i z = rw (eq-eqb i 0 z)
 
 pub ceiling-there : (is : List ℕ) (i : ℕ) {r : Row} → (i ≡ 0 → ⊥) → r ≡ loadRow is (i - 1) → r .at ≡ ceilingIn is i
-unfolding ceilingIn
+unfolding L.all ceilingIn
 ceiling-there is i z e = rw (ne-eqb i 0 z, e)
 
 found : (c : Found) (a b : ℕ) → (c .there ≡ true) × (c .at ≡ a) × (c .len ≡ b - a) → c ≡ stretch a b
@@ -188,13 +190,13 @@ module _ (r : Registers) (fs : List ℕ) {f : Found} (e : f ≡ innermostIn fs 0
 
 module _ (r : Registers) where
   pub held-wild : 65_536 < r .low → 65_536 ≡ heldIn r
-  unfolding heldIn
+  unfolding L.all heldIn
   held-wild h = rw (lt-leb (r .low) 65_536 h)
 
   pub held-crossed : r .low ≤ 65_536 → r .low < r .top → 65_536 ≡ heldIn r
-  unfolding heldIn
+  unfolding L.all heldIn
   held-crossed l h = rw (le-leb (r .low) 65_536 l, lt-leb (r .top) (r .low) h)
 
   pub held-is : r .low ≤ 65_536 → r .top ≤ r .low → r .top + (65_536 - r .low) ≡ heldIn r
-  unfolding heldIn
+  unfolding L.all heldIn
   held-is l h = rw (le-leb (r .low) 65_536 l, le-leb (r .top) (r .low) h)

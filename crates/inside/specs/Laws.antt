@@ -8,6 +8,7 @@ use native.Mathlib.Omega.{arith}
 use lib.Dec.{eqb, leb, ltb}
 use lib.ListN.{length}
 use borrow.Author.Tests.{eqb-true, eqb-false, leb-true, ltb-true, eq-eqb, ne-eqb}
+use Rattle.spec.specs.Limits as L
 use Rattle.spec.proofs.Booleans.{and-left, and-right}
 use Rattle.spec.specs.Bytes.{Bytes, orElse}
 use Rattle.spec.specs.Namespaces.{Binding}
@@ -139,7 +140,7 @@ record Openable (r : Registers) (is : List ℕ) : Type 0 where
   room : r .inner * 3 + 3 ≤ length is
 
 openable : (r : Registers) (is : List ℕ) (a n : ℕ) → mayOpen r is a n ≡ true → Openable r is
-unfolding mayOpen
+unfolding L.all mayOpen
 openable r is a n m =
     let m1 = and-right (ltb (r .depth + r .inner) 64) _ m in
     let m2 = and-right (leb a 65_536) _ m1 in
@@ -192,7 +193,7 @@ suc-pred : (n : ℕ) → suc n - 1 ≡ n
 suc-pred n = omega arith
 
 ceiling-same : (is : List ℕ) (n : ℕ) → n * 3 ≤ length is → ceilingIn is n ≡ ceiling is n
-unfolding ceilingIn ceiling workStoreBytes
+unfolding L.all ceilingIn ceiling workStoreBytes
 ceiling-same is zero h = refl
 ceiling-same is (suc n) h = rw (ne-eqb (suc n) 0 (λ e. omega arith), suc-pred n, load-row is n (omega arith))
 

@@ -1,2 +1,3 @@
+-- Elements inside Literal content, and reads.
 pub mod Calls
 pub mod Laws

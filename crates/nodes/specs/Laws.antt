@@ -9,6 +9,7 @@ use lib.Dec.{eqb}
 use lib.ListN.{length, length-set}
 use lib.Seq.{getD-set-same, getD-set-other}
 use borrow.Author.Tests.{eqb-true}
+use Rattle.spec.specs.Limits as L
 use Rattle.spec.proofs.Booleans.{and-left, and-right}
 use Rattle.spec.specs.NTriples.{Subject, named, blank}
 use Rattle.spec.specs.Document.{nodeObject, textObject, noObject, Kind as What, rdfRDF, nodeElement, propertyElement, xmlElement, Frame as Element, onValue, changeValue}
@@ -224,7 +225,7 @@ module _ {r : Registers} {fs bs is w gs v : List ℕ} {n : Frame} {c : Changed} 
 
   child-holds : sameKind (topFrame r fs .kind) PropertyElt ≡ false → sameKind (topFrame r fs .kind) ParseTypeCollectionPropertyElt ≡ true
       → Holds (c .registers) gs bs is v (startOf r w) (changeValue (takesNode (subjectOf n w)) (elementsOf r fs bs is w)) (r .rooted) (r .labels)
-  unfolding mayChild
+  unfolding L.all mayChild
   child-holds p o =
       let k = topmost x (top-deep r fs (λ i. false≢true (ap (λ (g : Kind). sameKind g ParseTypeCollectionPropertyElt) (sym i) ∙ o))) in
       let m : ℕ = r .depth - 1 in
@@ -299,7 +300,7 @@ record Closable (r : Registers) (fs w : List ℕ) : Type 0 where
   pop : mayPop r ≡ true
 
 closable : (r : Registers) (fs w : List ℕ) → mayClose r fs w ≡ true → Closable r fs w
-unfolding mayClose
+unfolding L.all mayClose
 closable r fs w m =
     let m1 = and-right (eqb (length w) 65_536) _ m in
     let m2 = and-right (sameKind (topFrame r fs .kind) NodeElt) _ m1 in

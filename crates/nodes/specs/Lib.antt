@@ -1,2 +1,3 @@
+-- A node that closes.
 pub mod Take
 pub mod Laws

@@ -8,6 +8,8 @@ use lib.Dec.{eqb, leb, ltb}
 use lib.ListN.{length, getD, set, drop}
 use lib.Seq.{getD-drop, drop-paste}
 use borrow.Author.Tests.{leb-true, ltb-true, eq-eqb, ne-eqb, lt-ltb, le-ltb, lt-leb, le-leb}
+use Rattle.spec.specs.Limits as L
+use Rattle.spec.specs.Limits.{workStoreBytes}
 use Rattle.spec.proofs.Booleans.{and-left, and-right}
 use Rattle.copy.specs.Copy.{part, storedAt, Put, Copied, copied-begins, copied-more, copied-done, length-part, getD-part, put-fits, wrote-same, Wrote, then}
 use Rattle.frames.specs.declared.Kind.the-variants.{NodeElt, PropertyElt, ParseTypeCollectionPropertyElt}
@@ -22,7 +24,7 @@ use Rattle.nodes.specs.declared.Child.{Child}
 
 unfoldable pub mayTake : Registers → ℕ → ℕ → ℕ → ℕ → ℕ → Bool
 mayTake r words from to len end =
-    leb to from && (leb (from + len) 65_536 && (leb end (r .low) && (leb (r .low) 65_536 && (ltb 0 (r .depth) && leb (r .depth) (words / 18)))))
+    leb to from && (leb (from + len) workStoreBytes && (leb end (r .low) && (leb (r .low) workStoreBytes && (ltb 0 (r .depth) && leb (r .depth) (words / 18)))))
 
 unfoldable pub objectWord : ℕ → ℕ
 objectWord blank = pick (eqb blank 0) 1 2
@@ -64,7 +66,7 @@ pub record TakesObject (r : Registers) (fs w : List ℕ) (f n : Frame) (c : Chan
 
 -- a Collection has fewer children than the store has bytes
 unfoldable pub mayChild : Registers → ℕ → Frame → Frame → Bool
-mayChild r words f n = mayTake r words (at n 4) (at f 8) (mainSize n) (at f 8 + mainSize n + 4) && ltb (count f) 65_536
+mayChild r words f n = mayTake r words (at n 4) (at f 8) (mainSize n) (at f 8 + mainSize n + 4) && ltb (count f) workStoreBytes
 
 pub record TakesChild (r : Registers) (fs w : List ℕ) (f n : Frame) (c : Changed) (gs v : List ℕ) : Type 0 where
   pub takes : mayChild r (length fs) f n ≡ true
@@ -91,7 +93,7 @@ without r fs = poppedTo r (at (loadFrame fs (r .depth - 1)) 0) (first (loadFrame
 
 unfoldable pub mayClose : Registers → List ℕ → List ℕ → Bool
 mayClose r fs w =
-    eqb (length w) 65_536
+    eqb (length w) workStoreBytes
     && (sameKind (topFrame r fs .kind) NodeElt
     && (mayPop r && mayTakeNode (without r fs) (length fs) (topFrame (without r fs) fs) (topFrame r fs)))
 
@@ -151,7 +153,7 @@ pub record Movable (r : Registers) (words from to len end : ℕ) : Type 0 where
   pub table : (r .depth - 1) * 18 + 18 ≤ words
 
 pub movable : (r : Registers) (words from to len end : ℕ) → mayTake r words from to len end ≡ true → Movable r words from to len end
-unfolding mayTake
+unfolding L.all mayTake
 movable r words from to len end m =
     let m1 = and-right (leb to from) _ m in
     let m2 = and-right (leb (from + len) 65_536) _ m1 in
@@ -199,19 +201,19 @@ module _ {r : Registers} {fs w : List ℕ} {f n : Frame} where
   child-refused h = record { takes = λ y. differ y h; kept = λ _. kept-whole }
 
   pub child-no-room : mayTake r (length fs) (at n 4) (at f 8) (mainSize n) (at f 8 + mainSize n + 4) ≡ false → TakesChild r fs w f n (record { ok = false; registers = r }) fs w
-  unfolding mayChild
+  unfolding L.all mayChild
   child-no-room h = child-refused (rw h)
 
   module _ (m : mayTake r (length fs) (at n 4) (at f 8) (mainSize n) (at f 8 + mainSize n + 4) ≡ true) where
     pub child-too-many : 65_536 ≤ count f → TakesChild r fs w f n (record { ok = false; registers = r }) fs w
-    unfolding mayChild
+    unfolding L.all mayChild
     child-too-many h = child-refused (rw (m, le-ltb (count f) 65_536 h))
 
     pub child-done : {gs u v : List ℕ} {q y : Bool} {r′ : Registers} → length w ≡ 65_536 → count f < 65_536
         → StoredFrame fs (r .depth - 1) (childFrame f n) gs q → u ≡ storedAt w (at f 8) (part w (at n 4) (mainSize n))
         → Put u (at f 8 + mainSize n) (markOf (mainSize n) (has n 2)) v y → r′ ≡ toppedTo r (at f 8 + mainSize n + 4)
         → TakesChild r fs w f n (record { ok = true; registers = r′ }) gs v
-    unfolding mayChild
+    unfolding L.all mayChild
     child-done {gs} {u} {v} {q} l c s e p k =
         let t = movable r (length fs) (at n 4) (at f 8) (mainSize n) (at f 8 + mainSize n + 4) m in
         let d = t .down in
@@ -256,7 +258,7 @@ module _ {r : Registers} {fs w : List ℕ} {f n : Frame} {from to len : ℕ} (a 
 
 module _ {r : Registers} {fs w : List ℕ} {n f : Frame} (e : f ≡ topFrame r fs) where
   pub took-object : {c : Changed} {gs v : List ℕ} → sameKind (f .kind) PropertyElt ≡ true → TakesObject r fs w f n c gs v → TakesNode r fs w n c gs v
-  unfolding mayTakeNode
+  unfolding L.all mayTakeNode
   took-object {c} {gs} {v} y t =
       let m : Bool = mayTake r (length fs) (at n 4) (at f 7) (mainSize n) (at f 7 + mainSize n) in
       let a : mayTakeNode r (length fs) (topFrame r fs) n ≡ m = rw (← e, y) in
@@ -270,7 +272,7 @@ module _ {r : Registers} {fs w : List ℕ} {n f : Frame} (e : f ≡ topFrame r f
 
   module _ (o : sameKind (f .kind) PropertyElt ≡ false) where
     pub took-child : {c : Changed} {gs v : List ℕ} → sameKind (f .kind) ParseTypeCollectionPropertyElt ≡ true → TakesChild r fs w f n c gs v → TakesNode r fs w n c gs v
-    unfolding mayTakeNode
+    unfolding L.all mayTakeNode
     took-child {c} {gs} {v} y t =
         let a : mayTakeNode r (length fs) (topFrame r fs) n ≡ mayChild r (length fs) f n = rw (← e, o, y) in
         record {
@@ -282,7 +284,7 @@ module _ {r : Registers} {fs w : List ℕ} {n f : Frame} (e : f ≡ topFrame r f
         }
 
     pub took-none : sameKind (f .kind) ParseTypeCollectionPropertyElt ≡ false → TakesNode r fs w n (record { ok = true; registers = r }) fs w
-    unfolding mayTakeNode
+    unfolding L.all mayTakeNode
     took-none y =
         record {
           answer = rw (← e, o, y);
@@ -297,17 +299,17 @@ module _ {r : Registers} {fs w : List ℕ} where
   close-refused h p q = record { answer = sym h; takes = λ y. differ y h; kept = λ _. record { ok = refl; registers = refl; words = p; bytes = q } }
 
   pub close-store : (length w ≡ 65_536 → ⊥) → ClosesNode r fs w (record { ok = false; registers = r }) fs w
-  unfolding mayClose
+  unfolding L.all mayClose
   close-store h = close-refused (rw (ne-eqb (length w) 65_536 h)) refl refl
 
   module _ (l : length w ≡ 65_536) {n : Frame} (e : n ≡ topFrame r fs) where
     pub close-other : sameKind (n .kind) NodeElt ≡ false → ClosesNode r fs w (record { ok = false; registers = r }) fs w
-    unfolding mayClose
+    unfolding L.all mayClose
     close-other h = close-refused (rw (eq-eqb (length w) 65_536 l, ← e, h)) refl refl
 
     module _ (k : sameKind (n .kind) NodeElt ≡ true) {p : Changed} (o : Pops r fs p) where
       pub close-none : p .ok ≡ false → ClosesNode r fs w (record { ok = false; registers = r }) fs w
-      unfolding mayClose
+      unfolding L.all mayClose
       close-none h = close-refused (rw (eq-eqb (length w) 65_536 l, ← e, k, sym (o .answer) ∙ h)) refl refl
 
       module _ (y : p .ok ≡ true) {t : Changed} {gs v : List ℕ} (x : TakesNode (p .registers) fs w n t gs v) where
@@ -315,14 +317,14 @@ module _ {r : Registers} {fs w : List ℕ} where
         pop-is = sym (o .answer) ∙ y
 
         pub close-full : t .ok ≡ false → ClosesNode r fs w (record { ok = false; registers = r }) gs v
-        unfolding mayClose
+        unfolding L.all mayClose
         close-full h =
             let z : mayTakeNode (without r fs) (length fs) (topFrame (without r fs) fs) n ≡ false = rw (← o .moved pop-is) (sym (x .answer) ∙ h) in
             let q = x .kept h in
             close-refused (rw (eq-eqb (length w) 65_536 l, ← e, k, pop-is, z)) (q .words) (q .bytes)
 
         pub close-done : t .ok ≡ true → ClosesNode r fs w t gs v
-        unfolding mayClose
+        unfolding L.all mayClose
         close-done h =
             let z : mayTakeNode (without r fs) (length fs) (topFrame (without r fs) fs) n ≡ true = rw (← o .moved pop-is) (sym (x .answer) ∙ h) in
             let m : mayClose r fs w ≡ true = rw (eq-eqb (length w) 65_536 l, ← e, k, pop-is, z) in

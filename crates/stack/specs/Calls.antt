@@ -7,6 +7,8 @@ use native.Mathlib.Omega.{arith}
 use lib.Dec.{eqb, leb, ltb}
 use lib.ListN.{length, set}
 use borrow.Author.Tests.{leb-true, leb-false, eq-eqb, ne-eqb, le-leb, lt-leb, lt-ltb, le-ltb}
+use Rattle.spec.specs.Limits as L
+use Rattle.spec.specs.Limits.{mostOpenElements, workStoreBytes, mostLabels}
 use Rattle.copy.specs.Copy.{storedAt, Put, then, put-fits, wrote-same}
 use Rattle.frames.specs.declared.Kind.{Kind}
 use Rattle.frames.specs.declared.Kind.the-variants.{Rdf, NodeElt, PropertyElt, ParseTypeCollectionPropertyElt, ParseTypeLiteralPropertyElt, ParseTypeOtherPropertyElt}
@@ -21,7 +23,7 @@ use Rattle.stack.specs.Change.{pushedTo, poppedTo, toppedTo}
 -- ---- push
 
 unfoldable pub mayPush : Registers → List ℕ → Bool
-mayPush r fs = eqb (r .inner) 0 && (ltb (r .depth) 64 && leb (r .depth * 18 + 18) (length fs))
+mayPush r fs = eqb (r .inner) 0 && (ltb (r .depth) mostOpenElements && leb (r .depth * 18 + 18) (length fs))
 
 pub record Pushes (r : Registers) (fs : List ℕ) (f : Frame) (b : ℕ) (c : Changed) (gs : List ℕ) : Type 0 where
   pub answer : c .ok ≡ mayPush r fs
@@ -43,7 +45,7 @@ pub record Pops (r : Registers) (fs : List ℕ) (c : Changed) : Type 0 where
 -- ---- bind
 
 unfoldable pub mayBind : List ℕ → List ℕ → ℕ → ℕ → List ℕ → List ℕ → Bool
-mayBind w bs a n p s = leb (length w) 65_536 && (leb (a + (length p + length s)) (length w) && leb (n * 3 + 3) (length bs))
+mayBind w bs a n p s = leb (length w) workStoreBytes && (leb (a + (length p + length s)) (length w) && leb (n * 3 + 3) (length bs))
 
 pub record Binds (w bs : List ℕ) (a n : ℕ) (p s v cs : List ℕ) (r : Bool) : Type 0 where
   pub answer : r ≡ mayBind w bs a n p s
@@ -71,7 +73,7 @@ counted f = record { kind = f .kind; at = f .at; has = set (f .has) 6 (count f +
 unfoldable pub mayTail : Registers → List ℕ → List ℕ → ℕ → ℕ → Bool
 mayTail r fs w from n =
     ltb 0 (r .depth)
-    && (leb (r .low) 65_536 && (leb (r .low) (length w) && (leb (from + n) (r .low) && leb ((r .depth - 1) * 18 + 18) (length fs))))
+    && (leb (r .low) workStoreBytes && (leb (r .low) (length w) && (leb (from + n) (r .low) && leb ((r .depth - 1) * 18 + 18) (length fs))))
 
 pub record Tails (r : Registers) (fs w : List ℕ) (f : Frame) (from what : ℕ) (s : List ℕ) (c : Changed) (gs v : List ℕ) : Type 0 where
   pub answer : c .ok ≡ mayTail r fs w from (length s)
@@ -100,7 +102,7 @@ pub record Xmls (r : Registers) (fs w t : List ℕ) (c : Changed) (gs v : List �
 
 unfoldable pub mayCount : Registers → List ℕ → Bool
 mayCount r fs =
-    sameKind (topFrame r fs .kind) NodeElt && (ltb 0 (r .depth) && (ltb (count (topFrame r fs)) 99_999_999 && leb ((r .depth - 1) * 18 + 18) (length fs)))
+    sameKind (topFrame r fs .kind) NodeElt && (ltb 0 (r .depth) && (ltb (count (topFrame r fs)) mostLabels && leb ((r .depth - 1) * 18 + 18) (length fs)))
 
 pub record Counts (r : Registers) (fs : List ℕ) (b : Bool) (gs : List ℕ) : Type 0 where
   pub answer : b ≡ mayCount r fs
@@ -118,22 +120,22 @@ module _ {r : Registers} {fs : List ℕ} {f : Frame} {b : ℕ} where
   push-refused n e = record { answer = sym n; wrote = λ y. differ y n; moved = λ y. differ y n; kept = λ _. (e, refl); same = ap length e }
 
   pub push-inside : (r .inner ≡ 0 → ⊥) → Pushes r fs f b (record { ok = false; registers = r }) fs
-  unfolding mayPush
+  unfolding L.all mayPush
   push-inside h = push-refused (rw (ne-eqb (r .inner) 0 h)) refl
 
   pub push-deep : r .inner ≡ 0 → 64 ≤ r .depth → Pushes r fs f b (record { ok = false; registers = r }) fs
-  unfolding mayPush
+  unfolding L.all mayPush
   push-deep z h = push-refused (rw (eq-eqb (r .inner) 0 z, le-ltb (r .depth) 64 h)) refl
 
   module _ {gs : List ℕ} {q : Bool} (z : r .inner ≡ 0) (d : r .depth < 64) (s : StoredFrame fs (r .depth) f gs q) where
     pub push-short : q ≡ false → Pushes r fs f b (record { ok = false; registers = r }) gs
-    unfolding mayPush
+    unfolding L.all mayPush
     push-short n =
         let l : leb (r .depth * 18 + 18) (length fs) ≡ false = sym (s .answer) ∙ n in
         push-refused (rw (eq-eqb (r .inner) 0 z, lt-ltb (r .depth) 64 d, l)) (s .kept (leb-false (r .depth * 18 + 18) (length fs) l))
 
     pub push-done : q ≡ true → Pushes r fs f b (record { ok = true; registers = pushedTo r (at f 8) b }) gs
-    unfolding mayPush
+    unfolding L.all mayPush
     push-done y =
         let l : leb (r .depth * 18 + 18) (length fs) ≡ true = sym (s .answer) ∙ y in
         let m : mayPush r fs ≡ true = rw (eq-eqb (r .inner) 0 z, lt-ltb (r .depth) 64 d, l) in
@@ -168,23 +170,23 @@ module _ {w bs : List ℕ} {a n : ℕ} {p s : List ℕ} where
   bind-refused f e = record { answer = sym f; wrote = λ y. differ y f; kept = λ _. (refl, e); sameBytes = refl; sameWords = ap length e }
 
   pub bind-large : 65_536 < length w → Binds w bs a n p s w bs false
-  unfolding mayBind
+  unfolding L.all mayBind
   bind-large h = bind-refused (rw (lt-leb (length w) 65_536 h)) refl
 
   module _ (l : length w ≤ 65_536) where
     pub bind-full : length w < a + (length p + length s) → Binds w bs a n p s w bs false
-    unfolding mayBind
+    unfolding L.all mayBind
     bind-full h = bind-refused (rw (le-leb (length w) 65_536 l, lt-leb (a + (length p + length s)) (length w) h)) refl
 
     module _ {cs : List ℕ} {q : Bool} (m : a + (length p + length s) ≤ length w) (t : StoredRow bs n (record { at = a; name = length p; more = length s }) cs q) where
       pub bind-short : q ≡ false → Binds w bs a n p s w cs false
-      unfolding mayBind
+      unfolding L.all mayBind
       bind-short f =
           let x : leb (n * 3 + 3) (length bs) ≡ false = sym (t .answer) ∙ f in
           bind-refused (rw (le-leb (length w) 65_536 l, le-leb (a + (length p + length s)) (length w) m, x)) (t .kept (leb-false (n * 3 + 3) (length bs) x))
 
       pub bind-done : {u v : List ℕ} {y z : Bool} → q ≡ true → Put w a p u y → Put u (a + length p) s v z → Binds w bs a n p s v cs true
-      unfolding mayBind
+      unfolding L.all mayBind
       bind-done g i j =
           let x : leb (n * 3 + 3) (length bs) ≡ true = sym (t .answer) ∙ g in
           let b : mayBind w bs a n p s ≡ true = rw (le-leb (length w) 65_536 l, le-leb (a + (length p + length s)) (length w) m, x) in
@@ -221,34 +223,34 @@ module _ {r : Registers} {fs w : List ℕ} {f : Frame} {from what : ℕ} {s : Li
       }
 
   pub tail-empty : r .depth ≡ 0 → Tails r fs w f from what s (record { ok = false; registers = r }) fs w
-  unfolding mayTail
+  unfolding L.all mayTail
   tail-empty z = tail-refused (rw (le-ltb 0 (r .depth) (omega arith))) refl
 
   module _ (d : r .depth ≡ 0 → ⊥) where
     pub tail-large : 65_536 < r .low → Tails r fs w f from what s (record { ok = false; registers = r }) fs w
-    unfolding mayTail
+    unfolding L.all mayTail
     tail-large h = tail-refused (rw (lt-ltb 0 (r .depth) (positive (r .depth) d), lt-leb (r .low) 65_536 h)) refl
 
     module _ (l : r .low ≤ 65_536) where
       pub tail-beyond : length w < r .low → Tails r fs w f from what s (record { ok = false; registers = r }) fs w
-      unfolding mayTail
+      unfolding L.all mayTail
       tail-beyond h = tail-refused (rw (lt-ltb 0 (r .depth) (positive (r .depth) d), le-leb (r .low) 65_536 l, lt-leb (r .low) (length w) h)) refl
 
       module _ (m : r .low ≤ length w) where
         pub tail-full : r .low < from + length s → Tails r fs w f from what s (record { ok = false; registers = r }) fs w
-        unfolding mayTail
+        unfolding L.all mayTail
         tail-full h = tail-refused (rw (lt-ltb 0 (r .depth) (positive (r .depth) d), le-leb (r .low) 65_536 l, le-leb (r .low) (length w) m, lt-leb (from + length s) (r .low) h)) refl
 
         module _ {gs : List ℕ} {q : Bool} (k : from + length s ≤ r .low) (t : StoredFrame fs (r .depth - 1) (tailTo f (from + length s) what) gs q) where
           pub tail-short : q ≡ false → Tails r fs w f from what s (record { ok = false; registers = r }) gs w
-          unfolding mayTail
+          unfolding L.all mayTail
           tail-short n =
               let x : leb ((r .depth - 1) * 18 + 18) (length fs) ≡ false = sym (t .answer) ∙ n in
               tail-refused (rw (lt-ltb 0 (r .depth) (positive (r .depth) d), le-leb (r .low) 65_536 l, le-leb (r .low) (length w) m, le-leb (from + length s) (r .low) k, x)) (t .kept (leb-false ((r .depth - 1) * 18 + 18) (length fs) x))
 
           pub tail-done : {v : List ℕ} {z : Bool} {r′ : Registers} → q ≡ true → Put w from s v z → r′ ≡ toppedTo r (from + length s)
               → Tails r fs w f from what s (record { ok = true; registers = r′ }) gs v
-          unfolding mayTail
+          unfolding L.all mayTail
           tail-done y i e =
               let x : leb ((r .depth - 1) * 18 + 18) (length fs) ≡ true = sym (t .answer) ∙ y in
               let b : mayTail r fs w from (length s) ≡ true = rw (lt-ltb 0 (r .depth) (positive (r .depth) d), le-leb (r .low) 65_536 l, le-leb (r .low) (length w) m, le-leb (from + length s) (r .low) k, x) in
@@ -300,21 +302,21 @@ module _ {r : Registers} {fs : List ℕ} {f : Frame} (e : f ≡ topFrame r fs) w
   count-refused n q = record { answer = sym n; stored = λ y. differ y n; kept = λ _. q; same = ap length q }
 
   pub count-other : sameKind (f .kind) NodeElt ≡ false → Counts r fs false fs
-  unfolding mayCount
+  unfolding L.all mayCount
   count-other n = count-refused (rw (← e, n)) refl
 
   module _ (y : sameKind (f .kind) NodeElt ≡ true) where
     pub count-empty : r .depth ≡ 0 → Counts r fs false fs
-    unfolding mayCount
+    unfolding L.all mayCount
     count-empty z = count-refused (rw (← e, y, le-ltb 0 (r .depth) (omega arith))) refl
 
     module _ (d : r .depth ≡ 0 → ⊥) where
       pub count-spent : 99_999_999 ≤ count f → Counts r fs false fs
-      unfolding mayCount
+      unfolding L.all mayCount
       count-spent h = count-refused (rw (← e, y, lt-ltb 0 (r .depth) (positive (r .depth) d), le-ltb (count f) 99_999_999 h)) refl
 
       pub count-done : {gs : List ℕ} {q : Bool} → count f < 99_999_999 → StoredFrame fs (r .depth - 1) (counted f) gs q → Counts r fs q gs
-      unfolding mayCount
+      unfolding L.all mayCount
       count-done {gs} {q} h s =
           let m : mayCount r fs ≡ leb ((r .depth - 1) * 18 + 18) (length fs) = rw (← e, y, lt-ltb 0 (r .depth) (positive (r .depth) d), lt-ltb (count f) 99_999_999 h) in
           record {

@@ -10,6 +10,7 @@ use lib.Seq.{getD-set-same, getD-set-other, take-length, take-append-seam, drop-
 use native.Mathlib.Nat.{add-zero}
 use native.Mathlib.Numerals.{add-one}
 use borrow.Author.Tests.{eqb-true, eqb-false, leb-true, ltb-true, eq-eqb, ne-eqb, le-leb}
+use Rattle.spec.specs.Limits as L
 use Rattle.spec.specs.Bytes.{Bytes, if_then_else_}
 use Rattle.spec.specs.Limits.{mostLabels}
 use Rattle.spec.specs.Namespaces.{Binding}
@@ -71,12 +72,12 @@ unfolding chained bindingsOf
 bound-none {bs} {w} {b} {from} = record { chain = eq-eqb from from refl; are = refl }
 
 -- ---- where the binds of one start tag went: behind others' rows, and behind what is held below
-pub record Row-put (w bs v cs : List ℕ) (a n : ℕ) (p s : Bytes) : Type 0 where
+pub record RowPut (w bs v cs : List ℕ) (a n : ℕ) (p s : Bytes) : Type 0 where
   pub bytes : Wrote w v a (a + (length p + length s)) (p ++ s)
   pub words : Wrote bs cs (n * 3) (n * 3 + 3) (a ∷ length p ∷ length s ∷ [])
 
-pub bind-put : {w bs v cs : List ℕ} {a n : ℕ} {p s : Bytes} {r : Bool} → Binds w bs a n p s v cs r → r ≡ true → Row-put w bs v cs a n p s
-unfolding mayBind
+pub bind-put : {w bs v cs : List ℕ} {a n : ℕ} {p s : Bytes} {r : Bool} → Binds w bs a n p s v cs r → r ≡ true → RowPut w bs v cs a n p s
+unfolding L.all mayBind
 bind-put {w} {bs} {v} {cs} {a} {n} {p} {s} {r} h y =
     let m : mayBind w bs a n p s ≡ true = sym (h .answer) ∙ y in
     let m1 = and-right (leb (length w) 65_536) _ m in
@@ -89,7 +90,7 @@ bind-put {w} {bs} {v} {cs} {a} {n} {p} {s} {r} h y =
     }
 
 -- one more binding of the same start tag
-pub bound-more : {w bs v cs : List ℕ} {b n from a : ℕ} {p s : Bytes} {bound : List Binding} → Bound bs w b n from a bound → Row-put w bs v cs a (b + n) p s
+pub bound-more : {w bs v cs : List ℕ} {b n from a : ℕ} {p s : Bytes} {bound : List Binding} → Bound bs w b n from a bound → RowPut w bs v cs a (b + n) p s
     → Bound cs v b (suc n) from (a + (length p + length s)) ((p, s) ∷ bound)
 unfolding bindingsOf bindingOf
 bound-more {w} {bs} {v} {cs} {b} {n} {from} {a} {p} {s} {bound} h q =
@@ -138,7 +139,7 @@ pub record Flat (r : Registers) (fs : List ℕ) : Type 0 where
   pub room : r .depth * 18 + 18 ≤ length fs
 
 may-push : (r : Registers) (fs : List ℕ) → mayPush r fs ≡ true → Flat r fs
-unfolding mayPush
+unfolding L.all mayPush
 may-push r fs m =
     let m1 = and-right (eqb (r .inner) 0) _ m in
     record {
@@ -251,7 +252,7 @@ pub record Tailed (r : Registers) (fs w : List ℕ) (from n : ℕ) : Type 0 wher
   pub room : from + n ≤ r .low
 
 may-tail : (r : Registers) (fs w : List ℕ) (from n : ℕ) → mayTail r fs w from n ≡ true → Tailed r fs w from n
-unfolding mayTail
+unfolding L.all mayTail
 may-tail r fs w from n m =
     let m1 = and-right (ltb 0 (r .depth)) _ m in
     let m2 = and-right (leb (r .low) 65_536) _ m1 in
@@ -498,7 +499,7 @@ record Counted (r : Registers) (fs : List ℕ) : Type 0 where
   few : count (topFrame r fs) < 99_999_999
 
 may-count : (r : Registers) (fs : List ℕ) → mayCount r fs ≡ true → Counted r fs
-unfolding mayCount
+unfolding L.all mayCount
 may-count r fs m =
     let m1 = and-right (sameKind (topFrame r fs .kind) NodeElt) _ m in
     let m2 = and-right (ltb 0 (r .depth)) _ m1 in

@@ -1,3 +1,4 @@
+-- `frames::put_words` meets its contract. The loop's invariant: the first `i` words of `src` stand in `dst` from `at` on, and all of them fit.
 use Rattle.copy.specs.Copy.{Copied, copied-begins, copied-more, copied-done, put-none}
 use lib.ListN.{length}
 use Prim.Native.Nat.{_-_}

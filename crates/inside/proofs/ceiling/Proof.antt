@@ -1,3 +1,4 @@
+-- `inside::ceiling` meets its contract. A law of specs/ for each return, with the tests that led there.
 use Rattle.inside.specs.Calls.{ceiling-none, ceiling-there}
 use mathlib.Core.Path.{_∙_}
 use borrow.Author.Needs.{needs}

@@ -1,3 +1,4 @@
+-- `inside::close_inside` meets its contract. A law of specs/ for each return, with the tests that led there.
 use Rattle.inside.specs.Calls.{close-none, close-done}
 use borrow.Author.Needs.{needs}
 use Rattle.inside.proofs.close_inside.Statement.{statement}

@@ -1,3 +1,4 @@
+-- `inside::innermost` meets its contract. The loop's invariant: what is sought is among the first `i` frames.
 use Rattle.inside.specs.Calls.{Sought, sought-begins, sought-more, sought-stop, sought-done}
 use native.Mathlib.Omega.{arith}
 use borrow.Author.Needs.{needs}

@@ -1,3 +1,4 @@
+-- `inside::language_in_force` meets its contract. From what the calls ensure.
 use Rattle.inside.specs.Calls.{languageIn}
 use borrow.Author.Needs.{needs}
 use Rattle.inside.proofs.language_in_force.Statement.{statement}

@@ -1,3 +1,4 @@
+-- `inside::name` meets its contract. A law of specs/ for each return, with the tests that led there.
 use Rattle.inside.specs.Calls.{name-inside, name-none, name-top}
 use native.Mathlib.Omega.{arith}
 use borrow.Author.Needs.{needs}

@@ -1,3 +1,4 @@
+-- `nodes::blank_byte` meets its contract. A law of specs/ for each return, with the tests that led there.
 use borrow.Author.Tests.{eq-eqb, ne-eqb}
 use Rattle.nodes.specs.Take.{blankByte}
 use Rattle.nodes.proofs.blank_byte.Statement.{statement}

@@ -1,3 +1,4 @@
+-- `nodes::close_node` meets its contract. A law of specs/ for each return, with the tests that led there.
 use Rattle.nodes.specs.Take.{close-store, close-other, close-none, close-full, close-done}
 use borrow.Author.Tests.{not-true, not-false}
 use Rattle.state.specs.Tests.{yes, no}

@@ -1,3 +1,5 @@
+-- `nodes::may_take` meets its contract. From what the calls ensure.
+use Rattle.spec.specs.Limits as L
 use Rattle.nodes.specs.Take.{mayTake}
 use mathlib.Core.Path.{refl}
 use borrow.Author.Needs.{needs}
@@ -8,7 +10,7 @@ add-b : tie.Need-add-b
 add-b c = search needs
 
 returns : tie.Need-returns
-unfolding mayTake
+unfolding mayTake L.all
 returns c = refl
 
 pub may-take-spec : {M : Type 1} → statement M

@@ -1,3 +1,4 @@
+-- `nodes::object_word` meets its contract. A law of specs/ for each return, with the tests that led there.
 use borrow.Author.Tests.{eq-eqb, ne-eqb}
 use Rattle.nodes.specs.Take.{objectWord}
 use Rattle.nodes.proofs.object_word.Statement.{statement}

@@ -1,3 +1,4 @@
+-- `nodes::take_child` meets its contract. A law of specs/ for each return, with the tests that led there.
 use Rattle.nodes.specs.Take.{movable, child-none, child-many, child-made}
 use Rattle.state.specs.Tests.{yes, no}
 use mathlib.Core.Path.{_∙_}

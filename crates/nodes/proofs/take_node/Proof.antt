@@ -1,3 +1,4 @@
+-- `nodes::take_node` meets its contract. A law of specs/ for each return, with the tests that led there.
 use Rattle.nodes.specs.Take.{took-object, took-child, took-none}
 use mathlib.Core.Path.{_∙_, sym}
 use borrow.Author.Needs.{needs}

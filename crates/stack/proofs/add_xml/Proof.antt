@@ -1,3 +1,4 @@
+-- `stack::add_xml` meets its contract. A law of specs/ for each return, with the tests that led there.
 use Rattle.stack.specs.Calls.{xml-dropped, xml-other, xml-done}
 use Rattle.state.specs.Tests.{yes, no}
 use mathlib.Core.Path.{_∙_, sym}

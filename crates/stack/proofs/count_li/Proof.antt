@@ -1,3 +1,4 @@
+-- `stack::count_li` meets its contract. A law of specs/ for each return, with the tests that led there.
 use Rattle.stack.specs.Calls.{count-other, count-empty, count-spent, count-done}
 use Rattle.state.specs.Tests.{yes, no}
 use native.Mathlib.Omega.{arith}

@@ -1,3 +1,4 @@
+-- `stack::pop` meets its contract. A law of specs/ for each return, with the tests that led there.
 use Rattle.stack.specs.Calls.{pop-inside, pop-empty, pop-done}
 use native.Mathlib.Omega.{arith}
 use borrow.Author.Needs.{needs}

@@ -1,3 +1,4 @@
+-- `stack::same_kind` meets its contract. From what the calls ensure.
 use borrow.Author.Needs.{needs}
 use Rattle.stack.proofs.same_kind.Statement.{statement}
 use Rattle.stack.proofs.same_kind.Tie as tie

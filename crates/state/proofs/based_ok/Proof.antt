@@ -1,3 +1,4 @@
+-- `state::based_ok` meets its contract. A law of specs/ for each return, with the tests that led there.
 use borrow.Author.Needs.{needs}
 use Rattle.state.proofs.based_ok.Statement.{statement}
 use Rattle.state.proofs.based_ok.Tie as tie

@@ -1,3 +1,4 @@
+-- `state::ceiling` meets its contract. A law of specs/ for each return, with the tests that led there.
 use Rattle.state.specs.Tests.{ceiling-first, ceiling-other}
 use mathlib.Core.Path.{_∙_}
 use native.Mathlib.Omega.{arith}

@@ -1,3 +1,4 @@
+-- `state::child_size` meets its contract. From what the calls ensure.
 use Rattle.state.specs.Tests.{child-size-is}
 use native.Mathlib.Omega.{arith}
 use borrow.Author.Needs.{needs}

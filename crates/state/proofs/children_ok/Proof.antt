@@ -1,3 +1,4 @@
+-- `state::children_ok` meets its contract. The loop's invariant: what is left to test is the first `i` children, up to `e`.
 use Rattle.state.specs.Tests.{ChildWalk, child-begins, child-stop, child-more, child-done}
 use native.Mathlib.Omega.{arith}
 use borrow.Author.Needs.{needs}

@@ -1,3 +1,4 @@
+-- `state::counts_ok` meets its contract. A law for each return, with the tests that led there.
 use Rattle.state.specs.Tests.{too-deep, too-many, too-high, no-base, labels-decide, yes, no}
 use native.Mathlib.Omega.{arith}
 use borrow.Author.Needs.{needs}

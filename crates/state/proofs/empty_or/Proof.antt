@@ -1,3 +1,4 @@
+-- `state::empty_or` meets its contract. A law of specs/ for each return, with the tests that led there.
 use borrow.Author.Tests.{eq-eqb, ne-eqb}
 use Rattle.state.specs.Valid.{emptyOr}
 use Rattle.state.proofs.empty_or.Statement.{statement}

@@ -1,3 +1,4 @@
+-- `state::is_node` meets its contract. A law of specs/ for each return, with the tests that led there.
 use Rattle.state.specs.Valid.{isNode}
 use borrow.Author.Needs.{needs}
 use Rattle.state.proofs.is_node.Statement.{statement}

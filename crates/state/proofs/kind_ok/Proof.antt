@@ -1,3 +1,4 @@
+-- `state::kind_ok` meets its contract. By the kind that the arm knows.
 use mathlib.Core.Path.{_∙_}
 use borrow.Author.Tests.{eq-eqb, ne-eqb}
 use Rattle.spec.specs.Limits.{mostLabels}

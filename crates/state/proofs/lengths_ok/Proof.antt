@@ -1,3 +1,4 @@
+-- `state::lengths_ok` meets its contract. A law for each return, with the tests that led there.
 use Rattle.state.specs.Tests.{other-frames, other-bindings, other-inners, store-decides}
 use native.Mathlib.Omega.{arith}
 use Rattle.state.proofs.lengths_ok.Statement.{statement}

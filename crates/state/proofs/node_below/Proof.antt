@@ -1,3 +1,4 @@
+-- `state::node_below` meets its contract. A law of specs/ for each return, with the tests that led there.
 use Rattle.state.specs.Tests.{no-node, node-around}
 use mathlib.Core.Path.{_∙_}
 use native.Mathlib.Omega.{arith}

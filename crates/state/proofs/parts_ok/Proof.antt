@@ -1,3 +1,4 @@
+-- `state::parts_ok` meets its contract. From what the calls ensure.
 use Rattle.state.specs.Valid.{partsOk}
 use borrow.Author.Needs.{needs}
 use Rattle.state.proofs.parts_ok.Statement.{statement}

@@ -1,3 +1,4 @@
+-- `state::rises` meets its contract. The loop's invariant: what is left to test is the first `k` steps.
 use Rattle.state.specs.Tests.{Rose, rose-begins, rose-stop, rose-more, rose-done}
 use native.Mathlib.Omega.{arith}
 use borrow.Author.Needs.{needs}

@@ -1,3 +1,4 @@
+-- `state::stands` meets its contract. A law of specs/ for each return, with the tests that led there.
 use Rattle.state.specs.Valid.{stands}
 use borrow.Author.Needs.{needs}
 use Rattle.state.proofs.stands.Statement.{statement}

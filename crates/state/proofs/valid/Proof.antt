@@ -1,3 +1,4 @@
+-- `state::valid` meets its contract. A law for each return, with the tests that led there.
 use Rattle.state.specs.Tests.{wrong-lengths, wrong-counts, sized, wrong-inners, frames-fit, frames-decide, yes, no}
 use native.Mathlib.Omega.{arith}
 use borrow.Author.Needs.{needs}

@@ -1,3 +1,4 @@
+-- `frames::Frame::load` meets its contract. The kind, and two parts of the frame's words, each copied whole.
 use Rattle.frames.specs.Words.{frame-none, frame-loaded}
 use mathlib.Core.Path.{_∙_}
 use native.Mathlib.Omega.{arith}

@@ -1,3 +1,4 @@
+-- `frames::Frame::store` meets its contract. Three writes in a row: the kind, the places, the marks.
 use mathlib.Core.Path.{_∙_}
 use lib.ListN.{length-set}
 use Rattle.frames.specs.Words.{frame-refused, frame-stored}

@@ -1,3 +1,4 @@
+-- `frames::Kind::of` meets its contract. One return for each word.
 use borrow.Author.Tests.{ne-eqb}
 use Rattle.frames.specs.Words.{kindOf}
 use Rattle.frames.proofs.Kind.of.Statement.{statement}

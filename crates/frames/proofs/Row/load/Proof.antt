@@ -1,3 +1,4 @@
+-- `frames::Row::load` meets its contract. Three words of the row.
 use Rattle.frames.specs.Words.{row-none, row-loaded}
 use native.Mathlib.Omega.{arith}
 use borrow.Author.Needs.{needs}

@@ -1,3 +1,4 @@
+-- `frames::Row::store` meets its contract. Three words set in a row.
 use lib.ListN.{length-set}
 use Rattle.frames.specs.Words.{row-refused, row-stored}
 use native.Mathlib.Omega.{arith}

@@ -1,0 +1,101 @@
+-- `test_state::deepest` meets its contract. The loop's invariant: the table keeps its length.
+use lib.ListN.{length}
+use Prim.Native.Nat.{_≤_, _-_}
+use mathlib.Core.Path.{_≡_}
+use native.Mathlib.Omega.{arith}
+use borrow.Author.Needs.{needs}
+use Rattle.test_state.proofs.deepest.Statement.{statement}
+use Rattle.test_state.proofs.deepest.Tie as tie
+
+abbrev Inv-loop : tie.InvT-loop
+Inv-loop bindings inners work frames₀ r₀ n₀ at₀ t9 t10 frames r n at = (n ≤ 70) × (length frames ≡ 1152)
+
+abbrev μ-loop : tie.MeasureT-loop
+μ-loop bindings inners work frames₀ r₀ n₀ at₀ t9 t10 frames r n at = 70 - n
+
+started-requires : tie.Need-started-requires Inv-loop μ-loop
+started-requires c κs = search needs
+
+loop-holds : tie.Need-loop-holds Inv-loop μ-loop
+loop-holds c = (omega arith, search needs)
+
+slice-aggregate-push : tie.Need-slice-aggregate-push Inv-loop μ-loop
+slice-aggregate-push c = search needs
+
+element-requires : tie.Need-element-requires Inv-loop μ-loop
+element-requires c κs = search needs
+
+push-requires : tie.Need-push-requires Inv-loop μ-loop
+push-requires c κs = search needs
+
+slice-aggregate-write-number : tie.Need-slice-aggregate-write-number Inv-loop μ-loop
+slice-aggregate-write-number c = search needs
+
+write-number-requires : tie.Need-write-number-requires Inv-loop μ-loop
+write-number-requires c κs = search needs
+
+slice-aggregate-write-answer : tie.Need-slice-aggregate-write-answer Inv-loop μ-loop
+slice-aggregate-write-answer c = search needs
+
+slice-aggregate-valid : tie.Need-slice-aggregate-valid Inv-loop μ-loop
+slice-aggregate-valid c = search needs
+
+slice-aggregate-valid-2 : tie.Need-slice-aggregate-valid-2 Inv-loop μ-loop
+slice-aggregate-valid-2 c = search needs
+
+slice-aggregate-valid-3 : tie.Need-slice-aggregate-valid-3 Inv-loop μ-loop
+slice-aggregate-valid-3 c = search needs
+
+slice-aggregate-valid-4 : tie.Need-slice-aggregate-valid-4 Inv-loop μ-loop
+slice-aggregate-valid-4 c = search needs
+
+valid-requires : tie.Need-valid-requires Inv-loop μ-loop
+valid-requires c κs = search needs
+
+write-answer-requires : tie.Need-write-answer-requires Inv-loop μ-loop
+write-answer-requires c κs = search needs
+
+returns : tie.Need-returns Inv-loop μ-loop
+returns c = search needs
+
+wrapping-add-u32-requires : tie.Need-wrapping-add-u32-requires Inv-loop μ-loop
+wrapping-add-u32-requires c κs = search needs
+
+add-n : tie.Need-add-n Inv-loop μ-loop
+add-n c = search needs
+
+loop-less : tie.Need-loop-less Inv-loop μ-loop
+loop-less c = search needs
+
+loop-again : tie.Need-loop-again Inv-loop μ-loop
+loop-again c = search needs
+
+returns-2 : tie.Need-returns-2 Inv-loop μ-loop
+returns-2 c = search needs
+
+pub deepest-spec : {M : Type 1} → statement M
+deepest-spec =
+    tie.close
+    (tie.spec
+    Inv-loop
+    μ-loop
+    started-requires
+    loop-holds
+    slice-aggregate-push
+    element-requires
+    push-requires
+    slice-aggregate-write-number
+    write-number-requires
+    slice-aggregate-write-answer
+    slice-aggregate-valid
+    slice-aggregate-valid-2
+    slice-aggregate-valid-3
+    slice-aggregate-valid-4
+    valid-requires
+    write-answer-requires
+    returns
+    wrapping-add-u32-requires
+    add-n
+    loop-less
+    loop-again
+    returns-2)

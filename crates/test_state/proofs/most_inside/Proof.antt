@@ -1,0 +1,89 @@
+-- `test_state::most_inside` meets its contract. The loop's invariant: the table keeps its length.
+use lib.ListN.{length}
+use Prim.Native.Nat.{_≤_, _-_}
+use mathlib.Core.Path.{_≡_}
+use native.Mathlib.Omega.{arith}
+use borrow.Author.Needs.{needs}
+use Rattle.test_state.proofs.most_inside.Statement.{statement}
+use Rattle.test_state.proofs.most_inside.Tie as tie
+
+abbrev Inv-loop : tie.InvT-loop
+Inv-loop inners₀ r₀ n₀ t7 t8 inners r n = (n ≤ 70) × (length inners ≡ 192)
+
+abbrev μ-loop : tie.MeasureT-loop
+μ-loop inners₀ r₀ n₀ t7 t8 inners r n = 70 - n
+
+started-requires : tie.Need-started-requires Inv-loop μ-loop
+started-requires c κs = search needs
+
+slice-aggregate-push : tie.Need-slice-aggregate-push Inv-loop μ-loop
+slice-aggregate-push c = search needs
+
+element-requires : tie.Need-element-requires Inv-loop μ-loop
+element-requires c κs = search needs
+
+push-requires : tie.Need-push-requires Inv-loop μ-loop
+push-requires c κs = search needs
+
+loop-holds : tie.Need-loop-holds Inv-loop μ-loop
+loop-holds c = (omega arith, search needs)
+
+slice-aggregate-open-inside : tie.Need-slice-aggregate-open-inside Inv-loop μ-loop
+slice-aggregate-open-inside c = search needs
+
+sub-open-inside : tie.Need-sub-open-inside Inv-loop μ-loop
+sub-open-inside c = search needs
+
+open-inside-requires : tie.Need-open-inside-requires Inv-loop μ-loop
+open-inside-requires c κs = search needs
+
+add-n : tie.Need-add-n Inv-loop μ-loop
+add-n c = search needs
+
+loop-less : tie.Need-loop-less Inv-loop μ-loop
+loop-less c = search needs
+
+loop-again : tie.Need-loop-again Inv-loop μ-loop
+loop-again c = search needs
+
+slice-aggregate-write-number : tie.Need-slice-aggregate-write-number Inv-loop μ-loop
+slice-aggregate-write-number c = search needs
+
+write-number-requires : tie.Need-write-number-requires Inv-loop μ-loop
+write-number-requires c κs = search needs
+
+slice-aggregate-write-number-2 : tie.Need-slice-aggregate-write-number-2 Inv-loop μ-loop
+slice-aggregate-write-number-2 c = search needs
+
+held-requires : tie.Need-held-requires Inv-loop μ-loop
+held-requires c κs = search needs
+
+write-number-requires-2 : tie.Need-write-number-requires-2 Inv-loop μ-loop
+write-number-requires-2 c κs = search needs
+
+returns : tie.Need-returns Inv-loop μ-loop
+returns c = search needs
+
+pub most-inside-spec : {M : Type 1} → statement M
+most-inside-spec =
+    tie.close
+    (tie.spec
+    Inv-loop
+    μ-loop
+    started-requires
+    slice-aggregate-push
+    element-requires
+    push-requires
+    loop-holds
+    slice-aggregate-open-inside
+    sub-open-inside
+    open-inside-requires
+    add-n
+    loop-less
+    loop-again
+    slice-aggregate-write-number
+    write-number-requires
+    slice-aggregate-write-number-2
+    held-requires
+    write-number-requires-2
+    returns)
