@@ -1,0 +1,4 @@
+-- Where an event stands.
+pub mod Place
+-- What its handler does, beside what the definitions answer.
+pub mod Result
