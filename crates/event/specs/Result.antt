@@ -166,3 +166,14 @@ done v l h =
 pub result-as : {a b : Answer Step} {ids : List Bytes} {o : Outcome} {fs bs is w out fs′ bs′ is′ w′ out′ : List ℕ}
     → Result a ids o fs bs is w out fs′ bs′ is′ w′ out′ → a ≡ b → Result b ids o fs bs is w out fs′ bs′ is′ w′ out′
 result-as r e = rw (← e) r
+
+-- ---- an event that enters no rdf:ID, handled in a state of an open document
+
+-- whatever the rdf:IDs so far
+pub record Handles (e : Event) (r : Registers) (o : Outcome) (fs bs is w out fs′ bs′ is′ w′ out′ : List ℕ) : Type 0 where
+  pub result : (ids : List Bytes) → IdsFit ids → Result (handled e (length out) (docOf r fs bs is w ids)) ids o fs bs is w out fs′ bs′ is′ w′ out′
+
+-- what a handler asks of the state
+pub record Asks (r : Registers) (fs bs is w : List ℕ) : Type 0 where
+  pub valid : Valid r fs bs is w
+  pub mark : r .closed ≡ false
