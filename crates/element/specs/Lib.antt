@@ -2,3 +2,4 @@
 pub mod Element
 -- ---- the calls
 pub mod Sizes
+pub mod Rows

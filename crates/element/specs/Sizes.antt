@@ -20,6 +20,7 @@ use Rattle.frames.specs.declared.Kind.the-variants.{Rdf, NodeElt, PropertyElt, 
 use Rattle.frames.specs.Words.{pick}
 use Rattle.state.specs.Meaning.{objectOf}
 use Rattle.names.specs.Tag.{startAt, sizeAt, valueSizeAt, nameAt, valueAt, attributeAt, attributesFrom, attributesOf, attributes-all, attributes-more, attributes-end}
+use Rattle.names.specs.Declarations.{binding}
 use Rattle.element.specs.declared.Source.{Source}
 use Rattle.element.specs.declared.Source.the-variants.{Missing, Own, Made}
 use Rattle.element.specs.declared.Parts.{Parts}
@@ -66,14 +67,10 @@ module _ (e w : List ℕ) (j : ℕ) where
   no-bytes h = rw h
 
   -- n is its name, p the prefix that it binds, v its value
-  module _ {n p : Bytes} (x : n ≡ nameAt e w j) (y : p ≡ after (ascii "xmlns:") n) where
-    pub declares-is : {v : Bytes} → v ≡ valueAt e w j → (p, v) ≡ declares (attributeAt e w j)
-    unfolding declares attributeAt
-    declares-is z = rw (y, x, z)
-
-    pub these-bytes : {v : Bytes} → isDeclaration (attributeAt e w j) ≡ true → v ≡ valueAt e w j → length p + length v ≡ bytesIn (attributeAt e w j)
-    unfolding bytesIn if_then_else_ bindingBytes
-    these-bytes h z = rw (h, ← declares-is z)
+  pub these-bytes : {n p v : Bytes} → isDeclaration (attributeAt e w j) ≡ true → n ≡ nameAt e w j → p ≡ after (ascii "xmlns:") n → v ≡ valueAt e w j
+      → length p + length v ≡ bytesIn (attributeAt e w j)
+  unfolding bytesIn if_then_else_ bindingBytes
+  these-bytes h x y z = rw (h, ← binding e w j h x y z)
 
   pub few-bytes : length e ≤ 65_536 → bytesIn (attributeAt e w j) ≤ 131_072
   unfolding bytesIn if_then_else_ bindingBytes declares attributeAt nameAt valueAt
@@ -90,7 +87,7 @@ module _ (e w : List ℕ) (j : ℕ) where
       go true = short
       go false = omega arith
 
-declared-bytes : (a : Attribute) (as′ : List Attribute) → total bindingBytes (declared (a ∷ as′)) ≡ bytesIn a + total bindingBytes (declared as′)
+pub declared-bytes : (a : Attribute) (as′ : List Attribute) → total bindingBytes (declared (a ∷ as′)) ≡ bytesIn a + total bindingBytes (declared as′)
 unfolding declared those bytesIn if_then_else_ total
 declared-bytes a as′ = go (isDeclaration a)
   where

@@ -6,8 +6,10 @@ ghost use Rattle.names.specs.Tag.{attributeAt, attributesOf};
 ghost use Rattle.spec.specs.Bytes.{total};
 ghost use Rattle.spec.specs.Namespaces.{declared};
 ghost use Rattle.spec.specs.Document.{bindingBytes};
+ghost use Rattle.names.specs.Declarations.{bindingsIn};
 ghost use Rattle.element.specs.Element.{textOf, Fitting};
 ghost use Rattle.element.specs.Sizes.{Short, Measures, bytesIn, partsBytes};
+ghost use Rattle.element.specs.Rows.{Fits, BindsAt, Entered};
 use frames::Kind;
 
 // Where a part of a new element is: missing, in the decoded event, or in the area of what was made for it; start and length.
@@ -29,6 +31,12 @@ pub struct Parts {
     pub datatype: Source,
     pub what: u32,
     pub object: Source,
+}
+
+// Where the next binding goes: its bytes, and its row.
+pub struct Next {
+    pub at: usize,
+    pub row: usize,
 }
 
 // The bytes of a part; of a part that runs past the end, what there is of it.
@@ -64,6 +72,52 @@ pub fn declared_size(scratch: &[u8], spans: &[u32], k: usize) -> usize
         j += 1;
     }
     n
+}
+
+// The bindings that the first k attributes declare, the last one first. Answers where the next one would go.
+pub fn bind_all(
+    work: &mut [u8],
+    bindings: &mut [u32],
+    from: Next,
+    scratch: &[u8],
+    spans: &[u32],
+    k: usize,
+) -> Next
+    requires { ⌜ Fits (now work) (now bindings) from (total bindingBytes (declared (attributesOf (now scratch) (now spans) k))) (length (declared (attributesOf (now scratch) (now spans) k))) ⌝ }
+    ensures { λ r. ⌜ Entered (now (work .entry)) (now (bindings .entry)) (now (work .exit)) (now (bindings .exit)) from r (declared (attributesOf (now (scratch .entry)) (now (spans .entry)) k)) ⌝ }
+{
+    let mut next = from;
+    let mut j = k;
+    while 0 < j {
+        j -= 1;
+        next = bind_at(work, bindings, next, scratch, spans, j);
+    }
+    next
+}
+
+// The binding that attribute j declares.
+fn bind_at(
+    work: &mut [u8],
+    bindings: &mut [u32],
+    next: Next,
+    scratch: &[u8],
+    spans: &[u32],
+    j: usize,
+) -> Next
+    requires { ⌜ Fits (now work) (now bindings) next (bytesIn (attributeAt (now scratch) (now spans) j)) (bindingsIn (attributeAt (now scratch) (now spans) j)) ⌝ }
+    ensures { λ r. ⌜ BindsAt (now (work .entry)) (now (bindings .entry)) (now (work .exit)) (now (bindings .exit)) (attributeAt (now (scratch .entry)) (now (spans .entry)) j) next r ⌝ }
+{
+    let name = names::name_of(scratch, spans, j);
+    if !names::is_declaration(name) {
+        return next;
+    }
+    let prefix = names::declared_prefix(name);
+    let value = names::value_of(scratch, spans, j);
+    stack::bind(work, bindings, next.at, next.row, prefix, value);
+    Next {
+        at: next.at + (prefix.len() + value.len()),
+        row: next.row + 1,
+    }
 }
 
 // The bytes of all parts.

@@ -25,7 +25,7 @@ add-result : tie.Need-add-result
 add-result c = search needs
 
 returns-2 : tie.Need-returns-2
-returns-2 c = these-bytes _ _ _ (c .before .before .before .before .name-of .ensures) (c .before .declared-prefix .ensures) (told _ _ _ (c .before .before .before .before .name-of .ensures) (c .before .before .before .is-declaration .ensures) (not-false _ (c .before .before .if1 .left))) (c .value-of .ensures)
+returns-2 c = these-bytes _ _ _ (told _ _ _ (c .before .before .before .before .name-of .ensures) (c .before .before .before .is-declaration .ensures) (not-false _ (c .before .before .if1 .left))) (c .before .before .before .before .name-of .ensures) (c .before .declared-prefix .ensures) (c .value-of .ensures)
 
 pub bytes-at-spec : {M : Type 1} → statement M
 bytes-at-spec =
