@@ -3,3 +3,6 @@ pub mod Element
 -- ---- the calls
 pub mod Sizes
 pub mod Rows
+pub mod Places
+-- ---- what they do to a valid state
+pub mod Laws

@@ -10,7 +10,11 @@ ghost use Rattle.names.specs.Declarations.{bindingsIn};
 ghost use Rattle.element.specs.Element.{textOf, Fitting};
 ghost use Rattle.element.specs.Sizes.{Short, Measures, bytesIn, partsBytes};
 ghost use Rattle.element.specs.Rows.{Fits, BindsAt, Entered};
+ghost use Rattle.element.specs.Laws.{Ready, Opens};
+ghost use Rattle.element.specs.Places.{Room, Puts, Spread, Lays, markOf, bitOf, marksOf};
+use frames::Frame;
 use frames::Kind;
+use state::Registers;
 
 // Where a part of a new element is: missing, in the decoded event, or in the area of what was made for it; start and length.
 pub enum Source {
@@ -74,6 +78,37 @@ pub fn declared_size(scratch: &[u8], spans: &[u32], k: usize) -> usize
     n
 }
 
+// One more element. There is room for it, and it may stand here.
+pub fn open(
+    r: Registers,
+    frames: &mut [u32],
+    bindings: &mut [u32],
+    work: &mut [u8],
+    scratch: &[u8],
+    spans: &[u32],
+    m: usize,
+    k: usize,
+    area: &[u8],
+    parts: Parts,
+) -> Registers
+    requires { ⌜ Ready r (now frames) (now bindings) (now work) (now scratch) (now spans) m k (now area) parts ⌝ }
+    ensures { λ q. ⌜ Opens r (now (frames .entry)) (now (bindings .entry)) (now (work .entry)) (now (scratch .entry)) (now (spans .entry)) m k (now (area .entry)) parts q (now (frames .exit)) (now (bindings .exit)) (now (work .exit)) ⌝ }
+{
+    let top = r.top;
+    let name = names::piece(scratch, 0, m);
+    copy::put(work, top, name);
+    let from = Next {
+        at: top + name.len(),
+        row: r.outer,
+    };
+    let next = bind_all(work, bindings, from, scratch, spans, k);
+    let at = lay(work, top, from.at, next.at, scratch, area, parts);
+    let has = marks(parts, r.outer);
+    let kind = parts.kind;
+    let c = stack::push(r, frames, Frame { kind, at, has }, next.row);
+    c.registers
+}
+
 // The bindings that the first k attributes declare, the last one first. Answers where the next one would go.
 pub fn bind_all(
     work: &mut [u8],
@@ -118,6 +153,102 @@ fn bind_at(
         at: next.at + (prefix.len() + value.len()),
         row: next.row + 1,
     }
+}
+
+// The parts one behind the other, from `from` on. Answers the places of the frame; `name` and `bound` are where the name and the bindings start.
+fn lay(
+    work: &mut [u8],
+    name: usize,
+    bound: usize,
+    from: usize,
+    scratch: &[u8],
+    area: &[u8],
+    parts: Parts,
+) -> [u32; 9]
+    requires { ⌜ Spread (now work) (now scratch) (now area) parts name bound from ⌝ }
+    ensures { λ r. ⌜ Lays (now (work .entry)) (now (work .exit)) (now (scratch .entry)) (now (area .entry)) parts name bound from r ⌝ }
+{
+    let base = parts.base;
+    let tag = parts.tag;
+    let main = parts.main;
+    let id = parts.id;
+    let datatype = parts.datatype;
+    let object = parts.object;
+    let at3 = put_text(work, from, base, scratch, area);
+    let at4 = put_text(work, at3, tag, scratch, area);
+    let at5 = put_text(work, at4, main, scratch, area);
+    let at6 = put_text(work, at5, id, scratch, area);
+    let at7 = put_text(work, at6, datatype, scratch, area);
+    let at8 = put_text(work, at7, object, scratch, area);
+    [
+        name as u32,
+        bound as u32,
+        from as u32,
+        at3 as u32,
+        at4 as u32,
+        at5 as u32,
+        at6 as u32,
+        at7 as u32,
+        at8 as u32,
+    ]
+}
+
+// A part from `at` on. Answers where it ends.
+fn put_text(work: &mut [u8], at: usize, source: Source, scratch: &[u8], area: &[u8]) -> usize
+    requires { ⌜ Room (now work) at (length (textOf source (now scratch) (now area))) ⌝ }
+    ensures { λ r. ⌜ Puts (now (work .entry)) (now (work .exit)) at r (textOf source (now (scratch .entry)) (now (area .entry))) ⌝ }
+{
+    match source {
+        Source::Missing => at,
+        Source::Own(from, n) => append(work, at, names::piece(scratch, from, n)),
+        Source::Made(from, n) => append(work, at, names::piece(area, from, n)),
+    }
+}
+
+fn append(work: &mut [u8], at: usize, s: &[u8]) -> usize
+    requires { ⌜ Room (now work) at (length (now s)) ⌝ }
+    ensures { λ r. ⌜ Puts (now (work .entry)) (now (work .exit)) at r (now (s .entry)) ⌝ }
+{
+    copy::put(work, at, s);
+    at + s.len()
+}
+
+// The marks of the frame, whose first binding is row `first`.
+fn marks(parts: Parts, first: usize) -> [u32; 8]
+    requires { ⌜ first ≤ 128 ⌝ }
+    ensures { λ r. ⌜ r ≡ marksOf parts first ⌝ }
+{
+    let base = parts.base;
+    let tag = parts.tag;
+    let id = parts.id;
+    let datatype = parts.datatype;
+    [
+        mark(base),
+        mark(tag),
+        bit(parts.blank),
+        mark(id),
+        mark(datatype),
+        parts.what,
+        0,
+        first as u32,
+    ]
+}
+
+// Is there such a part? 0 where it is missing.
+fn mark(source: Source) -> u32
+    ensures { λ r. ⌜ r ≡ markOf source ⌝ }
+{
+    match source {
+        Source::Missing => 0,
+        Source::Own(_, _) => 1,
+        Source::Made(_, _) => 1,
+    }
+}
+
+fn bit(b: bool) -> u32
+    ensures { λ r. ⌜ r ≡ bitOf b ⌝ }
+{
+    if b { 1 } else { 0 }
 }
 
 // The bytes of all parts.
