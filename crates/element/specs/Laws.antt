@@ -1,6 +1,6 @@
 -- What `open` and `commit` do to a valid state, said of the document that it means. These are the laws to cite.
 use mathlib.Core.Path.{_≡_, refl, sym, ap, _∙_}
-use mathlib.Core.Bool.{Bool, true, false, _&&_}
+use mathlib.Core.Bool.{Bool, true, false, _&&_, false≢true}
 use mathlib.Core.Option.{Option}
 use mathlib.Core.List.{List, [], _∷_}
 use Prim.Native.Nat.{ℕ, suc, _+_, _-_, _*_, _<_, _≤_}
@@ -8,11 +8,13 @@ use native.Mathlib.Omega.{arith}
 use lib.Dec.{eqb, leb, ltb}
 use lib.ListN.{length, take, getD}
 use borrow.Author.Tests.{eq-eqb, le-leb, lt-ltb}
-use Rattle.spec.specs.Bytes.{Bytes, total}
+use Rattle.spec.specs.Bytes.{Bytes, if_then_else_, total}
 use Rattle.spec.specs.Limits as L
 use Rattle.spec.specs.Namespaces.{Binding, declared}
 use Rattle.spec.specs.NTriples.{Subject, named}
-use Rattle.spec.specs.Document.{Frame as Element, bindingBytes, frameBytes}
+use Rattle.spec.specs.Document.{Kind as What, rdfRDF, nodeElement, propertyElement, xmlElement, Frame as Element, withKind, bindingBytes, frameBytes}
+use Rattle.spec.specs.Productions.{isLi}
+use Rattle.spec.specs.Opening.{counted, countLi}
 use Rattle.copy.specs.Copy.{part, Put, Wrote, put-fits, wrote-part, wrote-same}
 use Rattle.frames.specs.declared.Frame.{Frame}
 use Rattle.frames.specs.Kept.{Kept, kept-all, kept-then, kept-less, kept-before}
@@ -21,9 +23,9 @@ use Rattle.state.specs.Meaning.{at, span, optional, bindingsOf, whatOf, element
 use Rattle.state.specs.Valid.{stands, Rising, Valid}
 use Rattle.state.specs.Stay.{bindings-kept}
 use Rattle.stack.specs.declared.Changed.{Changed}
-use Rattle.stack.specs.Change.{Holds, flat}
-use Rattle.stack.specs.Calls.{Pushes, mayPush}
-use Rattle.stack.specs.Laws.{Bound, New, push-holds}
+use Rattle.stack.specs.Change.{Holds, flat, labelledTo, labelled-holds}
+use Rattle.stack.specs.Calls.{Pushes, mayPush, Counts, mayCount}
+use Rattle.stack.specs.Laws.{Bound, New, push-holds, Numbered, li-may, li-holds, li-stands, li-below}
 use Rattle.names.specs.Tag.{attributesOf}
 use Rattle.element.specs.declared.Next.{Next}
 use Rattle.element.specs.declared.Parts.{Parts}
@@ -184,3 +186,93 @@ module _ {r : Registers} {fs bs w e s : List ℕ} {m k : ℕ} {a : List ℕ} {p 
                 bindings = h .sameWords;
                 work = l .same ∙ (h .sameBytes ∙ g .same);
               }
+
+-- ---- commit
+
+-- what was judged, for an element that is an rdf:li or not, behind which so many labels are generated
+pub record Granted (r : Registers) (fs bs w e s : List ℕ) (m k : ℕ) (a : List ℕ) (p : Parts) (li : Bool) (labels : ℕ) : Type 0 where
+  pub ready : Ready r fs bs w e s m k a p
+  pub numbered : li ≡ true → Numbered r fs
+  pub few : labels ≤ 99_999_999
+
+-- one more element, counted in the node around it where it is an rdf:li
+pub record Commits (r : Registers) (fs bs w e s : List ℕ) (m k : ℕ) (a : List ℕ) (p : Parts) (li : Bool) (labels : ℕ) (q : Registers) (gs cs v : List ℕ) : Type 0 where
+  pub holds : (is : List ℕ) → Valid r fs bs is w → (i : Bytes) → isLi i ≡ li
+      → Holds q gs cs is v (startOf r w) (newElement e s m k a p (subjectBelow fs w (r .depth)) ∷ countLi i (elementsOf r fs bs is w)) true labels
+  pub closed : q .closed ≡ r .closed
+  pub frames : length gs ≡ length fs
+  pub bindings : length cs ≡ length bs
+  pub work : length v ≡ length w
+
+-- `count_if`
+pub record CountsIf (r : Registers) (fs : List ℕ) (li : Bool) (gs : List ℕ) : Type 0 where
+  pub yes : li ≡ true → Counts r fs (mayCount r fs) gs
+  pub no : li ≡ false → gs ≡ fs
+  pub same : length gs ≡ length fs
+
+pub counts-not : {r : Registers} {fs : List ℕ} {li : Bool} → li ≡ false → CountsIf r fs li fs
+counts-not n = record { yes = λ y. absurd (false≢true (sym n ∙ y)); no = λ _. refl; same = refl }
+
+pub counts-does : {r : Registers} {fs gs : List ℕ} {li b : Bool} → li ≡ true → Counts r fs b gs → CountsIf r fs li gs
+counts-does y c = record { yes = λ _. rw (c .answer) at c; no = λ n. absurd (false≢true (sym n ∙ y)); same = c .same }
+
+-- an element that is no rdf:li is not counted
+not-counted : (i : Bytes) → isLi i ≡ false → (q : What) → counted i q ≡ q
+unfolding counted if_then_else_
+not-counted i n rdfRDF = refl
+not-counted i n (nodeElement s li) = rw n
+not-counted i n (propertyElement p v) = refl
+not-counted i n xmlElement = refl
+
+no-li : (i : Bytes) → isLi i ≡ false → (es : List Element) → countLi i es ≡ es
+unfolding countLi withKind
+no-li i n [] = refl
+no-li i n (f ∷ es) = rw (not-counted i n (f .kind))
+
+module _ {r : Registers} {fs bs w e s : List ℕ} {m k : ℕ} {a : List ℕ} {p : Parts} {li : Bool} {labels : ℕ} (y : Granted r fs bs w e s m k a p li labels)
+    {fs1 : List ℕ} (c : CountsIf r fs li fs1) where
+  may : li ≡ true → mayCount r fs ≡ true
+  may t = li-may r fs (y .numbered t) (omega (arith, y .ready .depth)) (y .ready .frameWords)
+
+  pub ready-counted : Ready r fs1 bs w e s m k a p
+  ready-counted =
+      record {
+        frameWords = c .same ∙ y .ready .frameWords;
+        bindingWords = y .ready .bindingWords;
+        store = y .ready .store;
+        inner = y .ready .inner;
+        depth = y .ready .depth;
+        bindings = y .ready .bindings;
+        room = y .ready .room;
+        fitting = y .ready .fitting;
+        stood = stays li refl ∙ y .ready .stood;
+      }
+    where
+      stays : (t : Bool) → li ≡ t → stands (p .kind) fs1 (r .depth) ≡ stands (p .kind) fs (r .depth)
+      stays true t = li-stands (c .yes t) (may t) (p .kind)
+      stays false t = rw (c .no t)
+
+  module _ {q : Registers} {gs cs v : List ℕ} (o : Opens r fs1 bs w e s m k a p q gs cs v) where
+    opened-holds : (is : List ℕ) → Valid r fs bs is w → (i : Bytes) → isLi i ≡ li
+        → Holds q gs cs is v (startOf r w) (newElement e s m k a p (subjectBelow fs w (r .depth)) ∷ countLi i (elementsOf r fs bs is w)) true (r .labels)
+    opened-holds is x i j = go li refl
+      where
+        go : (t : Bool) → li ≡ t
+            → Holds q gs cs is v (startOf r w) (newElement e s m k a p (subjectBelow fs w (r .depth)) ∷ countLi i (elementsOf r fs bs is w)) true (r .labels)
+        go true t =
+            let h = li-holds x (y .ready .inner) (c .yes t) (may t) i (j ∙ t) in
+            rw (← li-below (c .yes t) (may t) w, ← h .elements) (o .holds is (h .valid))
+        go false t =
+            let h : Holds q gs cs is v (startOf r w) (newElement e s m k a p (subjectBelow fs w (r .depth)) ∷ elementsOf r fs bs is w) true (r .labels) =
+            rw (c .no t) at (o .holds is (rw (c .no t) x)) in
+            rw (no-li i (j ∙ t) (elementsOf r fs bs is w)) h
+
+    pub commits : {q′ : Registers} → q′ ≡ labelledTo q labels → Commits r fs bs w e s m k a p li labels q′ gs cs v
+    commits {q′} e′ =
+        record {
+          holds = λ is x i j. rw e′ (labelled-holds (opened-holds is x i j) (y .few));
+          closed = ap (λ (z : Registers). z .closed) e′ ∙ o .closed;
+          frames = o .frames ∙ c .same;
+          bindings = o .bindings;
+          work = o .work;
+        }
