@@ -51,6 +51,15 @@ pub record Spread (w e a : List ℕ) (p : Parts) (name bound from : ℕ) : Type 
   pub room : from + partsBytes p e a ≤ length w
 
 module _ {w e a : List ℕ} {p : Parts} {name bound from : ℕ} (s : Spread w e a p name bound from) where
+  pub spread-from : from ≤ 65_536
+  spread-from = omega (arith, s .store, s .room)
+
+  pub spread-bound : bound ≤ 65_536
+  spread-bound = omega (arith, spread-from, s .second)
+
+  pub spread-name : name ≤ 65_536
+  spread-name = omega (arith, spread-bound, s .first)
+
   pub spread-1 : Room w from (length (textOf (p .base) e a))
   spread-1 = record { store = s .store; room = omega (arith, s .room) }
 
