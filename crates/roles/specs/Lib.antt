@@ -1,0 +1,3 @@
+-- What attributes are there for, in reading order.
+pub mod Role
+pub mod Judgment
