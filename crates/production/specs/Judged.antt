@@ -19,11 +19,12 @@ use Rattle.spec.specs.StartTag.{Tag}
 use Rattle.spec.specs.Productions.{Opened, typeLine, tagLines, statement, oneMore, twoOf, subjectOf, elementType, openNode, noParseType, asCollection, asResource, asLiteral, asOther, parseTypeOf, hasNode, objectOf, openWithNode, openDefault, openResource, openWith, openAs, twoObjects, isLi, propertyIri, openProperty, openRoot}
 use Rattle.spec.specs.Productions as O
 use Rattle.ntriples.specs.Terms.{idOf as given}
+use Rattle.roles.specs.declared.Judgment.{Judgment}
+use Rattle.roles.specs.declared.Judgment.the-variants.{Good, Stop}
+use Rattle.roles.specs.Judgment.{said}
 use Rattle.production.specs.Names.{not-not}
 use Rattle.production.specs.declared.ParseType.{ParseType}
 use Rattle.production.specs.declared.ParseType.the-variants as parse
-use Rattle.production.specs.declared.Judgment.{Judgment}
-use Rattle.production.specs.declared.Judgment.the-variants.{Good, Stop}
 
 -- ---- the values of rdf:parseType
 
@@ -60,10 +61,6 @@ module _ (v : Bytes) where
         parse-other c = rw (h, a, b, c)
 
 -- ---- what is refused, and what is opened else
-
-abbrev pub opens : Judgment → Opened → Answer Opened
-opens Good o = good o
-opens (Stop r) o = refuse r
 
 refused-by : (m : Bool) {r : Bool} → r ≡ not m → r ≡ true → m ≡ false
 refused-by m e h = not-true m (sym e ∙ h)
@@ -129,7 +126,7 @@ nodeOpened t n =
 
 -- what `judge_node` answers
 pub record NodeJudged (reserved id nodeID about : Bool) (n : ℕ) (r : Judgment) : Type 0 where
-  pub is : (t : Tag) → NodeTag t reserved id nodeID about → openNode t n ≡ opens r (nodeOpened t n)
+  pub is : (t : Tag) → NodeTag t reserved id nodeID about → openNode t n ≡ said r (nodeOpened t n)
   pub left : r ≡ Good → n < mostLabels
 
 stop-good : {x : Refusal} → Stop x ≡ Good → ⊥
@@ -226,7 +223,7 @@ propertyOpened asOther t p n = record { lines = []; kind = propertyElement p oth
 -- what `judge_property` answers
 pub record PropertyJudged (reserved li : Bool) (count : ℕ) (p : ParseType) (resource nodeID properties : Bool) (n : ℕ) (r : Judgment) : Type 0 where
   pub is : (t : Tag) (s : Subject) → PropertyTag t reserved li p resource nodeID properties
-      → openProperty t s count n ≡ opens r (propertyOpened (parseTypeIs p) t (propertyIn t s count) n)
+      → openProperty t s count n ≡ said r (propertyOpened (parseTypeIs p) t (propertyIn t s count) n)
   pub numbers : r ≡ Good → li ≡ true → count < mostLabels
   pub left : r ≡ Good → takesLabel (parseTypeIs p) resource nodeID properties ≡ true → n < mostLabels
 

@@ -17,6 +17,7 @@ ghost use Rattle.production.specs.Judged.{parseTypeIs, twoOfThree, twoOb
 use label::BlankNodeIdGenerator;
 use label::Decimal;
 use ntriples::RDF;
+use roles::Judgment;
 use spec::Refusal;
 
 // What rdf:parseType says.
@@ -26,12 +27,6 @@ pub enum ParseType {
     Resource,
     Literal,
     Other,
-}
-
-// A start tag judged.
-pub enum Judgment {
-    Good,
-    Stop(Refusal),
 }
 
 // By the value of rdf:parseType, where it is there.
