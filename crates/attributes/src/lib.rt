@@ -148,9 +148,9 @@ pub fn type_line(
     node: Node,
     subject: &[u8],
     typed: bool,
-    kind: &[u8],
+    iri: &[u8],
 ) -> usize
-    ensures { λ r. ⌜ Put on (now (out .entry)) (now (out .exit)) at r (write (typeLine (subjectOf node (now (subject .entry))) (given typed (now (kind .entry))))) ⌝ }
+    ensures { λ r. ⌜ Put on (now (out .entry)) (now (out .exit)) at r (write (typeLine (subjectOf node (now (subject .entry))) (given typed (now (iri .entry))))) ⌝ }
 {
     if !typed {
         return at;
@@ -163,7 +163,7 @@ pub fn type_line(
         subject,
         b"type",
         Term::Named,
-        kind,
+        iri,
         b"",
         b"",
     )

@@ -3,12 +3,12 @@ use mathlib.Core.Path.{_≡_, refl, sym, ap, _∙_}
 use mathlib.Core.Bool.{Bool, true, false, _&&_, _||_, not, true≢false, false≢true}
 use mathlib.Core.List.{List, [], _∷_, _++_, map}
 use mathlib.Core.Logic.{⊎-elim}
-use Prim.Native.Nat.{ℕ, _-_, _<_, _≤_}
+use Prim.Native.Nat.{_-_, _<_, _≤_}
 use Prim.Native.String.{String}
 use native.Mathlib.Omega.{arith}
-use lib.Dec.{eqb, leb}
+use lib.Dec.{leb}
 use lib.ListN.{length, take, drop}
-use borrow.Author.Tests.{not-true, leb-true, eq-eqb, eqb-true, eqb-false, ne-eqb}
+use borrow.Author.Tests.{not-true, leb-true}
 use Rattle.spec.specs.Bytes.{Bytes, ascii, if_then_else_, same, begins, isEmpty, member}
 use Rattle.spec.specs.Bytes as B
 use Rattle.spec.specs.Rdf.{rdf, reservedElements, mayBeNode, mayBeProperty}
@@ -19,6 +19,7 @@ use Rattle.spec.specs.Productions.{isLi}
 use Rattle.spec.proofs.Booleans.{or-cases, and-left, and-right}
 use Rattle.copy.specs.Copy.{rest-of}
 use Rattle.copy.specs.Texts.{same-true, same-lengths}
+use Rattle.names.specs.Joined.{joined-split}
 use Rattle.ntriples.specs.Terms.{inRdf, in-rdf}
 
 abbrev space : Bytes
@@ -37,22 +38,9 @@ oldTerms = "aboutEach" ∷ "aboutEachPrefix" ∷ "bagID" ∷ []
 
 -- ---- an IRI is a name of the namespace where the name behind the namespace is
 
-eqb-sym : (m n : ℕ) → eqb m n ≡ eqb n m
-eqb-sym m n = go (eqb n m) refl
-  where
-    go : (t : Bool) → eqb n m ≡ t → eqb m n ≡ t
-    go true h = eq-eqb m n (sym (eqb-true n m h))
-    go false h = ne-eqb m n (λ (e : m ≡ n). eqb-false n m h (sym e))
-
-and-assoc : (a b c : Bool) → (a && (b && c)) ≡ ((a && b) && c)
-and-assoc true b c = refl
-and-assoc false b c = refl
-
 front-split : (p s t : Bytes) → same s (p ++ t) ≡ (begins p s && same (drop (length p) s) t)
-unfolding same begins
-front-split [] s t = refl
-front-split (x ∷ p) [] t = refl
-front-split (x ∷ p) (y ∷ s) t = rw (front-split p s t, eqb-sym y x) (and-assoc (eqb x y) (begins p s) (same (drop (length p) s) t))
+unfolding same
+front-split p s t = joined-split s t [] p (omega arith)
 
 module _ (i : Bytes) where
   pub name-outside : begins space i ≡ false → [] ≡ nameInRdf i
