@@ -12,7 +12,7 @@ ghost use Rattle.writer.specs.Put.{Put};
 ghost use Rattle.ntriples.specs.Terms.{subjectOf, idOf as given};
 ghost use Rattle.names.specs.Tag.{valueAt};
 ghost use Rattle.roles.specs.Properties.{localAt, propertiesFrom};
-ghost use Rattle.attributes.specs.Lines.{literalKind};
+ghost use Rattle.lines.specs.Lines.{literalKind};
 use names::Class;
 use names::XML;
 use ntriples::Node;

@@ -1,9 +1,9 @@
--- `attributes::node_lines` meets its contract: two rows of lines.
-use Rattle.attributes.specs.Lines.{lines-then}
+-- `lines::node_lines` meets its contract: two rows of lines.
+use Rattle.lines.specs.Lines.{lines-then}
 use Rattle.writer.specs.Put.{puts, put-as}
 use borrow.Author.Needs.{needs}
-use Rattle.attributes.proofs.node_lines.Statement.{statement}
-use Rattle.attributes.proofs.node_lines.Tie as tie
+use Rattle.lines.proofs.node_lines.Statement.{statement}
+use Rattle.lines.proofs.node_lines.Tie as tie
 
 tag-lines-requires : tie.Need-tag-lines-requires
 tag-lines-requires c κs = search needs

@@ -1,11 +1,11 @@
--- `attributes::emit_property_attrs` meets its contract. The loop's invariant: the lines of the first `j` attributes are written.
-use Rattle.attributes.specs.Lines.{Emitting, emitting-begins, emitting-more, emitting-done}
+-- `lines::emit_property_attrs` meets its contract. The loop's invariant: the lines of the first `j` attributes are written.
+use Rattle.lines.specs.Lines.{Emitting, emitting-begins, emitting-more, emitting-done}
 use Rattle.ntriples.specs.Terms.{subjectOf, idOf as given}
 use Prim.Native.Nat.{_-_}
 use native.Mathlib.Omega.{arith}
 use borrow.Author.Needs.{needs}
-use Rattle.attributes.proofs.emit_property_attrs.Statement.{statement}
-use Rattle.attributes.proofs.emit_property_attrs.Tie as tie
+use Rattle.lines.proofs.emit_property_attrs.Statement.{statement}
+use Rattle.lines.proofs.emit_property_attrs.Tie as tie
 
 abbrev Inv-loop : tie.InvT-loop
 Inv-loop out₀ at on node subject tagged language scratch spans k work classes roles to₀ j₀ out to j = Emitting on out₀ out at to (subjectOf node subject) (given tagged language) scratch spans work classes roles k j

@@ -1,8 +1,8 @@
--- `attributes::is_property` meets its contract.
-use Rattle.attributes.specs.Lines.{role-none}
+-- `lines::is_property` meets its contract.
+use Rattle.lines.specs.Lines.{role-none}
 use borrow.Author.Needs.{needs}
-use Rattle.attributes.proofs.is_property.Statement.{statement}
-use Rattle.attributes.proofs.is_property.Tie as tie
+use Rattle.lines.proofs.is_property.Statement.{statement}
+use Rattle.lines.proofs.is_property.Tie as tie
 
 returns : tie.Need-returns
 returns c = role-none (c .before .before .args .roles .now) _ (c .if1 .taken)

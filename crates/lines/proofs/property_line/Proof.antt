@@ -1,9 +1,9 @@
--- `attributes::property_line` meets its contract: one line, from what it reads.
+-- `lines::property_line` meets its contract: one line, from what it reads.
 use Rattle.writer.specs.Put.{put-as}
-use Rattle.attributes.specs.Lines.{property-text}
+use Rattle.lines.specs.Lines.{property-text}
 use borrow.Author.Needs.{needs}
-use Rattle.attributes.proofs.property_line.Statement.{statement}
-use Rattle.attributes.proofs.property_line.Tie as tie
+use Rattle.lines.proofs.property_line.Statement.{statement}
+use Rattle.lines.proofs.property_line.Tie as tie
 
 local-of-requires : tie.Need-local-of-requires
 local-of-requires c κs = search needs

@@ -1,9 +1,9 @@
--- `attributes::tag_lines` meets its contract: two rows of lines.
-use Rattle.attributes.specs.Lines.{lines-then}
+-- `lines::tag_lines` meets its contract: two rows of lines.
+use Rattle.lines.specs.Lines.{lines-then}
 use Rattle.writer.specs.Put.{puts, put-as}
 use borrow.Author.Needs.{needs}
-use Rattle.attributes.proofs.tag_lines.Statement.{statement}
-use Rattle.attributes.proofs.tag_lines.Tie as tie
+use Rattle.lines.proofs.tag_lines.Statement.{statement}
+use Rattle.lines.proofs.tag_lines.Tie as tie
 
 emit-property-attrs-requires : tie.Need-emit-property-attrs-requires
 emit-property-attrs-requires c κs = search needs

@@ -1,7 +1,7 @@
--- `attributes::literal_kind` meets its contract.
-use Rattle.attributes.specs.Lines.{literalKind}
-use Rattle.attributes.proofs.literal_kind.Statement.{statement}
-use Rattle.attributes.proofs.literal_kind.Tie as tie
+-- `lines::literal_kind` meets its contract.
+use Rattle.lines.specs.Lines.{literalKind}
+use Rattle.lines.proofs.literal_kind.Statement.{statement}
+use Rattle.lines.proofs.literal_kind.Tie as tie
 
 returns : tie.Need-returns
 unfolding literalKind

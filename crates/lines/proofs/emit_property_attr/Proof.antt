@@ -1,13 +1,13 @@
--- `attributes::emit_property_attr` meets its contract: no line, or that of the attribute by its class.
-use Rattle.attributes.specs.Lines.{no-line, one-line, space-declaration, space-unknown, space-unprefixed, space-xml, space-own, space-held}
+-- `lines::emit_property_attr` meets its contract: no line, or that of the attribute by its class.
+use Rattle.lines.specs.Lines.{no-line, one-line, space-declaration, space-unknown, space-unprefixed, space-xml, space-own, space-held}
 use Rattle.spec.specs.Namespaces.{xmlName}
 use Rattle.spec.specs.Bytes.{ascii}
 use borrow.Author.Tests.{not-true, not-false}
 use mathlib.Core.Path.{sym, _∙_}
 use native.Mathlib.Omega.{arith}
 use borrow.Author.Needs.{needs}
-use Rattle.attributes.proofs.emit_property_attr.Statement.{statement}
-use Rattle.attributes.proofs.emit_property_attr.Tie as tie
+use Rattle.lines.proofs.emit_property_attr.Statement.{statement}
+use Rattle.lines.proofs.emit_property_attr.Tie as tie
 
 is-property-requires : tie.Need-is-property-requires
 is-property-requires c κs = search needs

@@ -1,11 +1,11 @@
--- `attributes::type_line` meets its contract: no line, or one.
-use Rattle.attributes.specs.Lines.{no-type, one-type}
+-- `lines::type_line` meets its contract: no line, or one.
+use Rattle.lines.specs.Lines.{no-type, one-type}
 use Rattle.spec.specs.Bytes.{ascii}
 use borrow.Author.Tests.{not-true, not-false}
 use native.Mathlib.Omega.{arith}
 use borrow.Author.Needs.{needs}
-use Rattle.attributes.proofs.type_line.Statement.{statement}
-use Rattle.attributes.proofs.type_line.Tie as tie
+use Rattle.lines.proofs.type_line.Statement.{statement}
+use Rattle.lines.proofs.type_line.Tie as tie
 
 returns : tie.Need-returns
 returns c = no-type _ _ (not-true _ (c .if1 .taken)) (omega arith)
