@@ -33,16 +33,14 @@ roleIs Property = S.property
 
 -- ---- names of the rdf namespace, from what follows it
 
+-- the namespace alone
 unfoldable pub rdfSpace : Bytes
 rdfSpace = rdf ""
 
+-- `roleAmong`, of the local part
 unfoldable pub localRole : List (String × S.Role) → Bytes → S.Role
 localRole [] l = S.property
 localRole (r ∷ rs) l = if same l (ascii (r .0)) then r .1 else localRole rs l
-
--- those that are reserved
-unfoldable pub reservedRoles : List (String × S.Role)
-reservedRoles = drop 8 rdfRoles
 
 in-space : (n : String) → rdf n ≡ rdfSpace ++ ascii n
 unfolding rdf rdfSpace ascii

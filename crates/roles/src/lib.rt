@@ -3,14 +3,14 @@ ghost use mathlib.Core.Path.{_≡_};
 ghost use mathlib.Core.List.{_++_};
 ghost use Prim.Native.Nat.{_<_, _≤_};
 ghost use lib.Dec.{leb};
-ghost use lib.ListN.{length};
+ghost use lib.ListN.{length, drop};
 ghost use Rattle.spec.specs.Bytes.{same, every, require_or_};
 ghost use Rattle.spec.specs.Limits.{mostNameBytes};
 ghost use Rattle.spec.specs.Rfc5646.{isLanguageTag};
 ghost use Rattle.spec.specs.StartTag.{roleNumber, rdfRoles, roleAmong, roleOf, judge, rdf-nodeID};
 ghost use Rattle.names.specs.Tag.{nameAt, valueAt};
 ghost use Rattle.names.specs.Classes.{textAt};
-ghost use Rattle.roles.specs.Role.{roleIs, rdfSpace, localRole, reservedRoles};
+ghost use Rattle.roles.specs.Role.{roleIs, rdfSpace, localRole};
 ghost use Rattle.roles.specs.Judgment.{said};
 ghost use Rattle.roles.specs.Attributes.{knownBy, roleAt, checkBy};
 ghost use Rattle.roles.specs.Places.{places};
@@ -175,15 +175,23 @@ fn role_among(space: &[u8], local: &[u8], rdf: &[u8]) -> Role
     requires { ⌜ now rdf ≡ rdfSpace ⌝ }
     ensures { λ r. ⌜ roleIs r ≡ roleAmong rdfRoles (now (space .entry) ++ now (local .entry)) ⌝ }
 {
-    let n = rdf.len();
-    let m = space.len();
-    if n <= m {
-        if !copy::equal(rdf, &space[0..n]) {
-            return Role::Property;
-        }
-        return local_role(&space[n..], local);
+    if space.len() < rdf.len() {
+        return role_across(space, local, rdf);
     }
-    let more = n - m;
+    let n = rdf.len();
+    if !copy::equal(rdf, &space[0..n]) {
+        return Role::Property;
+    }
+    local_role(&space[n..], local)
+}
+
+// The same where the namespace, if it is that, ends in `local`.
+fn role_across(space: &[u8], local: &[u8], rdf: &[u8]) -> Role
+    requires { ⌜ (now rdf ≡ rdfSpace) × (length (now space) ≤ length (now rdf)) ⌝ }
+    ensures { λ r. ⌜ roleIs r ≡ roleAmong rdfRoles (now (space .entry) ++ now (local .entry)) ⌝ }
+{
+    let m = space.len();
+    let more = rdf.len() - m;
     if !copy::begins(local, &rdf[m..]) {
         return Role::Property;
     }
@@ -193,7 +201,7 @@ fn role_among(space: &[u8], local: &[u8], rdf: &[u8]) -> Role
     local_role(b"", &local[more..])
 }
 
-// The role of a name of the rdf namespace, from its local part, which may be in two.
+// The role of a name of the rdf namespace, from its local part, which may be in two: here those that name a node or a statement.
 fn local_role(front: &[u8], back: &[u8]) -> Role
     ensures { λ r. ⌜ roleIs r ≡ localRole rdfRoles (now (front .entry) ++ now (back .entry)) ⌝ }
 {
@@ -209,6 +217,13 @@ fn local_role(front: &[u8], back: &[u8]) -> Role
     if is_joined(front, back, b"about") {
         return Role::About;
     }
+    object_role(front, back)
+}
+
+// Those that tell of an object.
+fn object_role(front: &[u8], back: &[u8]) -> Role
+    ensures { λ r. ⌜ roleIs r ≡ localRole (drop 4 rdfRoles) (now (front .entry) ++ now (back .entry)) ⌝ }
+{
     if is_joined(front, back, b"resource") {
         return Role::Resource;
     }
@@ -224,9 +239,9 @@ fn local_role(front: &[u8], back: &[u8]) -> Role
     reserved_role(front, back)
 }
 
-// The last four of the namespace's names, which are reserved.
+// Those that are reserved.
 fn reserved_role(front: &[u8], back: &[u8]) -> Role
-    ensures { λ r. ⌜ roleIs r ≡ localRole reservedRoles (now (front .entry) ++ now (back .entry)) ⌝ }
+    ensures { λ r. ⌜ roleIs r ≡ localRole (drop 8 rdfRoles) (now (front .entry) ++ now (back .entry)) ⌝ }
 {
     if is_joined(front, back, b"aboutEach") {
         return Role::Forbidden;
