@@ -18,6 +18,19 @@ pub enum Outcome {
     Did(Done),
 }
 
+// Of an accepted event that may have entered an rdf:ID: besides, the two numbers of the table of rdf:IDs.
+pub struct Advance {
+    pub written: usize,
+    pub registers: Registers,
+    pub count: usize,
+    pub used: usize,
+}
+
+pub enum Progress {
+    Stop(Refusal),
+    Did(Advance),
+}
+
 // What may stand where an event stands.
 pub enum Place {
     Outside,

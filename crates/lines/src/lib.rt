@@ -1,5 +1,5 @@
 // The lines of a start tag: its property attributes, its rdf:type, and the type that a node element's name is.
-// Attributes are read where the decoded tag has them; `classes` and `roles` say what each is (crates names and roles).
+// Attributes are read where the decoded tag has them; `classes` and `roles` say what each is (crates names and attributes).
 ghost use mathlib.Core.Path.{_≡_};
 ghost use mathlib.Core.List.{_++_};
 ghost use mathlib.Core.Option.{none};
@@ -11,7 +11,7 @@ ghost use Rattle.spec.specs.Productions.{literalOf, attributeLines, typeLine};
 ghost use Rattle.writer.specs.Put.{Put};
 ghost use Rattle.ntriples.specs.Terms.{subjectOf, idOf as given};
 ghost use Rattle.names.specs.Tag.{valueAt};
-ghost use Rattle.roles.specs.Properties.{localAt, propertiesFrom};
+ghost use Rattle.attributes.specs.Properties.{localAt, propertiesFrom};
 ghost use Rattle.lines.specs.Lines.{literalKind};
 use names::Class;
 use names::XML;

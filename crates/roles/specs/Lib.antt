@@ -1,11 +1,3 @@
--- What attributes are there for, in reading order.
--- ---- one attribute
+-- What an attribute is there for, and whether its value is good in it.
 pub mod Role
 pub mod Judgment
-pub mod Attributes
--- ---- those of a start tag
-pub mod Places
-pub mod Reads
-pub mod First
-pub mod Properties
-pub mod Short

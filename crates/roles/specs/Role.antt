@@ -33,17 +33,16 @@ roleIs Property = S.property
 
 -- ---- names of the rdf namespace, from what follows it
 
+-- the namespace alone
 unfoldable pub rdfSpace : Bytes
 rdfSpace = rdf ""
 
+-- `roleAmong`, of the local part
 unfoldable pub localRole : List (String × S.Role) → Bytes → S.Role
 localRole [] l = S.property
 localRole (r ∷ rs) l = if same l (ascii (r .0)) then r .1 else localRole rs l
 
--- those that are reserved
-unfoldable pub reservedRoles : List (String × S.Role)
-reservedRoles = drop 8 rdfRoles
-
+-- every name of it is the namespace and a local part
 in-space : (n : String) → rdf n ≡ rdfSpace ++ ascii n
 unfolding rdf rdfSpace ascii
 in-space n = refl
@@ -60,7 +59,7 @@ module _ (i : Bytes) where
   inside x [] h = refl
   inside x (r ∷ rs) h = rw (in-space (r .0), h (r .0), inside x rs h)
 
--- ---- the tests of `role_among`: the expanded name s ++ l, and the namespace p
+-- ---- the tests of `role_among` and `role_across`: the expanded name s ++ l, and the namespace p
 
 -- a text against one in two parts
 against : (t s l : Bytes) → same t (s ++ l) ≡ (begins s t && same (drop (length s) t) l)
@@ -103,6 +102,7 @@ module _ (s l p : Bytes) (e : p ≡ rdfSpace) where
     pub cut-inside : begins (drop (length s) p) l ≡ true → same s (take (length s - 0) p) ≡ true → localRole rdfRoles (drop (length p - length s) l) ≡ roleAmong rdfRoles (s ++ l)
     cut-inside b c = sym (inside (s ++ l) (drop (length p - length s) l) rdfRoles λ n. split n ∙ rw (b, c))
 
+-- what is left of the namespace is no longer than l
 pub cut-room : (s l p : Bytes) → begins (drop (length s) p) l ≡ true → length p - length s ≤ length l
 cut-room s l p b = omega (arith, begins-length (drop (length s) p) l b, length-drop (length s) p)
 

@@ -1,8 +1,8 @@
--- `roles::read_attribute` meets its contract: the role is that of the attribute's class.
-use Rattle.roles.specs.Reads.{read-one}
+-- `attributes::read_attribute` meets its contract: the role is that of the attribute's class.
+use Rattle.attributes.specs.Reads.{read-one}
 use borrow.Author.Needs.{needs}
-use Rattle.roles.proofs.read_attribute.Statement.{statement}
-use Rattle.roles.proofs.read_attribute.Tie as tie
+use Rattle.attributes.proofs.read_attribute.Statement.{statement}
+use Rattle.attributes.proofs.read_attribute.Tie as tie
 
 load-requires : tie.Need-load-requires
 load-requires c κs = search needs

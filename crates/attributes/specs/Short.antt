@@ -19,7 +19,7 @@ use Rattle.names.specs.declared.Class.the-variants.{Declaration, Unknown, Unpre
 use Rattle.names.specs.Tag.{nameAt, valueAt, attributeAt, attributesFrom, attributesOf, Splits}
 use Rattle.names.specs.Found.{scope}
 use Rattle.names.specs.Classes.{Says, classAt, textBy, textAt, Classified}
-use Rattle.roles.specs.Places.{places}
+use Rattle.attributes.specs.Places.{places}
 
 -- of a name whose expanded name is i, where it has one
 unfoldable pub shortBy : Class → Bytes → Bool

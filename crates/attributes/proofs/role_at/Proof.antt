@@ -1,11 +1,11 @@
--- `roles::role_at` meets its contract, by the class.
+-- `attributes::role_at` meets its contract, by the class.
 use Rattle.spec.specs.Namespaces.{xmlName}
 use Rattle.spec.specs.Bytes.{ascii}
 use Rattle.names.specs.Classes.{text-unprefixed, text-xml, text-own, text-held}
-use Rattle.roles.specs.Attributes.{no-role-declaration, no-role-unknown, role-unprefixed, role-xml, role-own, role-held}
+use Rattle.attributes.specs.Attributes.{no-role-declaration, no-role-unknown, role-unprefixed, role-xml, role-own, role-held}
 use borrow.Author.Needs.{needs}
-use Rattle.roles.proofs.role_at.Statement.{statement}
-use Rattle.roles.proofs.role_at.Tie as tie
+use Rattle.attributes.proofs.role_at.Statement.{statement}
+use Rattle.attributes.proofs.role_at.Tie as tie
 
 name-of-requires : tie.Need-name-of-requires
 name-of-requires c κs = search needs

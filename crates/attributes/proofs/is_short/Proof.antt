@@ -1,11 +1,11 @@
--- `roles::is_short` meets its contract, by the class.
+-- `attributes::is_short` meets its contract, by the class.
 use Rattle.spec.specs.Namespaces.{xmlName}
 use Rattle.spec.specs.Bytes.{ascii}
 use Rattle.names.specs.Classes.{text-unprefixed, text-xml, text-own, text-held}
-use Rattle.roles.specs.Short.{short-declaration, short-unknown, short-unprefixed, short-xml, short-own, short-held}
+use Rattle.attributes.specs.Short.{short-declaration, short-unknown, short-unprefixed, short-xml, short-own, short-held}
 use borrow.Author.Needs.{needs}
-use Rattle.roles.proofs.is_short.Statement.{statement}
-use Rattle.roles.proofs.is_short.Tie as tie
+use Rattle.attributes.proofs.is_short.Statement.{statement}
+use Rattle.attributes.proofs.is_short.Tie as tie
 
 name-of-requires : tie.Need-name-of-requires
 name-of-requires c κs = search needs

@@ -16,9 +16,9 @@ use Rattle.copy.specs.Copy.{part}
 use Rattle.copy.specs.Texts.{length-upTo}
 use Rattle.names.specs.Tag.{valueAt}
 use Rattle.names.specs.Classes.{classAt}
-use Rattle.roles.specs.Places.{places}
-use Rattle.roles.specs.Attributes.{roleAt, meantAt}
-use Rattle.roles.specs.Reads.{meaningsOf, Roles}
+use Rattle.attributes.specs.Places.{places}
+use Rattle.attributes.specs.Attributes.{roleAt, meantAt}
+use Rattle.attributes.specs.Reads.{meaningsOf, Roles}
 
 -- ---- from place j on, m of them: where the first attribute of a role stands, and its value
 

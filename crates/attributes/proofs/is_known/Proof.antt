@@ -1,9 +1,9 @@
--- `roles::is_known` meets its contract, arm by arm.
+-- `attributes::is_known` meets its contract, arm by arm.
 use Rattle.spec.specs.Bytes.{ascii}
-use Rattle.roles.specs.Attributes.{knownBy}
+use Rattle.attributes.specs.Attributes.{knownBy}
 use borrow.Author.Needs.{needs}
-use Rattle.roles.proofs.is_known.Statement.{statement}
-use Rattle.roles.proofs.is_known.Tie as tie
+use Rattle.attributes.proofs.is_known.Statement.{statement}
+use Rattle.attributes.proofs.is_known.Tie as tie
 
 enum-told : tie.Need-enum-told
 enum-told c = search needs

@@ -1,8 +1,8 @@
--- `roles::first_in` meets its contract.
-use Rattle.roles.specs.First.{firstIn}
+-- `attributes::first_in` meets its contract.
+use Rattle.attributes.specs.First.{firstIn}
 use borrow.Author.Needs.{needs}
-use Rattle.roles.proofs.first_in.Statement.{statement}
-use Rattle.roles.proofs.first_in.Tie as tie
+use Rattle.attributes.proofs.first_in.Statement.{statement}
+use Rattle.attributes.proofs.first_in.Tie as tie
 
 piece-requires : tie.Need-piece-requires
 piece-requires c κs = search needs

@@ -1,10 +1,10 @@
--- `roles::read_attributes` meets its contract. The loop's invariant: the first `j` attributes are read, and nothing is wrong with them.
+-- `attributes::read_attributes` meets its contract. The loop's invariant: the first `j` attributes are read, and nothing is wrong with them.
 use Prim.Native.Nat.{_-_}
-use Rattle.roles.specs.Reads.{Reading, reading-begins, reading-more, reading-stops, reading-done}
+use Rattle.attributes.specs.Reads.{Reading, reading-begins, reading-more, reading-stops, reading-done}
 use native.Mathlib.Omega.{arith}
 use borrow.Author.Needs.{needs}
-use Rattle.roles.proofs.read_attributes.Statement.{statement}
-use Rattle.roles.proofs.read_attributes.Tie as tie
+use Rattle.attributes.proofs.read_attributes.Statement.{statement}
+use Rattle.attributes.proofs.read_attributes.Tie as tie
 
 abbrev Inv-loop : tie.InvT-loop
 Inv-loop scratch spans k work classes roles₀ j₀ roles j = Reading scratch spans work classes k roles₀ roles j

@@ -1,7 +1,7 @@
--- `roles::space_of` meets its contract, by the class.
+-- `attributes::space_of` meets its contract, by the class.
 use borrow.Author.Needs.{needs}
-use Rattle.roles.proofs.space_of.Statement.{statement}
-use Rattle.roles.proofs.space_of.Tie as tie
+use Rattle.attributes.proofs.space_of.Statement.{statement}
+use Rattle.attributes.proofs.space_of.Tie as tie
 
 enum-told : tie.Need-enum-told
 enum-told c = search needs

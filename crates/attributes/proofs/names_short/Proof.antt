@@ -1,14 +1,14 @@
--- `roles::names_short` meets its contract. The loop's invariant: the expanded names of the first `j` attributes are short.
+-- `attributes::names_short` meets its contract. The loop's invariant: the expanded names of the first `j` attributes are short.
 use mathlib.Core.Path.{_∙_}
 use Prim.Native.Nat.{_-_}
 use borrow.Author.Tests.{not-true, not-false}
 use Rattle.copy.specs.Scan.{Passed, passed-begins}
-use Rattle.roles.specs.Short.{shortAt, short-test}
-use Rattle.roles.specs.Places.{places, place-stops, place-passes, places-pass}
+use Rattle.attributes.specs.Short.{shortAt, short-test}
+use Rattle.attributes.specs.Places.{places, place-stops, place-passes, places-pass}
 use native.Mathlib.Omega.{arith}
 use borrow.Author.Needs.{needs}
-use Rattle.roles.proofs.names_short.Statement.{statement}
-use Rattle.roles.proofs.names_short.Tie as tie
+use Rattle.attributes.proofs.names_short.Statement.{statement}
+use Rattle.attributes.proofs.names_short.Tie as tie
 
 abbrev Inv-loop : tie.InvT-loop
 Inv-loop scratch spans k work classes j₀ j = Passed (shortAt scratch spans work classes) (places 0 k) j

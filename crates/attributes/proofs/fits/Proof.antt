@@ -1,8 +1,8 @@
--- `roles::fits` meets its contract, part by part.
-use Rattle.roles.specs.Short.{front-long, both-long, both-fit}
+-- `attributes::fits` meets its contract, part by part.
+use Rattle.attributes.specs.Short.{front-long, both-long, both-fit}
 use borrow.Author.Needs.{needs}
-use Rattle.roles.proofs.fits.Statement.{statement}
-use Rattle.roles.proofs.fits.Tie as tie
+use Rattle.attributes.proofs.fits.Statement.{statement}
+use Rattle.attributes.proofs.fits.Tie as tie
 
 returns : tie.Need-returns
 returns c = front-long (c .before .args .front .now) (c .before .args .back .now) (c .if1 .taken)

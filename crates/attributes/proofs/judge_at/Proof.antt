@@ -1,10 +1,10 @@
--- `roles::judge_at` meets its contract: 8, then by the role.
+-- `attributes::judge_at` meets its contract: 8, then by the role.
 use mathlib.Core.Path.{sym, _∙_}
 use borrow.Author.Tests.{not-true, not-false}
-use Rattle.roles.specs.Attributes.{not-known, is-known}
+use Rattle.attributes.specs.Attributes.{not-known, is-known}
 use borrow.Author.Needs.{needs}
-use Rattle.roles.proofs.judge_at.Statement.{statement}
-use Rattle.roles.proofs.judge_at.Tie as tie
+use Rattle.attributes.proofs.judge_at.Statement.{statement}
+use Rattle.attributes.proofs.judge_at.Tie as tie
 
 name-of-requires : tie.Need-name-of-requires
 name-of-requires c κs = search needs

@@ -15,11 +15,11 @@ use Rattle.names.specs.declared.Class.{Class}
 use Rattle.names.specs.Tag.{nameAt, valueAt, attributesFrom, attributesOf, Splits}
 use Rattle.names.specs.Found.{scope}
 use Rattle.names.specs.Classes.{classAt, Classified}
 use Rattle.roles.specs.declared.Judgment.{Judgment}
 use Rattle.roles.specs.declared.Judgment.the-variants.{Good, Stop}
 use Rattle.roles.specs.Judgment.{said}
-use Rattle.roles.specs.Places.{places}
-use Rattle.roles.specs.Attributes.{roleAt, checkBy, checkAt, meantAt, meaningAt, meaning-at}
+use Rattle.attributes.specs.Places.{places}
+use Rattle.attributes.specs.Attributes.{roleAt, checkBy, checkAt, meantAt, meaningAt, meaning-at}
 
 -- what the first k attributes mean, where nothing is wrong with them
 unfoldable pub meaningsOf : List ℕ → List ℕ → List ℕ → List ℕ → ℕ → List Meaning

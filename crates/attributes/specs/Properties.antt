@@ -20,10 +20,10 @@ use Rattle.names.specs.declared.Class.the-variants.{Declaration, Unknown, Unpre
 use Rattle.names.specs.Tag.{nameAt, valueAt, colonAt, frontOf, backOf, attributeAt, Split, Splits}
 use Rattle.names.specs.Found.{scope}
 use Rattle.names.specs.Classes.{Prefixed, Says, classAt, textBy, textAt, Classified}
-use Rattle.roles.specs.Places.{places}
-use Rattle.roles.specs.Attributes.{knownBy, roleBy, roleAt, checkBy, checkAt, meantAt}
-use Rattle.roles.specs.Reads.{meaningsOf, Roles}
-use Rattle.roles.specs.First.{turned}
+use Rattle.attributes.specs.Places.{places}
+use Rattle.attributes.specs.Attributes.{knownBy, roleBy, roleAt, checkBy, checkAt, meantAt}
+use Rattle.attributes.specs.Reads.{meaningsOf, Roles}
+use Rattle.attributes.specs.First.{turned}
 
 -- the namespace of a name of this class, empty where there is none; x is that of `xml`
 abbrev pub spaceBy : List ℕ → List ℕ → Bytes → Class → Bytes
