@@ -1,0 +1,173 @@
+// The attributes of a start tag, by the classes that crate names gives them: read in written order, the first of a role, the lengths of their names.
+ghost use mathlib.Core.Path.{_≡_};
+ghost use mathlib.Core.List.{_++_};
+ghost use Prim.Native.Nat.{_<_, _≤_};
+ghost use lib.Dec.{leb};
+ghost use lib.ListN.{length};
+ghost use Rattle.spec.specs.Bytes.{every};
+ghost use Rattle.spec.specs.Limits.{mostNameBytes};
+ghost use Rattle.names.specs.Tag.{nameAt, valueAt};
+ghost use Rattle.names.specs.Classes.{textAt};
+ghost use Rattle.roles.specs.Role.{roleIs};
+ghost use Rattle.roles.specs.Judgment.{said};
+ghost use Rattle.attributes.specs.Attributes.{knownBy, roleAt, checkBy};
+ghost use Rattle.attributes.specs.Places.{places};
+ghost use Rattle.attributes.specs.Reads.{ReadsOne, Reads};
+ghost use Rattle.attributes.specs.First.{firstIn};
+ghost use Rattle.attributes.specs.Properties.{spaceBy};
+ghost use Rattle.attributes.specs.Short.{shortBy, shortAt};
+use names::Class;
+use names::XML;
+use resolve::Resolved;
+use roles::Judgment;
+use roles::Role;
+use spec::Refusal;
+
+// The attributes in written order, up to the first that something is wrong with: `classes` has their classes, `roles` gets their roles.
+pub fn read_attributes(
+    scratch: &[u8],
+    spans: &[u32],
+    k: usize,
+    work: &[u8],
+    classes: &[usize],
+    roles: &mut [u8],
+) -> Judgment
+    requires { ⌜ k ≤ length (now roles) ⌝ }
+    ensures { λ r. ⌜ Reads (now (scratch .entry)) (now (spans .entry)) (now (work .entry)) (now (classes .entry)) k (now (roles .entry)) (now (roles .exit)) r ⌝ }
+{
+    let mut j = 0;
+    while j < k {
+        match read_attribute(scratch, spans, work, classes, roles, j) {
+            Judgment::Good => {
+                j += 1;
+            }
+            Judgment::Stop(refusal) => {
+                return Judgment::Stop(refusal);
+            }
+        }
+    }
+    Judgment::Good
+}
+
+// The first of the first k attributes that has the role, from `read_attributes`'s roles; k where none has.
+pub fn first_in(roles: &[u8], k: usize, role: Role) -> usize
+    ensures { λ r. ⌜ r ≡ firstIn (now (roles .entry)) k (roleIs role) ⌝ }
+{
+    copy::find(names::piece(roles, 0, k), role.word())
+}
+
+// The namespace of a name of this class, which its local part follows in the expanded name; `xml` is that of the prefix `xml`.
+pub fn space_of<'a>(class: Class, scratch: &'a [u8], work: &'a [u8], xml: &'a [u8]) -> &'a [u8]
+    ensures { λ r. ⌜ now r ≡ spaceBy (now (scratch .entry)) (now (work .entry)) (now (xml .entry)) class ⌝ }
+{
+    match class {
+        Class::Declaration => &scratch[0..0],
+        Class::Unknown => &scratch[0..0],
+        Class::Unprefixed => &scratch[0..0],
+        Class::Xml => xml,
+        Class::Own(at, n) => names::piece(scratch, at, n),
+        Class::Held(at, n) => names::piece(work, at, n),
+    }
+}
+
+// Has each expanded name at most 1,024 bytes? `classes` has the attributes' classes.
+pub fn names_short(scratch: &[u8], spans: &[u32], k: usize, work: &[u8], classes: &[usize]) -> bool
+    ensures { λ r. ⌜ r ≡ every (shortAt (now (scratch .entry)) (now (spans .entry)) (now (work .entry)) (now (classes .entry))) (places 0 k) ⌝ }
+{
+    let mut j = 0;
+    while j < k {
+        let class = Class::load(classes, j);
+        if !is_short(scratch, spans, work, class, j) {
+            return false;
+        }
+        j += 1;
+    }
+    true
+}
+
+// Attribute j: its role into `roles`, and what is wrong with it.
+fn read_attribute(
+    scratch: &[u8],
+    spans: &[u32],
+    work: &[u8],
+    classes: &[usize],
+    roles: &mut [u8],
+    j: usize,
+) -> Judgment
+    requires { ⌜ j < length (now roles) ⌝ }
+    ensures { λ r. ⌜ ReadsOne (now (scratch .entry)) (now (spans .entry)) (now (work .entry)) (now (classes .entry)) j (now (roles .entry)) (now (roles .exit)) r ⌝ }
+{
+    let class = Class::load(classes, j);
+    let role = role_at(scratch, spans, work, class, j);
+    roles[j] = role.word();
+    judge_at(scratch, spans, class, role, j)
+}
+
+// The role of attribute j, which is of this class.
+fn role_at(scratch: &[u8], spans: &[u32], work: &[u8], class: Class, j: usize) -> Role
+    ensures { λ r. ⌜ roleIs r ≡ roleAt (now (scratch .entry)) (now (spans .entry)) (now (work .entry)) class j ⌝ }
+{
+    let name = names::name_of(scratch, spans, j);
+    let local = names::local_of(scratch, spans, j);
+    match class {
+        Class::Declaration => Role::Nothing,
+        Class::Unknown => Role::Nothing,
+        Class::Unprefixed => roles::role_of(name, name, b""),
+        Class::Xml => roles::role_of(name, &XML, local),
+        Class::Own(at, n) => roles::role_of(name, names::piece(scratch, at, n), local),
+        Class::Held(at, n) => roles::role_of(name, names::piece(work, at, n), local),
+    }
+}
+
+// 8, then what is wrong in its role.
+fn judge_at(scratch: &[u8], spans: &[u32], class: Class, role: Role, j: usize) -> Judgment
+    ensures { λ r. ⌜ said r tt ≡ checkBy class (nameAt (now (scratch .entry)) (now (spans .entry)) j) (roleIs role) (valueAt (now (scratch .entry)) (now (spans .entry)) j) ⌝ }
+{
+    if !is_known(class, names::name_of(scratch, spans, j)) {
+        return Judgment::Stop(Refusal::NoNamespace);
+    }
+    roles::judge(role, names::value_of(scratch, spans, j))
+}
+
+// Has a name of this class a namespace, or does it need none?
+fn is_known(class: Class, name: &[u8]) -> bool
+    ensures { λ r. ⌜ r ≡ knownBy class (now (name .entry)) ⌝ }
+{
+    match class {
+        Class::Declaration => true,
+        Class::Unknown => false,
+        Class::Unprefixed => copy::begins(name, b"xml"),
+        Class::Xml => true,
+        Class::Own(_, _) => true,
+        Class::Held(_, _) => true,
+    }
+}
+
+// Is the expanded name of attribute j, where a name of this class has one, short enough?
+fn is_short(scratch: &[u8], spans: &[u32], work: &[u8], class: Class, j: usize) -> bool
+    ensures { λ r. ⌜ r ≡ shortBy class (textAt (now (scratch .entry)) (now (spans .entry)) (now (work .entry)) class j) ⌝ }
+{
+    let name = names::name_of(scratch, spans, j);
+    let local = names::local_of(scratch, spans, j);
+    match class {
+        Class::Declaration => true,
+        Class::Unknown => true,
+        Class::Unprefixed => fits(name, b""),
+        Class::Xml => fits(&XML, local),
+        Class::Own(at, n) => fits(names::piece(scratch, at, n), local),
+        Class::Held(at, n) => fits(names::piece(work, at, n), local),
+    }
+}
+
+// Have the two joined at most as many bytes as a resolved IRI may have?
+fn fits(front: &[u8], back: &[u8]) -> bool
+    ensures { λ r. ⌜ r ≡ leb (length (now (front .entry) ++ now (back .entry))) mostNameBytes ⌝ }
+{
+    if Resolved::MOST_BYTES < front.len() {
+        return false;
+    }
+    if Resolved::MOST_BYTES - front.len() < back.len() {
+        return false;
+    }
+    true
+}
