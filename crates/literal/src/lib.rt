@@ -4,7 +4,7 @@ ghost use Prim.Native.Nat.{_+_, _<_, _≤_};
 ghost use lib.Dec.{leb};
 ghost use lib.ListN.{length};
 ghost use Rattle.spec.specs.Limits.{mostHeldBytes};
-ghost use Rattle.spec.specs.Pyx.{text};
+ghost use Rattle.spec.specs.Pyx.{text, closing};
 ghost use Rattle.spec.specs.Document.{placeIn, xml};
 ghost use Rattle.state.specs.Meaning.{elementsOf};
 ghost use Rattle.inside.specs.Calls.{heldIn};
@@ -32,6 +32,29 @@ pub fn text_inside(
 {
     let n = xmltext::text(area, 0, true, s);
     add(r, frames, work, area, n, 0)
+}
+
+// An end tag, while an element is open inside Literal content.
+pub fn end_inside(
+    r: Registers,
+    frames: &mut [u32],
+    bindings: &[u32],
+    inners: &[u32],
+    work: &mut [u8],
+    area: &mut [u8],
+    name: &[u8],
+) -> Outcome
+    requires { ⌜ Asks r (now frames) (now bindings) (now inners) (now work) × (49_152 ≤ length (now area)) × (0 < r .inner) ⌝ }
+    ensures { λ o. ⌜ Quietly (closing (now (name .entry))) r o (now (frames .entry)) (now (bindings .entry)) (now (inners .entry)) (now (work .entry)) (now (frames .exit)) (now (bindings .entry)) (now (inners .entry)) (now (work .exit)) ⌝ }
+{
+    let c = inside::close_inside(r, inners);
+    let behind = c.registers;
+    let own = inside::name(r, frames, inners);
+    if !copy::equal(name, names::piece(work, own.at, own.len)) {
+        return Outcome::Stop(Refusal::NotWellFormed);
+    }
+    let n = xmltext::end_tag(area, 0, true, name);
+    add(behind, frames, work, area, n, 0)
 }
 
 // The XML text that stands in `area` from the front, n bytes as a writer counts, behind what the Literal property around has so far;
