@@ -1,0 +1,5 @@
+-- The element that a start tag outside Literal content opens, in reading order.
+pub mod Element
+-- ---- the calls
+pub mod Sizes
+pub mod Rows
