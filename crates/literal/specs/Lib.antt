@@ -5,3 +5,8 @@ pub mod Xml
 pub mod Added
 -- What the definitions say of the events here.
 pub mod Events
+-- A start tag, judged.
+pub mod Judged
+pub mod Known
+pub mod Copied
+pub mod Entered
