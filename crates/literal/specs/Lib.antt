@@ -1,0 +1,12 @@
+-- Events that write no lines.
+pub mod Quiet
+-- XML text that is added to a Literal property.
+pub mod Xml
+pub mod Added
+-- What the definitions say of the events here.
+pub mod Events
+-- A start tag, judged.
+pub mod Judged
+pub mod Known
+pub mod Copied
+pub mod Entered
