@@ -25,7 +25,7 @@ use Rattle.event.specs.declared.Progress.{Progress}
 use Rattle.event.specs.declared.Progress.the-variants.{Stop, Did}
 use Rattle.event.specs.Result.{handled, parsed, IdsFit, Handles}
 use Rattle.event.specs.Progress.{Lent, lent, docIn, Progresses, HandlesAll, stopped, without-stop, without-did}
-use Rattle.parser.specs.Tie.{attributes-same}
+use Rattle.crowded.specs.Tie.{attributes-same}
 
 -- ---- an event that enters no rdf:ID
 

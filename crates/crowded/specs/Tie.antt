@@ -1,14 +1,11 @@
 -- The words that `pyx` writes of a start tag's attributes are those that `names` reads.
-use Prim.Native.Nat.{ℕ, zero, suc, _<_, _≤_}
-use mathlib.Core.Path.{_≡_, refl, sym, ap, _∙_}
-use mathlib.Core.List.{List, [], _∷_, _++_}
-use native.Mathlib.Omega.{arith}
-use lib.ListN.{length, take}
+use Prim.Native.Nat.{ℕ, zero, suc, _<_}
+use mathlib.Core.Path.{_≡_, refl, sym}
+use mathlib.Core.List.{List}
 use Rattle.spec.specs.Bytes.{Bytes}
-use Rattle.spec.specs.Pyx.{Attribute, attribute}
 use Rattle.pyx.specs.Attributes as P
 use Rattle.pyx.specs.Names.{colonOf}
-use Rattle.names.specs.Tag.{attributesFrom, attributesOf, nameAt, valueAt, colonAt, Split, Splits, colon-splits, last-attribute}
+use Rattle.names.specs.Tag.{attributesFrom, attributesOf, nameAt, valueAt, Split, Splits, colon-splits, last-attribute}
 
 name-same : (e w : List ℕ) (j : ℕ) → P.nameAt e w j ≡ nameAt e w j
 unfolding P.nameAt nameAt
