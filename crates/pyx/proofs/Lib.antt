@@ -6,3 +6,4 @@ pub mod Escapes
 pub mod Attributes
 pub mod Events
 pub mod Clear
+pub mod Few

@@ -1,0 +1,8 @@
+-- A decoded start tag, from the words of `pyx` to those of `names`.
+pub mod Tie
+-- The order of refusals where there are too many attributes.
+pub mod Order
+-- Whether a start tag is well-formed.
+pub mod Form
+-- Such a start tag, and why it is refused.
+pub mod Crowd

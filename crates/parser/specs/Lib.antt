@@ -1,0 +1,2 @@
+-- From what was decoded to what is done.
+pub mod Dispatch
