@@ -120,7 +120,8 @@ module _ (e w : List ℕ) (j : ℕ) where
 
     -- n is its name, d what it binds, v its value
     module _ {n d : Bytes} (p : n ≡ nameAt e w j) (q : d ≡ after (ascii "xmlns:") n) where
-      binding : {v : Bytes} → v ≡ valueAt e w j → (d, v) ≡ declares (attributeAt e w j)
+      -- what it declares
+      pub binding : {v : Bytes} → v ≡ valueAt e w j → (d, v) ≡ declares (attributeAt e w j)
       unfolding declares attributeAt
       binding r = rw (q, p, r)
 
@@ -141,7 +142,7 @@ module _ (a : Attribute) (as′ : List Attribute) where
       go true = refl
       go false = refl
 
-  declared-more : length (declared (a ∷ as′)) ≡ bindingsIn a + length (declared as′)
+  pub declared-more : length (declared (a ∷ as′)) ≡ bindingsIn a + length (declared as′)
   unfolding declared those bindingsIn if_then_else_
   declared-more = go (isDeclaration a)
     where
