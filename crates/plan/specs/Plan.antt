@@ -3,6 +3,7 @@ use Prim.Native.Nat.{ℕ}
 use mathlib.Core.Path.{_≡_, refl, sym, ap, _∙_}
 use mathlib.Core.Bool.{Bool, true, false}
 use lib.Dec.{eqb}
+use borrow.Author.Tests.{eq-eqb, ne-eqb}
 use Rattle.frames.specs.declared.Kind.{Kind}
 use Rattle.frames.specs.declared.Kind.the-variants.{Rdf, NodeElt, PropertyElt, ParseTypeCollectionPropertyElt, ParseTypeLiteralPropertyElt, ParseTypeOtherPropertyElt}
 use Rattle.frames.specs.Words.{pick}
@@ -88,3 +89,69 @@ resourcePlan g labels =
       lines = Resource;
       labels = labels;
     }
+
+-- ---- how the calls come to them
+
+module _ (g : Given) where
+  pub by-id : isThere (g .id) ≡ true → record { source = g .id; what = 1 } ≡ subjectIn g
+  unfolding subjectIn
+  by-id h = rw h
+
+  module _ (i : isThere (g .id) ≡ false) where
+    pub by-about : isThere (g .about) ≡ true → record { source = g .about; what = 1 } ≡ subjectIn g
+    unfolding subjectIn
+    by-about h = rw (i, h)
+
+    module _ (a : isThere (g .about) ≡ false) where
+      pub by-node : isThere (g .node) ≡ true → record { source = g .node; what = 2 } ≡ subjectIn g
+      unfolding subjectIn
+      by-node h = rw (i, a, h)
+
+      pub by-label : {s : Source} → isThere (g .node) ≡ false → s ≡ madeLabel → record { source = s; what = 2 } ≡ subjectIn g
+      unfolding subjectIn
+      by-label h e = rw (i, a, h, e)
+
+  pub as-resource : (t : Bool) → isThere (g .resource) ≡ true → record { source = g .resource; what = 1 } ≡ objectIn g t
+  unfolding objectIn
+  as-resource t h = rw h
+
+  module _ (r : isThere (g .resource) ≡ false) where
+    pub as-node : (t : Bool) → isThere (g .node) ≡ true → record { source = g .node; what = 2 } ≡ objectIn g t
+    unfolding objectIn
+    as-node t h = rw (r, h)
+
+    module _ (n : isThere (g .node) ≡ false) where
+      pub as-label : {t : Bool} {s : Source} → t ≡ true → s ≡ madeLabel → record { source = s; what = 2 } ≡ objectIn g t
+      unfolding objectIn
+      as-label h e = rw (r, n, h, e)
+
+      pub as-nothing : {t : Bool} → t ≡ false → record { source = Missing; what = 0 } ≡ objectIn g t
+      unfolding objectIn
+      as-nothing h = rw (r, n, h)
+
+-- a plan from what was found
+
+module _ (g : Given) (property : Source) (t : Bool) (labels : ℕ) {n : Named} (e : n ≡ objectIn g t) where
+  pub default-none : n .what ≡ 0
+      → record {
+        parts = record { kind = PropertyElt; blank = false; base = g .base; tag = g .tag; main = property; id = g .id; datatype = g .datatype; what = n .what; object = n .source };
+        lines = Nothing;
+        labels = labels;
+      } ≡ defaultPlan g property t labels
+  default-none h = rw (← e, eq-eqb (n .what) 0 h)
+
+  pub default-some : (n .what ≡ 0 → ⊥)
+      → record {
+        parts = record { kind = PropertyElt; blank = false; base = g .base; tag = g .tag; main = property; id = g .id; datatype = g .datatype; what = n .what; object = n .source };
+        lines = Object;
+        labels = labels;
+      } ≡ defaultPlan g property t labels
+  default-some h = rw (← e, ne-eqb (n .what) 0 h)
+
+pub node-made : (g : Given) (labels : ℕ) {n : Named} → n ≡ subjectIn g
+    → record {
+      parts = record { kind = NodeElt; blank = eqb (n .what) 2; base = g .base; tag = g .tag; main = n .source; id = Missing; datatype = Missing; what = 0; object = Missing };
+      lines = Node;
+      labels = labels;
+    } ≡ nodePlan g labels
+node-made g labels e = rw e

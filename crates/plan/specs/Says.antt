@@ -1,7 +1,7 @@
 -- What a plan does is what the production of the definitions says.
 use Prim.Native.Nat.{ℕ, zero, suc, _+_, _≤_}
 use mathlib.Core.Path.{_≡_, refl, sym, ap, _∙_}
-use mathlib.Core.Bool.{Bool, true, false, _&&_, _||_, not}
+use mathlib.Core.Bool.{Bool, true, false, _||_, not, false≢true}
 use mathlib.Core.Option.{Option, none, some}
 use mathlib.Core.List.{List, []}
 use lib.Dec.{eqb}
@@ -41,15 +41,15 @@ pub record Says (g : Given) (e a : List ℕ) (t : Tag) : Type 0 where
 
 there-text : (s : Source) (e a : List ℕ) → isThere s ≡ true → maybe s e a ≡ some (textOf s e a)
 unfolding maybe textOf
-there-text Missing e a h = absurd (mathlib.Core.Bool.false≢true h)
+there-text Missing e a h = absurd (false≢true h)
 there-text (Own i n) e a h = refl
 there-text (Made i n) e a h = refl
 
 missing-text : (s : Source) (e a : List ℕ) → isThere s ≡ false → maybe s e a ≡ none
 unfolding maybe textOf
 missing-text Missing e a h = refl
-missing-text (Own i n) e a h = absurd (mathlib.Core.Bool.false≢true (sym h))
-missing-text (Made i n) e a h = absurd (mathlib.Core.Bool.false≢true (sym h))
+missing-text (Own i n) e a h = absurd (false≢true (sym h))
+missing-text (Made i n) e a h = absurd (false≢true (sym h))
 
 pub there-is : (s : Source) (e a : List ℕ) → isSome (maybe s e a) ≡ isThere s
 unfolding maybe isSome
@@ -79,26 +79,64 @@ module _ (e a : List ℕ) (l : Bytes) (made : part a 6144 12 ≡ l) where
 
 -- ---- a default property's object at once
 
--- there is none
-pub object-none : (g : Given) → isThere (g .resource) ≡ false → isThere (g .node) ≡ false → objectIn g false ≡ record { source = Missing; what = 0 }
+-- rdf:resource, rdf:nodeID, the label l where there are property attributes, or none
+unfoldable pub objectBy : Option Bytes → Option Bytes → Bool → Bytes → Object
+objectBy (some i) n t l = nodeObject (named i)
+objectBy none (some n) t l = nodeObject (blank n)
+objectBy none none true l = nodeObject (blank l)
+objectBy none none false l = noObject
+
+-- the same as a subject, where there is one
+unfoldable pub objectNode : Option Bytes → Option Bytes → Bytes → Subject
+objectNode (some i) n l = named i
+objectNode none (some n) l = blank n
+objectNode none none l = blank l
+
+module _ (e a : List ℕ) (l : Bytes) (made : part a 6144 12 ≡ l) where
+  object-cases : (r n : Source) (t : Bool) → objectOf (objectIn (record { base = Missing; tag = Missing; node = n; id = Missing; about = Missing; resource = r; datatype = Missing }) t .what)
+      (textOf (objectIn (record { base = Missing; tag = Missing; node = n; id = Missing; about = Missing; resource = r; datatype = Missing }) t .source) e a)
+      ≡ objectBy (maybe r e a) (maybe n e a) t l
+  unfolding objectIn objectOf textOf maybe objectBy
+  object-cases (Own x y) n t = refl
+  object-cases (Made x y) n t = refl
+  object-cases Missing (Own x y) t = refl
+  object-cases Missing (Made x y) t = refl
+  object-cases Missing Missing true = rw made
+  object-cases Missing Missing false = refl
+
+  pub object-means : (g : Given) {t : Tag} → Says g e a t → (u : Bool)
+      → objectOf (objectIn g u .what) (textOf (objectIn g u .source) e a) ≡ objectBy (t .resource) (t .nodeID) u l
+  unfolding objectIn
+  object-means g s u = rw (← (s .resource), ← (s .node)) (object-cases (g .resource) (g .node) u)
+
+  node-cases : (r n : Source) → nodeIs (eqb (objectIn (record { base = Missing; tag = Missing; node = n; id = Missing; about = Missing; resource = r; datatype = Missing }) true .what) 2)
+      (textOf (objectIn (record { base = Missing; tag = Missing; node = n; id = Missing; about = Missing; resource = r; datatype = Missing }) true .source) e a)
+      ≡ objectNode (maybe r e a) (maybe n e a) l
+  unfolding objectIn nodeIs textOf maybe objectNode
+  node-cases (Own x y) n = refl
+  node-cases (Made x y) n = refl
+  node-cases Missing (Own x y) = refl
+  node-cases Missing (Made x y) = refl
+  node-cases Missing Missing = rw made
+
+  -- where property attributes are there, and so an object
+  pub object-node : (g : Given) {t : Tag} → Says g e a t
+      → nodeIs (eqb (objectIn g true .what) 2) (textOf (objectIn g true .source) e a) ≡ objectNode (t .resource) (t .nodeID) l
+  unfolding objectIn
+  object-node g s = rw (← (s .resource), ← (s .node)) (node-cases (g .resource) (g .node))
+
+-- is there one?
+object-there : (r n : Source) (t : Bool) → eqb (objectIn (record { base = Missing; tag = Missing; node = n; id = Missing; about = Missing; resource = r; datatype = Missing }) t .what) 0
+    ≡ not (isThere r || isThere n || t)
 unfolding objectIn
-object-none g r n = rw (r, n)
+object-there (Own x y) n t = refl
+object-there (Made x y) n t = refl
+object-there Missing (Own x y) t = refl
+object-there Missing (Made x y) t = refl
+object-there Missing Missing true = refl
+object-there Missing Missing false = refl
 
-module _ (g : Given) (e a : List ℕ) {t : Tag} (s : Says g e a t) (attributes : Bool) where
-  -- named by rdf:resource
-  pub object-named : {i : Bytes} → t .resource ≡ some i → objectOf (objectIn g attributes .what) (textOf (objectIn g attributes .source) e a) ≡ nodeObject (named i)
-  unfolding objectIn objectOf
-  object-named {i} q = go (isThere (g .resource)) refl
-    where
-      go : (u : Bool) → isThere (g .resource) ≡ u → objectOf (objectIn g attributes .what) (textOf (objectIn g attributes .source) e a) ≡ nodeObject (named i)
-      go true h =
-          let x : some (textOf (g .resource) e a) ≡ some i = sym (there-text (g .resource) e a h) ∙ (s .resource ∙ q) in
-          let y : textOf (g .resource) e a ≡ i = ap (λ (o : Option Bytes). orEmpty o) x in
-          rw (h, y)
-      go false h =
-          let x : _≡_ {A = Option Bytes} none (some i) = sym (missing-text (g .resource) e a h) ∙ (s .resource ∙ q) in
-          absurd (mathlib.Core.Bool.false≢true (ap isSome x))
-
-      orEmpty : Option Bytes → Bytes
-      orEmpty none = []
-      orEmpty (some x) = x
+pub no-object : (g : Given) {e a : List ℕ} {t : Tag} → Says g e a t → (u : Bool) → eqb (objectIn g u .what) 0 ≡ not (isSome (t .resource) || isSome (t .nodeID) || u)
+unfolding objectIn
+no-object g {e} {a} s u =
+    rw (← (s .resource), ← (s .node), there-is (g .resource) e a, there-is (g .node) e a) (object-there (g .resource) (g .node) u)

@@ -1,39 +1,31 @@
+-- `plan::object_of` meets its contract: a law for each return.
+use Rattle.plan.specs.Plan.{as-resource, as-node, as-label, as-nothing}
+use mathlib.Core.Path.{sym, _∙_}
 use native.Mathlib.Omega.{arith}
 use borrow.Author.Needs.{needs}
 use Rattle.plan.proofs.object_of.Statement.{statement}
 use Rattle.plan.proofs.object_of.Tie as tie
-use Rattle.plan.proofs.object_of.Reads as reads
-use Rattle.plan.proofs.object_of.Lts as lts
-use Rattle.plan.proofs.is_there.Reads as is-there-reads
-use Rattle.plan.proofs.made_label.Reads as made-label-reads
 
--- src/lib.rt:200:8
 is-there-requires : tie.Need-is-there-requires
 is-there-requires c κs = search needs
 
--- src/lib.rt:201:9
 returns : tie.Need-returns
-returns c = search needs
+returns c = as-resource _ _ (sym (c .before .is-there .ensures) ∙ (c .if1 .taken))
 
--- src/lib.rt:206:8
 is-there-requires-2 : tie.Need-is-there-requires-2
 is-there-requires-2 c κs = search needs
 
--- src/lib.rt:207:9
 returns-2 : tie.Need-returns-2
-returns-2 c = search needs
+returns-2 c = as-node _ (sym (c .before .before .before .is-there .ensures) ∙ (c .before .before .if1 .left)) _ (sym (c .before .is-there2 .ensures) ∙ (c .if2 .taken))
 
--- src/lib.rt:214:21
 made-label-requires : tie.Need-made-label-requires
 made-label-requires c κs = search needs
 
--- src/lib.rt:213:9
 returns-3 : tie.Need-returns-3
-returns-3 c = search needs
+returns-3 c = as-label _ (sym (c .before .before .before .before .before .is-there .ensures) ∙ (c .before .before .before .before .if1 .left)) (sym (c .before .before .before .is-there2 .ensures) ∙ (c .before .before .if2 .left)) (c .before .if3 .taken) (c .made-label .ensures)
 
--- src/lib.rt:195:1
 returns-4 : tie.Need-returns-4
-returns-4 c = search needs
+returns-4 c = as-nothing _ (sym (c .before .before .before .before .is-there .ensures) ∙ (c .before .before .before .if1 .left)) (sym (c .before .before .is-there2 .ensures) ∙ (c .before .if2 .left)) (c .if3 .left)
 
 pub object-of-spec : {M : Type 1} → statement M
 object-of-spec =

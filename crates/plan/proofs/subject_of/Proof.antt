@@ -1,43 +1,34 @@
+-- `plan::subject_of` meets its contract: a law for each return.
+use Rattle.plan.specs.Plan.{by-id, by-about, by-node, by-label}
+use mathlib.Core.Path.{sym, _∙_}
 use native.Mathlib.Omega.{arith}
 use borrow.Author.Needs.{needs}
 use Rattle.plan.proofs.subject_of.Statement.{statement}
 use Rattle.plan.proofs.subject_of.Tie as tie
-use Rattle.plan.proofs.subject_of.Reads as reads
-use Rattle.plan.proofs.subject_of.Lts as lts
-use Rattle.plan.proofs.is_there.Reads as is-there-reads
-use Rattle.plan.proofs.made_label.Reads as made-label-reads
 
--- src/lib.rt:170:8
 is-there-requires : tie.Need-is-there-requires
 is-there-requires c κs = search needs
 
--- src/lib.rt:171:9
 returns : tie.Need-returns
-returns c = search needs
+returns c = by-id _ (sym (c .before .is-there .ensures) ∙ (c .if1 .taken))
 
--- src/lib.rt:176:8
 is-there-requires-2 : tie.Need-is-there-requires-2
 is-there-requires-2 c κs = search needs
 
--- src/lib.rt:177:9
 returns-2 : tie.Need-returns-2
-returns-2 c = search needs
+returns-2 c = by-about _ (sym (c .before .before .before .is-there .ensures) ∙ (c .before .before .if1 .left)) (sym (c .before .is-there2 .ensures) ∙ (c .if2 .taken))
 
--- src/lib.rt:182:8
 is-there-requires-3 : tie.Need-is-there-requires-3
 is-there-requires-3 c κs = search needs
 
--- src/lib.rt:183:9
 returns-3 : tie.Need-returns-3
-returns-3 c = search needs
+returns-3 c = by-node _ (sym (c .before .before .before .before .before .is-there .ensures) ∙ (c .before .before .before .before .if1 .left)) (sym (c .before .before .before .is-there2 .ensures) ∙ (c .before .before .if2 .left)) (sym (c .before .is-there3 .ensures) ∙ (c .if3 .taken))
 
--- src/lib.rt:189:17
 made-label-requires : tie.Need-made-label-requires
 made-label-requires c κs = search needs
 
--- src/lib.rt:164:1
 returns-4 : tie.Need-returns-4
-returns-4 c = search needs
+returns-4 c = by-label _ (sym (c .before .before .before .before .before .before .is-there .ensures) ∙ (c .before .before .before .before .before .if1 .left)) (sym (c .before .before .before .before .is-there2 .ensures) ∙ (c .before .before .before .if2 .left)) (sym (c .before .before .is-there3 .ensures) ∙ (c .before .if3 .left)) (c .made-label .ensures)
 
 pub subject-of-spec : {M : Type 1} → statement M
 subject-of-spec =
