@@ -1,33 +1,36 @@
 -- What `open` and `commit` do to a valid state, said of the document that it means. These are the laws to cite.
 use mathlib.Core.Path.{_≡_, refl, sym, ap, _∙_}
-use mathlib.Core.Bool.{Bool, true, false, _&&_}
-use mathlib.Core.Option.{Option}
+use mathlib.Core.Bool.{Bool, true, false, false≢true}
 use mathlib.Core.List.{List, [], _∷_}
 use Prim.Native.Nat.{ℕ, suc, _+_, _-_, _*_, _<_, _≤_}
 use native.Mathlib.Omega.{arith}
-use lib.Dec.{eqb, leb, ltb}
 use lib.ListN.{length, take, getD}
-use borrow.Author.Tests.{eq-eqb, le-leb, lt-ltb}
-use Rattle.spec.specs.Bytes.{Bytes, total}
+use borrow.Author.Tests.{eq-eqb, ne-eqb, le-leb, lt-ltb}
+use Rattle.spec.specs.Bytes.{Bytes, if_then_else_, sizeOf, total}
 use Rattle.spec.specs.Limits as L
-use Rattle.spec.specs.Namespaces.{Binding, declared}
+use Rattle.spec.specs.Namespaces.{declared}
 use Rattle.spec.specs.NTriples.{Subject, named}
-use Rattle.spec.specs.Document.{Frame as Element, bindingBytes, frameBytes}
-use Rattle.copy.specs.Copy.{part, Put, Wrote, put-fits, wrote-part, wrote-same}
-use Rattle.frames.specs.declared.Frame.{Frame}
+use Rattle.spec.specs.Document.{Kind as What, rdfRDF, nodeElement, propertyElement, xmlElement, Frame as Element, withKind, kindBytes, bindingBytes, frameBytes, heldBytes}
+use Rattle.spec.specs.Productions.{isLi}
+use Rattle.spec.specs.Opening.{counted, countLi}
+use Rattle.copy.specs.Copy.{part, Put, Wrote, put-fits, wrote-part}
+use Rattle.frames.specs.declared.Kind.{Kind}
+use Rattle.frames.specs.declared.Kind.the-variants.{Rdf, NodeElt, PropertyElt, ParseTypeCollectionPropertyElt, ParseTypeLiteralPropertyElt, ParseTypeOtherPropertyElt}
+use Rattle.frames.specs.Words.{frameAt, load-frame}
 use Rattle.frames.specs.Kept.{Kept, kept-all, kept-then, kept-less, kept-before}
 use Rattle.state.specs.declared.Registers.{Registers}
-use Rattle.state.specs.Meaning.{at, span, optional, bindingsOf, whatOf, elementOf, subjectBelow, startOf, elementsOf}
-use Rattle.state.specs.Valid.{stands, Rising, Valid}
+use Rattle.state.specs.Meaning.{at, span, elementOf, subjectBelow, startOf, elementsOf, docOf}
+use Rattle.state.specs.Valid.{isNode, nodeBelow, stands, Rising, Valid}
+use Rattle.state.specs.Held.{held}
 use Rattle.state.specs.Stay.{bindings-kept}
 use Rattle.stack.specs.declared.Changed.{Changed}
-use Rattle.stack.specs.Change.{Holds, flat}
-use Rattle.stack.specs.Calls.{Pushes, mayPush}
-use Rattle.stack.specs.Laws.{Bound, New, push-holds}
+use Rattle.stack.specs.Change.{Holds, flat, labelledTo, labelled-holds}
+use Rattle.stack.specs.Calls.{Pushes, mayPush, topFrame, Counts, mayCount}
+use Rattle.stack.specs.Laws.{Bound, New, push-holds, top-deep, Numbered, li-may, li-holds, li-stands, li-below}
 use Rattle.names.specs.Tag.{attributesOf}
 use Rattle.element.specs.declared.Next.{Next}
 use Rattle.element.specs.declared.Parts.{Parts}
-use Rattle.element.specs.Element.{textOf, maybe, newElement, Fitting}
+use Rattle.element.specs.Element.{newElement, Fitting}
 use Rattle.element.specs.Sizes.{partsBytes, Measures, measured}
 use Rattle.element.specs.Rows.{Fits, Entered}
 use Rattle.element.specs.Places.{Spread, Lays, marksOf, frameIs, lays-laid, lays-parts, lays-kind, lays-what, optional-is}
@@ -184,3 +187,156 @@ module _ {r : Registers} {fs bs w e s : List ℕ} {m k : ℕ} {a : List ℕ} {p 
                 bindings = h .sameWords;
                 work = l .same ∙ (h .sameBytes ∙ g .same);
               }
+
+-- ---- how a caller comes to be ready
+
+top-is : (r : Registers) (fs : List ℕ) → 0 < r .depth → (r .depth - 1) * 18 + 18 ≤ length fs → topFrame r fs ≡ frameAt fs (r .depth - 1)
+unfolding topFrame
+top-is r fs d h = rw (ne-eqb (r .depth) 0 (λ z. omega arith)) (load-frame fs (r .depth - 1) h)
+
+-- of a valid state, with the size as `size` gives it
+pub ready-valid : {r : Registers} {fs bs is w e s : List ℕ} {m k : ℕ} {a : List ℕ} {p : Parts} {n : ℕ} → Valid r fs bs is w → r .inner ≡ 0 → r .depth < 64
+    → r .outer + length (declared (attributesOf e s k)) ≤ 128 → Measures e s m k a p n → r .top + n ≤ 49_152 → Fitting p → stands (p .kind) fs (r .depth) ≡ true
+    → Ready r fs bs w e s m k a p
+ready-valid x z d b me ro f st =
+    record {
+      frameWords = x .frameWords;
+      bindingWords = x .bindingWords;
+      store = x .store;
+      inner = z;
+      depth = d;
+      bindings = b;
+      room = λ t. rw (me .bytes t) ro;
+      fitting = f;
+      stood = st;
+    }
+
+-- any element may stand in a node
+pub stands-in : (r : Registers) (fs : List ℕ) → topFrame r fs .kind ≡ NodeElt → r .depth ≤ 64 → length fs ≡ 1152 → (q : Kind) → stands q fs (r .depth) ≡ true
+unfolding stands nodeBelow isNode
+stands-in r fs h d l = go
+  where
+    deep : 0 < r .depth
+    deep = top-deep r fs (λ i. false≢true (ap isNode (sym i ∙ h)))
+
+    node : nodeBelow fs (r .depth) ≡ true
+    node =
+        let e : r .depth ≡ suc (r .depth - 1) = omega (arith, deep) in
+        rw e (rw (← top-is r fs deep (omega (arith, deep)), h))
+
+    go : (q : Kind) → stands q fs (r .depth) ≡ true
+    go Rdf = refl
+    go NodeElt = refl
+    go PropertyElt = node
+    go ParseTypeCollectionPropertyElt = node
+    go ParseTypeLiteralPropertyElt = node
+    go ParseTypeOtherPropertyElt = node
+
+-- an rdf:li counted holds no byte
+counted-bytes : (i : Bytes) (q : What) → kindBytes (counted i q) ≡ kindBytes q
+unfolding counted kindBytes
+counted-bytes i rdfRDF = refl
+counted-bytes i (nodeElement s li) = refl
+counted-bytes i (propertyElement p v) = refl
+counted-bytes i xmlElement = refl
+
+count-bytes : (i : Bytes) (es : List Element) → total frameBytes (countLi i es) ≡ total frameBytes es
+unfolding countLi total frameBytes withKind
+count-bytes i [] = refl
+count-bytes i (f ∷ es) = rw (counted-bytes i (f .kind))
+
+-- held bytes, as the element would leave them
+pub held-with : {r : Registers} {fs bs is w : List ℕ} → Valid r fs bs is w → r .inner ≡ 0 → (i : Bytes) (f : Element)
+    → sizeOf (startOf r w) + total frameBytes (f ∷ countLi i (elementsOf r fs bs is w)) ≡ r .top + frameBytes f
+unfolding heldBytes docOf total
+held-with {r} {fs} {bs} {is} {w} x z i f = omega (arith, held x [], count-bytes i (elementsOf r fs bs is w), flat x z .low)
+
+-- ---- commit
+
+-- what was judged, for an element that is an rdf:li or not, behind which so many labels are generated
+pub record Granted (r : Registers) (fs bs w e s : List ℕ) (m k : ℕ) (a : List ℕ) (p : Parts) (li : Bool) (labels : ℕ) : Type 0 where
+  pub ready : Ready r fs bs w e s m k a p
+  pub numbered : li ≡ true → Numbered r fs
+  pub few : labels ≤ 99_999_999
+
+-- one more element, counted in the node around it where it is an rdf:li
+pub record Commits (r : Registers) (fs bs w e s : List ℕ) (m k : ℕ) (a : List ℕ) (p : Parts) (li : Bool) (labels : ℕ) (q : Registers) (gs cs v : List ℕ) : Type 0 where
+  pub holds : (is : List ℕ) → Valid r fs bs is w → (i : Bytes) → isLi i ≡ li
+      → Holds q gs cs is v (startOf r w) (newElement e s m k a p (subjectBelow fs w (r .depth)) ∷ countLi i (elementsOf r fs bs is w)) true labels
+  pub closed : q .closed ≡ r .closed
+  pub frames : length gs ≡ length fs
+  pub bindings : length cs ≡ length bs
+  pub work : length v ≡ length w
+
+-- `count_if`
+pub record CountsIf (r : Registers) (fs : List ℕ) (li : Bool) (gs : List ℕ) : Type 0 where
+  pub yes : li ≡ true → Counts r fs (mayCount r fs) gs
+  pub no : li ≡ false → gs ≡ fs
+  pub same : length gs ≡ length fs
+
+pub counts-not : {r : Registers} {fs : List ℕ} {li : Bool} → li ≡ false → CountsIf r fs li fs
+counts-not n = record { yes = λ y. absurd (false≢true (sym n ∙ y)); no = λ _. refl; same = refl }
+
+pub counts-does : {r : Registers} {fs gs : List ℕ} {li b : Bool} → li ≡ true → Counts r fs b gs → CountsIf r fs li gs
+counts-does y c = record { yes = λ _. rw (c .answer) at c; no = λ n. absurd (false≢true (sym n ∙ y)); same = c .same }
+
+-- an element that is no rdf:li is not counted
+not-counted : (i : Bytes) → isLi i ≡ false → (q : What) → counted i q ≡ q
+unfolding counted if_then_else_
+not-counted i n rdfRDF = refl
+not-counted i n (nodeElement s li) = rw n
+not-counted i n (propertyElement p v) = refl
+not-counted i n xmlElement = refl
+
+no-li : (i : Bytes) → isLi i ≡ false → (es : List Element) → countLi i es ≡ es
+unfolding countLi withKind
+no-li i n [] = refl
+no-li i n (f ∷ es) = rw (not-counted i n (f .kind))
+
+module _ {r : Registers} {fs bs w e s : List ℕ} {m k : ℕ} {a : List ℕ} {p : Parts} {li : Bool} {labels : ℕ} (y : Granted r fs bs w e s m k a p li labels)
+    {fs1 : List ℕ} (c : CountsIf r fs li fs1) where
+  may : li ≡ true → mayCount r fs ≡ true
+  may t = li-may r fs (y .numbered t) (omega (arith, y .ready .depth)) (y .ready .frameWords)
+
+  pub ready-counted : Ready r fs1 bs w e s m k a p
+  ready-counted =
+      record {
+        frameWords = c .same ∙ y .ready .frameWords;
+        bindingWords = y .ready .bindingWords;
+        store = y .ready .store;
+        inner = y .ready .inner;
+        depth = y .ready .depth;
+        bindings = y .ready .bindings;
+        room = y .ready .room;
+        fitting = y .ready .fitting;
+        stood = stays li refl ∙ y .ready .stood;
+      }
+    where
+      stays : (t : Bool) → li ≡ t → stands (p .kind) fs1 (r .depth) ≡ stands (p .kind) fs (r .depth)
+      stays true t = li-stands (c .yes t) (may t) (p .kind)
+      stays false t = rw (c .no t)
+
+  module _ {q : Registers} {gs cs v : List ℕ} (o : Opens r fs1 bs w e s m k a p q gs cs v) where
+    opened-holds : (is : List ℕ) → Valid r fs bs is w → (i : Bytes) → isLi i ≡ li
+        → Holds q gs cs is v (startOf r w) (newElement e s m k a p (subjectBelow fs w (r .depth)) ∷ countLi i (elementsOf r fs bs is w)) true (r .labels)
+    opened-holds is x i j = go li refl
+      where
+        go : (t : Bool) → li ≡ t
+            → Holds q gs cs is v (startOf r w) (newElement e s m k a p (subjectBelow fs w (r .depth)) ∷ countLi i (elementsOf r fs bs is w)) true (r .labels)
+        go true t =
+            let h = li-holds x (y .ready .inner) (c .yes t) (may t) i (j ∙ t) in
+            rw (← li-below (c .yes t) (may t) w, ← h .elements) (o .holds is (h .valid))
+        go false t =
+            let h : Holds q gs cs is v (startOf r w) (newElement e s m k a p (subjectBelow fs w (r .depth)) ∷ elementsOf r fs bs is w) true (r .labels) =
+            rw (c .no t) at (o .holds is (rw (c .no t) x)) in
+            rw (no-li i (j ∙ t) (elementsOf r fs bs is w)) h
+
+    pub commits : {q′ : Registers} → q′ ≡ labelledTo q labels → Commits r fs bs w e s m k a p li labels q′ gs cs v
+    commits {q′} e′ =
+        record {
+          holds = λ is x i j. rw e′ (labelled-holds (opened-holds is x i j) (y .few));
+          closed = ap (λ (z : Registers). z .closed) e′ ∙ o .closed;
+          frames = o .frames ∙ c .same;
+          bindings = o .bindings;
+          work = o .work;
+        }

@@ -1,22 +1,21 @@
 -- The frame of a new element: its parts written one behind the other, where they start, and what is there.
-use mathlib.Core.Path.{_≡_, refl, sym, ap, _∙_}
-use mathlib.Core.Bool.{Bool, true, false, _&&_}
+use mathlib.Core.Path.{_≡_, refl}
+use mathlib.Core.Bool.{Bool, true, false}
 use mathlib.Core.List.{List, [], _∷_, _++_}
-use Prim.Native.Nat.{ℕ, _+_, _-_, _*_, _<_, _≤_}
+use Prim.Native.Nat.{ℕ, _+_, _≤_}
 use native.Mathlib.Omega.{arith}
-use lib.Dec.{eqb, leb}
+use lib.Dec.{eqb}
 use lib.ListN.{length, getD}
 use borrow.Author.Tests.{eqb-true, eq-eqb}
 use Rattle.spec.specs.Bytes.{Bytes}
 use Rattle.spec.specs.Limits.{mostLabels}
-use Rattle.spec.specs.NTriples.{Subject, named, blank}
-use Rattle.spec.specs.Document.{Kind as What}
+use Rattle.spec.specs.NTriples.{Subject, blank}
 use Rattle.copy.specs.Copy.{Put, Wrote, then, put-fits, wrote-none, wrote-same}
 use Rattle.frames.specs.declared.Kind.{Kind}
 use Rattle.frames.specs.declared.Kind.the-variants.{Rdf, NodeElt, PropertyElt, ParseTypeCollectionPropertyElt, ParseTypeLiteralPropertyElt, ParseTypeOtherPropertyElt}
 use Rattle.frames.specs.declared.Frame.{Frame}
 use Rattle.frames.specs.Words.{pick}
-use Rattle.state.specs.Meaning.{at, span, optional, nodeOf, objectOf, childrenOf, subjectOf, propertyOf, whatOf}
+use Rattle.state.specs.Meaning.{at, optional, nodeOf, childrenOf, subjectOf, propertyOf, whatOf}
 use Rattle.state.specs.Valid.{emptyOr, partsOk, childrenOk, kindOk}
 use Rattle.stack.specs.Laid.{Laid, laid}
 use Rattle.element.specs.declared.Source.{Source}
@@ -52,6 +51,15 @@ pub record Spread (w e a : List ℕ) (p : Parts) (name bound from : ℕ) : Type 
   pub room : from + partsBytes p e a ≤ length w
 
 module _ {w e a : List ℕ} {p : Parts} {name bound from : ℕ} (s : Spread w e a p name bound from) where
+  pub spread-from : from ≤ 65_536
+  spread-from = omega (arith, s .store, s .room)
+
+  pub spread-bound : bound ≤ 65_536
+  spread-bound = omega (arith, spread-from, s .second)
+
+  pub spread-name : name ≤ 65_536
+  spread-name = omega (arith, spread-bound, s .first)
+
   pub spread-1 : Room w from (length (textOf (p .base) e a))
   spread-1 = record { store = s .store; room = omega (arith, s .room) }
 

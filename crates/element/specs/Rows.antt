@@ -12,7 +12,7 @@ use Rattle.spec.specs.Bytes.{Bytes, ascii, if_then_else_, those, after, total}
 use Rattle.spec.specs.Pyx.{Attribute}
 use Rattle.spec.specs.Namespaces.{Binding, isDeclaration, declares, declared}
 use Rattle.spec.specs.Document.{bindingBytes}
-use Rattle.copy.specs.Copy.{Wrote, wrote-same}
+use Rattle.copy.specs.Copy.{wrote-same}
 use Rattle.frames.specs.Kept.{Kept, kept-all, kept-then, kept-less, kept-before, kept-behind}
 use Rattle.names.specs.Tag.{nameAt, valueAt, attributeAt, attributesFrom, attributesOf, attributes-all, attributes-more, attributes-end}
 use Rattle.names.specs.Declarations.{bindingsIn, one-binding, declared-more, binding}

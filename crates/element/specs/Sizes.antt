@@ -1,16 +1,15 @@
 -- How many bytes a new element holds.
-use mathlib.Core.Path.{_≡_, refl, sym, ap, _∙_}
+use mathlib.Core.Path.{_≡_, refl, sym, ap}
 use mathlib.Core.Bool.{Bool, true, false}
-use mathlib.Core.Option.{Option, none, some}
-use mathlib.Core.List.{List, [], _∷_, map}
+use mathlib.Core.List.{List, _∷_, map}
 use Prim.Native.Nat.{ℕ, zero, suc, _+_, _-_, _*_, _<_, _≤_}
 use native.Mathlib.Omega.{arith}
 use lib.Dec.{eqb}
-use lib.ListN.{length, take, drop, length-take, length-drop}
+use lib.ListN.{length, length-take, length-drop}
 use borrow.Author.Tests.{eqb-true}
 use Rattle.spec.specs.Bytes.{Bytes, ascii, if_then_else_, those, after, sizeOf, total}
-use Rattle.spec.specs.Pyx.{Attribute, attribute}
-use Rattle.spec.specs.Namespaces.{Binding, isDeclaration, declares, declared}
+use Rattle.spec.specs.Pyx.{Attribute}
+use Rattle.spec.specs.Namespaces.{isDeclaration, declares, declared}
 use Rattle.spec.specs.NTriples.{Subject, named, blank}
 use Rattle.spec.specs.Document.{noObject, nodeObject, textObject, subjectBytes, objectBytes, valueBytes, kindBytes, bindingBytes, frameBytes}
 use Rattle.copy.specs.Copy.{part}

@@ -1,4 +1,4 @@
--- `element::append` meets its contract.
+-- `element::append` meets its contract. One write.
 use Rattle.element.specs.Places.{puts}
 use borrow.Author.Needs.{needs}
 use Rattle.element.proofs.append.Statement.{statement}
@@ -11,7 +11,7 @@ add-result : tie.Need-add-result
 add-result c = search needs
 
 same-length : tie.Need-same-length
-same-length c = search needs
+same-length c = c .before .before .put .ensures .same
 
 returns : tie.Need-returns
 returns c = puts (c .before .before .before .before .before .before .pre) (c .before .before .put .ensures)

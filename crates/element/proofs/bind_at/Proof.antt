@@ -1,4 +1,4 @@
--- `element::bind_at` meets its contract.
+-- `element::bind_at` meets its contract. A law of specs/ for each return.
 use Rattle.element.specs.Rows.{binds-none, binds-one}
 use Rattle.element.specs.Sizes.{these-bytes}
 use Rattle.names.specs.Declarations.{told}
@@ -36,10 +36,10 @@ add-t20 : tie.Need-add-t20
 add-t20 c = search needs
 
 same-length : tie.Need-same-length
-same-length c = search needs
+same-length c = c .before .before .before .before .before .before .bind .ensures .sameBytes
 
 same-length-2 : tie.Need-same-length-2
-same-length-2 c = search needs
+same-length-2 c = c .before .before .before .before .before .before .bind .ensures .sameWords
 
 returns-2 : tie.Need-returns-2
 returns-2 c = binds-one _ _ _ (told _ _ _ (c .before .before .before .before .before .before .before .before .before .before .before .before .before .name-of .ensures) (c .before .before .before .before .before .before .before .before .before .before .before .before .is-declaration .ensures) (not-false _ (c .before .before .before .before .before .before .before .before .before .before .before .if1 .left))) (c .before .before .before .before .before .before .before .before .before .before .before .before .before .name-of .ensures) (c .before .before .before .before .before .before .before .before .before .before .declared-prefix .ensures) (c .before .before .before .before .before .before .before .before .before .value-of .ensures) (c .before .before .before .before .before .before .before .before .before .before .before .before .before .before .before .before .before .before .pre) (c .before .before .before .before .before .before .bind .ensures)

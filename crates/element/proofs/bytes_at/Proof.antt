@@ -1,4 +1,4 @@
--- `element::bytes_at` meets its contract.
+-- `element::bytes_at` meets its contract. None where attribute j is no declaration.
 use borrow.Author.Tests.{not-true, not-false}
 use Rattle.names.specs.Declarations.{told}
 use Rattle.element.specs.Sizes.{no-bytes, these-bytes}

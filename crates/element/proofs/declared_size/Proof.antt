@@ -1,4 +1,4 @@
--- `element::declared_size` meets its contract.
+-- `element::declared_size` meets its contract. The loop's invariant: the first `j` attributes have `n` bytes.
 use Prim.Native.Nat.{_-_}
 use Rattle.element.specs.Sizes.{Summed, summed-begins, summed-more, summed-done, few-bytes}
 use native.Mathlib.Omega.{arith}

@@ -1,4 +1,4 @@
--- `element::marks` meets its contract.
+-- `element::marks` meets its contract. Mark by mark.
 use Rattle.element.specs.Places.{marks-are}
 use borrow.Author.Needs.{needs}
 use Rattle.element.proofs.marks.Statement.{statement}

@@ -1,4 +1,5 @@
--- `element::open` meets its contract.
+-- `element::open` meets its contract. Each call has its room from what was judged; one law makes the whole of what they ensure.
+use mathlib.Core.Path.{_∙_}
 use Rattle.element.specs.Laws.{name-room, bind-room, lay-room, opens}
 use native.Mathlib.Omega.{arith}
 use borrow.Author.Needs.{needs}
@@ -33,7 +34,7 @@ same-length-2 : tie.Need-same-length-2
 same-length-2 c = c .before .before .before .before .before .before .before .before .before .before .before .before .before .before .bind-all .ensures .sameWords
 
 same-length-3 : tie.Need-same-length-3
-same-length-3 c = search needs
+same-length-3 c = c .before .before .before .before .before .before .before .before .lay .ensures .same ∙ (c .before .before .before .before .before .before .before .before .before .before .before .before .before .before .bind-all .ensures .sameBytes ∙ c .before .before .before .before .before .before .before .before .before .before .before .before .before .before .before .before .before .before .before .put .ensures .same)
 
 returns : tie.Need-returns
 returns c = opens (c .before .before .before .before .before .before .before .before .before .before .before .before .before .before .before .before .before .before .before .before .before .before .before .before .before .before .before .before .pre) (c .before .before .before .before .before .before .before .before .before .before .before .before .before .before .before .before .before .before .before .before .before .piece .ensures) (c .before .before .before .before .before .before .before .before .before .before .before .before .before .before .before .before .before .before .before .put .ensures) (c .before .before .before .before .before .before .before .before .before .before .before .before .before .before .bind-all .ensures) (c .before .before .before .before .before .before .before .before .lay .ensures) (c .before .before .before .before .before .marks .ensures) (c .before .before .before .push .ensures)

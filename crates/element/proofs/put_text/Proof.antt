@@ -1,4 +1,4 @@
--- `element::put_text` meets its contract.
+-- `element::put_text` meets its contract. By the source.
 use Rattle.element.specs.Places.{puts-none}
 use Rattle.element.specs.Element.{textOf}
 use borrow.Author.Needs.{needs}
@@ -33,14 +33,14 @@ unfolding textOf
 returns c = rw (c .enum-told .given .1) (puts-none (c .before .before .before .before .before .pre))
 
 same-length : tie.Need-same-length
-same-length c = search needs
+same-length c = c .before .before .append .ensures .same
 
 returns-2 : tie.Need-returns-2
 unfolding textOf
 returns-2 c = rw (c .before .before .before .before .before .before .source .given .1, ← c .before .before .before .piece .ensures) (c .before .before .append .ensures)
 
 same-length-2 : tie.Need-same-length-2
-same-length-2 c = search needs
+same-length-2 c = c .before .before .append2 .ensures .same
 
 returns-3 : tie.Need-returns-3
 unfolding textOf

@@ -1,4 +1,4 @@
--- `element::size` meets its contract.
+-- `element::size` meets its contract. The lengths of all parts, which are the bytes of the element.
 use mathlib.Core.Path.{ap}
 use lib.ListN.{length}
 use Rattle.element.specs.Sizes.{length-part-of, few-parts, few-declared, measured}

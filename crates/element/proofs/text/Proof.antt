@@ -1,4 +1,4 @@
--- `element::text` meets its contract.
+-- `element::text` meets its contract. By the source.
 use Rattle.element.specs.Element.{textOf}
 use borrow.Author.Needs.{needs}
 use Rattle.element.proofs.text.Statement.{statement}

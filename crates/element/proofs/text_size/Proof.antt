@@ -1,4 +1,4 @@
--- `element::text_size` meets its contract.
+-- `element::text_size` meets its contract. By the source.
 use mathlib.Core.Path.{ap}
 use lib.ListN.{length}
 use Rattle.element.specs.Element.{textOf}
