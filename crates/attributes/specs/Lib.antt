@@ -1,0 +1,2 @@
+-- The lines of a start tag, in the definitions' words.
+pub mod Lines
