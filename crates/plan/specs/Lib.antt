@@ -2,3 +2,4 @@
 pub mod Plan
 -- What it does is what the production says.
 pub mod Says
+pub mod Does

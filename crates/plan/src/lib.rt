@@ -108,7 +108,11 @@ pub fn default(g: Given, property: Source, attributes: bool, labels: u64) -> Pla
             what,
             object,
         },
-        lines: if what == 0 { Lines::Nothing } else { Lines::Object },
+        lines: if what == 0 {
+            Lines::Nothing
+        } else {
+            Lines::Object
+        },
         labels,
     }
 }
