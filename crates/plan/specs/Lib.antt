@@ -1,0 +1,5 @@
+-- What a plan is made of.
+pub mod Plan
+-- What it does is what the production says.
+pub mod Says
+pub mod Does

@@ -1,0 +1,2 @@
+-- What the contracts of `reference` cite, and the laws about it.
+pub mod Reference
