@@ -87,6 +87,64 @@ abbrev pub insideTo : Registers → ℕ → ℕ → ℕ → Registers
 insideTo r inner low b =
     record { closed = r .closed; rooted = r .rooted; based = r .based; base = r .base; depth = r .depth; inner = inner; outer = r .outer; bindings = b; top = r .top; low = low; labels = r .labels }
 
+-- with another number of labels generated
+abbrev pub labelledTo : Registers → ℕ → Registers
+labelledTo r n =
+    record { closed = r .closed; rooted = r .rooted; based = r .based; base = r .base; depth = r .depth; inner = r .inner; outer = r .outer; bindings = r .bindings; top = r .top; low = r .low; labels = n }
+
+-- closed: no call goes on from it
+abbrev pub markedAs : Registers → Registers
+markedAs r =
+    record { closed = true; rooted = r .rooted; based = r .based; base = r .base; depth = r .depth; inner = r .inner; outer = r .outer; bindings = r .bindings; top = r .top; low = r .low; labels = r .labels }
+
+module _ {r : Registers} {fs bs is w : List ℕ} where
+  labelled-valid : (n : ℕ) → n ≤ 99_999_999 → Valid r fs bs is w → Valid (labelledTo r n) fs bs is w
+  labelled-valid n h x =
+      record {
+        frameWords = x .frameWords;
+        bindingWords = x .bindingWords;
+        innerWords = x .innerWords;
+        store = x .store;
+        deep = x .deep;
+        bound = x .bound;
+        apart = x .apart;
+        based = x .based;
+        labels = h;
+        frames = x .frames;
+        inners = x .inners;
+      }
+
+  pub marked-valid : Valid r fs bs is w → Valid (markedAs r) fs bs is w
+  marked-valid x =
+      record {
+        frameWords = x .frameWords;
+        bindingWords = x .bindingWords;
+        innerWords = x .innerWords;
+        store = x .store;
+        deep = x .deep;
+        bound = x .bound;
+        apart = x .apart;
+        based = x .based;
+        labels = x .labels;
+        frames = x .frames;
+        inners = x .inners;
+      }
+
+  module _ {start : Option Bytes} {es : List Element} {rooted : Bool} {labels : ℕ} (h : Holds r fs bs is w start es rooted labels) where
+    -- only the label count changes
+    pub labelled-holds : {n : ℕ} → n ≤ 99_999_999 → Holds (labelledTo r n) fs bs is w start es rooted n
+    unfolding startOf elementsOf
+    labelled-holds {n} l = record { valid = labelled-valid n l (h .valid); base = h .base; elements = h .elements; root = h .root; count = refl }
+
+    -- only the mark does
+    pub marked-holds : Holds (markedAs r) fs bs is w start es rooted labels
+    unfolding startOf elementsOf
+    marked-holds = record { valid = marked-valid (h .valid); base = h .base; elements = h .elements; root = h .root; count = h .count }
+
+pub marked-doc : (r : Registers) (fs bs is w : List ℕ) (ids : List Bytes) → docOf (markedAs r) fs bs is w ids ≡ docOf r fs bs is w ids
+unfolding docOf startOf elementsOf
+marked-doc r fs bs is w ids = refl
+
 -- with no element inside Literal content, nothing is held at the store's end
 pub record Flat (r : Registers) : Type 0 where
   pub low : r .low ≡ 65_536

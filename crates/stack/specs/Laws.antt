@@ -9,7 +9,7 @@ use lib.ListN.{length, length-set, length-append}
 use lib.Seq.{getD-set-same, getD-set-other, take-length, take-append-seam, drop-append-seam}
 use native.Mathlib.Nat.{add-zero}
 use native.Mathlib.Numerals.{add-one}
-use borrow.Author.Tests.{eqb-true, eqb-false, leb-true, ltb-true, eq-eqb, ne-eqb, le-leb}
+use borrow.Author.Tests.{eqb-true, eqb-false, leb-true, ltb-true, eq-eqb, ne-eqb, le-leb, lt-ltb}
 use Rattle.spec.specs.Limits as L
 use Rattle.spec.specs.Bytes.{Bytes, if_then_else_}
 use Rattle.spec.specs.Limits.{mostLabels}
@@ -30,7 +30,7 @@ use Rattle.frames.specs.Kept.{Kept, kept-all, kept-less, kept-before, kept-behi
 use Rattle.frames.specs.Words.{frameAt, rowAt, wordsOf, StoredFrame, load-frame, load-store, frame-wrote, row-there, length-words}
 use Rattle.state.specs.declared.Registers.{Registers}
 use Rattle.state.specs.Meaning.{at, has, count, first, span, objectOf, bindingOf, bindingsOf, subjectOf, whatOf, elementOf, subjectBelow, framesOf, startOf, elementsOf}
-use Rattle.state.specs.Valid.{partsOk, chained, kindOk, emptyOr, stands, Rising, Valid, rising, rises-up}
+use Rattle.state.specs.Valid.{partsOk, chained, kindOk, emptyOr, nodeBelow, stands, Rising, Valid, rising, rises-up}
 use Rattle.state.specs.Tests.{positive}
 use Rattle.state.specs.Stay.{chained-on, chained-kept, bindings-kept, stands-kept, below-kept}
 use Rattle.stack.specs.declared.Changed.{Changed}
@@ -497,6 +497,7 @@ record Counted (r : Registers) (fs : List ℕ) : Type 0 where
   node : sameKind (topFrame r fs .kind) NodeElt ≡ true
   depth : 0 < r .depth
   few : count (topFrame r fs) < 99_999_999
+  room : (r .depth - 1) * 18 + 18 ≤ length fs
 
 may-count : (r : Registers) (fs : List ℕ) → mayCount r fs ≡ true → Counted r fs
 unfolding L.all mayCount
@@ -507,7 +508,22 @@ may-count r fs m =
       node = and-left (sameKind (topFrame r fs .kind) NodeElt) _ m;
       depth = ltb-true _ _ (and-left (ltb 0 (r .depth)) _ m1);
       few = ltb-true _ _ (and-left (ltb (count (topFrame r fs)) 99_999_999) _ m2);
+      room = leb-true _ _ (and-right (ltb (count (topFrame r fs)) 99_999_999) _ m2);
     }
+
+-- a node on top that has not had its last rdf:li
+pub record Numbered (r : Registers) (fs : List ℕ) : Type 0 where
+  pub kind : topFrame r fs .kind ≡ NodeElt
+  pub few : count (topFrame r fs) < 99_999_999
+
+pub li-may : (r : Registers) (fs : List ℕ) → Numbered r fs → r .depth ≤ 64 → length fs ≡ 1152 → mayCount r fs ≡ true
+unfolding L.all mayCount
+li-may r fs n d l =
+    let k : 0 < r .depth = top-deep r fs (λ i. node-differs (sym (n .kind) ∙ i)) in
+    rw (n .kind, lt-ltb 0 (r .depth) k, lt-ltb (count (topFrame r fs)) 99_999_999 (n .few), le-leb ((r .depth - 1) * 18 + 18) (length fs) (omega arith))
+  where
+    node-differs : NodeElt ≡ Rdf → ⊥
+    node-differs e = false≢true (ap (λ (g : Kind). sameKind g NodeElt) (sym e))
 
 pub li-holds : {r : Registers} {fs bs is w gs : List ℕ} {b : Bool} → Valid r fs bs is w → r .inner ≡ 0 → Counts r fs b gs → b ≡ true → (i : Bytes) → isLi i ≡ true
     → Holds r gs bs is w (startOf r w) (countLi i (elementsOf r fs bs is w)) (r .rooted) (r .labels)
@@ -533,3 +549,38 @@ li-holds {r} {fs} {bs} {is} {w} {gs} {b} x z p y i li =
     λ s. ap (λ (g : Kind). whatOf g (counted f) w s) kind ∙ (li-what f w a h i li s ∙ ap (λ (g : Kind). G.counted i (whatOf g f w s)) (sym kind)) in
     let res = retailed x n (k .depth) (G.counted i) al st kept-all kept-all refl (u .tail) (omega (arith, tp .ends, x .apart)) kd wt in
     rw (← topped-flat x n (k .depth) z i) (rw (tp .ends) at res)
+
+-- what one more rdf:li leaves to the element that comes next: where it may stand, and the subject around it
+module _ {r : Registers} {fs gs : List ℕ} {b : Bool} (p : Counts r fs b gs) (y : b ≡ true) where
+  li-frame : frameAt gs (r .depth - 1) ≡ counted (frameAt fs (r .depth - 1))
+  unfolding topFrame
+  li-frame =
+      let m : mayCount r fs ≡ true = sym (p .answer) ∙ y in
+      let t = may-count r fs m in
+      let n : ℕ = r .depth - 1 in
+      let h : n * 18 + 18 ≤ length fs = t .room in
+      let e : topFrame r fs ≡ frameAt fs n = rw (ne-eqb (r .depth) 0 (λ z. omega (arith, t .depth))) (load-frame fs n h) in
+      let al = counted-alike (frameAt fs n) (length-at fs n h) (length-has fs n h) in
+      load-store (stored-frame n h (al .places) (al .marks) (p .stored m ∙ ap (λ (g : Frame). storedAt fs (n * 18) (wordsOf (counted g))) e)) h (al .places) (al .marks)
+
+  li-deep : r .depth ≡ suc (r .depth - 1)
+  li-deep = omega (arith, may-count r fs (sym (p .answer) ∙ y) .depth)
+
+  li-node : nodeBelow gs (r .depth) ≡ nodeBelow fs (r .depth)
+  unfolding nodeBelow
+  li-node = rw li-deep (rw li-frame)
+
+  pub li-stands : (q : Kind) → stands q gs (r .depth) ≡ stands q fs (r .depth)
+  unfolding stands
+  li-stands Rdf = refl
+  li-stands NodeElt = refl
+  li-stands PropertyElt = li-node
+  li-stands ParseTypeCollectionPropertyElt = li-node
+  li-stands ParseTypeLiteralPropertyElt = li-node
+  li-stands ParseTypeOtherPropertyElt = li-node
+
+  pub li-below : (w : List ℕ) → subjectBelow gs w (r .depth) ≡ subjectBelow fs w (r .depth)
+  unfolding subjectBelow subjectOf
+  li-below w =
+      let f : Frame = frameAt fs (r .depth - 1) in
+      rw li-deep (rw (li-frame, getD-set-other (f .has) 6 2 (count f + 1) 0 (λ z. omega arith)))

@@ -3,7 +3,7 @@
 ghost use mathlib.Core.Path.{_≡_};
 ghost use Prim.Native.Nat.{_+_, _-_, _*_, _≤_, _<_};
 ghost use lib.ListN.{length};
-ghost use Rattle.stack.specs.Change.{toppedTo};
+ghost use Rattle.stack.specs.Change.{toppedTo, labelledTo, markedAs};
 ghost use Rattle.stack.specs.Calls.{Pushes, Pops, Binds, topFrame, sameKind, Texts, Xmls, Counts, Tails};
 use frames::Frame;
 use frames::Kind;
@@ -274,6 +274,43 @@ pub fn with_top(r: Registers, top: usize) -> Registers
         outer: r.outer,
         bindings: r.bindings,
         top,
+        low: r.low,
+        labels: r.labels,
+    }
+}
+
+pub fn with_labels(r: Registers, labels: u64) -> Registers
+    ensures { λ q. ⌜ q ≡ labelledTo r labels ⌝ }
+{
+    Registers {
+        closed: r.closed,
+        rooted: r.rooted,
+        based: r.based,
+        base: r.base,
+        depth: r.depth,
+        inner: r.inner,
+        outer: r.outer,
+        bindings: r.bindings,
+        top: r.top,
+        low: r.low,
+        labels,
+    }
+}
+
+// Marked as closed: no call goes on from it.
+pub fn marked(r: Registers) -> Registers
+    ensures { λ q. ⌜ q ≡ markedAs r ⌝ }
+{
+    Registers {
+        closed: true,
+        rooted: r.rooted,
+        based: r.based,
+        base: r.base,
+        depth: r.depth,
+        inner: r.inner,
+        outer: r.outer,
+        bindings: r.bindings,
+        top: r.top,
         low: r.low,
         labels: r.labels,
     }
