@@ -139,7 +139,7 @@ module _ {w : List ℕ} {first : ℕ} {on : Bool} {d d′ : List ℕ} {z k to e 
 
 -- ---- the head of the list
 
-length-children : (w : List ℕ) (n e : ℕ) → length (childrenOf w n e) ≡ n
+pub length-children : (w : List ℕ) (n e : ℕ) → length (childrenOf w n e) ≡ n
 unfolding childrenOf
 length-children w zero e = refl
 length-children w (suc n) e = ap suc (length-children w n (childFrom w e))

@@ -4,6 +4,7 @@ ghost use mathlib.Core.Path.{_≡_};
 ghost use mathlib.Core.List.{[], _++_};
 ghost use Prim.Native.Nat.{_+_, _-_, _≤_, _<_};
 ghost use lib.Dec.{eqb};
+ghost use lib.ListN.{length};
 ghost use Rattle.spec.specs.Rdf.{rdf};
 ghost use Rattle.spec.specs.NTriples.{node, typed, label, write};
 ghost use Rattle.spec.specs.Productions.{statement};
@@ -60,6 +61,14 @@ pub fn literal_lines(out: &mut [u8], on: bool, n: Frame, f: Frame, work: &[u8]) 
         text,
         &ntriples::RDF_XML_LITERAL,
     )
+}
+
+// How many bytes its XML text has.
+pub fn tail_size(f: Frame, work: &[u8]) -> usize
+    ensures { λ r. ⌜ r ≡ length (span (now (work .entry)) (at f 7) (at f 8)) ⌝ }
+{
+    let text = part_of(work, f, 7);
+    text.len()
 }
 
 // The cells of a Collection and then its statement; `labels` were generated before.
