@@ -7,14 +7,14 @@ use native.Mathlib.Omega.{arith}
 use lib.Dec.{leb}
 use lib.ListN.{length}
 use borrow.Author.Tests.{lt-leb, le-leb}
-use Rattle.spec.specs.Bytes.{Bytes, same, _>>_, _>>=_, require_or_}
+use Rattle.spec.specs.Bytes.{Bytes, _>>_, require_or_}
 use Rattle.spec.specs.Numbers.{Answer, refuse, good}
 use Rattle.spec.specs.declared.Refusal.{Refusal}
 use Rattle.spec.specs.declared.Refusal.the-variants.{NoRoom, OverLimit}
 use Rattle.spec.specs.Limits.{mostHeldBytes}
-use Rattle.spec.specs.NTriples.{Subject, Triple, write}
+use Rattle.spec.specs.NTriples.{Triple, write}
 use Rattle.spec.specs.Pyx.{closing}
-use Rattle.spec.specs.Document.{Frame as Element, Doc, withFrames, withLabels, languageInForce, fits}
+use Rattle.spec.specs.Document.{Frame as Element, Doc, withFrames, languageInForce, fits}
 use Rattle.spec.specs.Opening.{Step}
 use Rattle.spec.specs.EndTag.{endKind, closeElement}
 use Rattle.spec.specs.RdfXml.{onEvent}
@@ -22,9 +22,8 @@ use Rattle.spec.proofs.Bytes.{same-refl}
 use Rattle.copy.specs.Copy.{Wrote, wrote-same, wrote-none}
 use Rattle.frames.specs.declared.Kind.{Kind}
 use Rattle.frames.specs.declared.Frame.{Frame}
-use Rattle.frames.specs.Words.{frameAt}
 use Rattle.state.specs.declared.Registers.{Registers}
-use Rattle.state.specs.Meaning.{at, first, span, bindingsOf, whatOf, elementOf, subjectBelow, framesOf, innersOf, startOf, elementsOf, docOf}
+use Rattle.state.specs.Meaning.{at, first, span, bindingsOf, whatOf, elementOf, subjectBelow, framesOf, innersOf, elementsOf, docOf}
 use Rattle.state.specs.Valid.{Valid}
 use Rattle.stack.specs.Change.{top-element}
 use Rattle.stack.specs.Calls.{topFrame}
@@ -34,7 +33,7 @@ use Rattle.inside.specs.Laws.{held-read}
 use Rattle.writer.specs.Put.{Put, most, put-measures, put-decides, put-both}
 use Rattle.event.specs.declared.Outcome.{Outcome}
 use Rattle.event.specs.declared.Outcome.the-variants.{Stop, Did}
-use Rattle.event.specs.Result.{Result, IdsFit, Handles, handled, handled-by, concluded, refused-on, over-limit, no-room, all-fits, fits-held, stopped, done, result-as}
+use Rattle.event.specs.Result.{IdsFit, Handles, handled, handled-by, concluded, refused-on, over-limit, no-room, all-fits, fits-held, stopped, done}
 
 -- ---- the element on top
 

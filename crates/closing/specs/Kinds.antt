@@ -1,30 +1,29 @@
 -- What is left behind an end tag, where the element on top is not a node: its registers are popped, and lines are written by its kind.
-use Prim.Native.Nat.{ℕ, zero, suc, _+_, _-_, _*_, _<_, _≤_}
+use Prim.Native.Nat.{ℕ, zero, suc, _+_, _-_, _<_, _≤_}
 use mathlib.Core.Path.{_≡_, refl, sym, ap, _∙_}
-use mathlib.Core.Bool.{Bool, true, false, not, false≢true}
+use mathlib.Core.Bool.{true, false, false≢true}
 use mathlib.Core.Option.{Option}
 use mathlib.Core.List.{List, [], _∷_, _++_}
 use native.Mathlib.Nat.{not-suc-le-zero}
 use native.Mathlib.Omega.{arith}
-use lib.Dec.{eqb, leb}
 use lib.ListN.{length}
 use borrow.Author.Tests.{eq-eqb, lt-ltb, le-leb, lt-leb}
-use Rattle.spec.specs.Bytes.{Bytes, isEmpty, _>>_, _>>=_, require_or_}
-use Rattle.spec.specs.Numbers.{Answer, refuse, good}
+use Rattle.spec.specs.Bytes.{Bytes, isEmpty, _>>_, require_or_}
+use Rattle.spec.specs.Numbers.{refuse, good}
 use Rattle.spec.specs.declared.Refusal.the-variants.{EmptyLiteral, LabelsSpent}
 use Rattle.spec.specs.Limits.{mostLabels}
 use Rattle.spec.specs.Rdf.{rdf}
-use Rattle.spec.specs.NTriples.{Subject, node, typed, Triple}
+use Rattle.spec.specs.NTriples.{Subject, node, typed}
 use Rattle.spec.specs.Document.{collection, Property, Doc, withFrames, withLabels, languageInForce}
 use Rattle.spec.specs.Productions.{statement}
 use Rattle.spec.specs.EndTag.{objectTerm, cells, headCell, endValue, endKind}
 use Rattle.frames.specs.declared.Kind.{Kind}
-use Rattle.frames.specs.declared.Kind.the-variants.{Rdf, NodeElt, PropertyElt, ParseTypeCollectionPropertyElt, ParseTypeLiteralPropertyElt, ParseTypeOtherPropertyElt}
+use Rattle.frames.specs.declared.Kind.the-variants.{Rdf, PropertyElt, ParseTypeCollectionPropertyElt, ParseTypeLiteralPropertyElt, ParseTypeOtherPropertyElt}
 use Rattle.frames.specs.declared.Frame.{Frame}
 use Rattle.frames.specs.Words.{frameAt, load-frame}
 use Rattle.state.specs.declared.Registers.{Registers}
 use Rattle.state.specs.Meaning.{at, has, count, first, span, optional, objectOf, childrenOf, subjectOf, propertyOf, whatOf, subjectBelow, framesOf, startOf, elementsOf, docOf}
-use Rattle.state.specs.Valid.{kindOk, nodeBelow, stands, Valid, Sound}
+use Rattle.state.specs.Valid.{kindOk, nodeBelow, stands, Sound}
 use Rattle.state.specs.Held.{room}
 use Rattle.stack.specs.declared.Changed.{Changed}
 use Rattle.stack.specs.declared.Found.{Found}
@@ -36,7 +35,7 @@ use Rattle.inside.specs.Laws.{found, language-read}
 use Rattle.nodes.specs.Take as N
 use Rattle.event.specs.declared.Outcome.the-variants.{Stop}
 use Rattle.statements.specs.Cells.{nil, Listed, length-children}
-use Rattle.closing.specs.Ends.{Closing, Ends, Leaves, Tells, without, refused}
+use Rattle.closing.specs.Ends.{Closing, Ends, Tells, without, refused}
 
 -- ---- the state without the element on top
 

@@ -1,15 +1,15 @@
 -- A node that closes: how many bytes are held behind it, and that nothing stands in its way.
 use Prim.Native.Nat.{ℕ, zero, suc, _+_, _-_, _*_, _/_, _<_, _≤_}
 use mathlib.Core.Path.{_≡_, refl, sym, ap, _∙_}
-use mathlib.Core.Bool.{Bool, true, false, _&&_, false≢true}
+use mathlib.Core.Bool.{Bool, true, false, false≢true}
 use mathlib.Core.List.{List, [], _∷_}
 use native.Mathlib.Omega.{arith}
-use lib.Dec.{eqb, leb, ltb}
+use lib.Dec.{eqb, leb}
 use lib.ListN.{length}
 use borrow.Author.Tests.{eqb-true, eqb-false, eq-eqb, le-leb, lt-leb, lt-ltb}
 use Rattle.spec.specs.Limits as L
 use Rattle.spec.specs.Limits.{mostHeldBytes}
-use Rattle.spec.specs.Bytes.{Bytes, if_then_else_, total, sizeOf}
+use Rattle.spec.specs.Bytes.{Bytes, if_then_else_, total}
 use Rattle.spec.specs.Numbers.{good}
 use Rattle.spec.specs.declared.Refusal.the-variants.{OverLimit}
 use Rattle.spec.specs.NTriples.{Subject, named, blank, write}
@@ -19,15 +19,15 @@ use Rattle.copy.specs.Copy.{part, length-part, wrote-none}
 use Rattle.frames.specs.declared.Kind.{Kind}
 use Rattle.frames.specs.declared.Kind.the-variants.{Rdf, NodeElt, PropertyElt, ParseTypeCollectionPropertyElt, ParseTypeLiteralPropertyElt, ParseTypeOtherPropertyElt}
 use Rattle.frames.specs.declared.Frame.{Frame}
-use Rattle.frames.specs.Words.{pick, frameAt, loadFrame, load-frame}
+use Rattle.frames.specs.Words.{pick, loadFrame, load-frame}
 use Rattle.state.specs.declared.Registers.{Registers}
-use Rattle.state.specs.Meaning.{at, has, count, first, span, nodeOf, objectOf, childFrom, bindingsOf, subjectOf, propertyOf, whatOf, elementOf, subjectBelow, framesOf, startOf, elementsOf, docOf}
-use Rattle.state.specs.Valid.{emptyOr, childrenOk, kindOk, Rising, Valid, rising}
+use Rattle.state.specs.Meaning.{at, has, count, first, span, nodeOf, objectOf, childFrom, bindingsOf, subjectOf, whatOf, elementOf, subjectBelow, framesOf, elementsOf, docOf}
+use Rattle.state.specs.Valid.{emptyOr, childrenOk, kindOk, Rising, rising}
 use Rattle.state.specs.Stay.{last-child, collected}
 use Rattle.state.specs.Tests.{positive}
 use Rattle.state.specs.Held.{held}
 use Rattle.stack.specs.declared.Changed.{Changed}
-use Rattle.stack.specs.Change.{Holds, holds-doc, flat, top-element, top-frame}
+use Rattle.stack.specs.Change.{holds-doc, flat, top-element, top-frame}
 use Rattle.stack.specs.Calls.{topFrame, sameKind, Pops}
 use Rattle.stack.specs.Top.{what-outside}
 use Rattle.stack.specs.Laws.{topmost, top-deep, by, is-property}
@@ -37,7 +37,7 @@ use Rattle.nodes.specs.Laws.{closedNode, closed-node, close-holds}
 use Rattle.event.specs.declared.Outcome.the-variants.{Stop, Did}
 use Rattle.event.specs.Result.{IdsFit, fits-held}
 use Rattle.closing.specs.Ends.{Closing, Ends, without, ended, top-first, refused-held, accepted}
-use Rattle.closing.specs.Kinds.{pops, top-stands, pop-is, pop-doc, pop-mark, pop-depth}
+use Rattle.closing.specs.Kinds.{pops, top-stands, pop-is, pop-doc, pop-depth}
 
 -- ---- sizes
 

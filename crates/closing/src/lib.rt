@@ -89,14 +89,15 @@ fn end_node(r: Registers, frames: &mut [u32], work: &mut [u8]) -> Outcome
     })
 }
 
+// The object so far, or the empty literal; the language in force is that inside the element.
 fn end_property(r: Registers, frames: &[u32], work: &[u8], out: &mut [u8]) -> Outcome
     ensures { λ o. ⌜ Ends Kind.PropertyElt r o (now (frames .entry)) (now (work .entry)) (now (out .entry)) (now (frames .entry)) (now (work .entry)) (now (out .exit)) ⌝ }
 {
     let f = stack::top(r, frames);
-    let language = inside::language_in_force(r, frames);
     let p = stack::pop(r, frames);
     let behind = p.registers;
     let n = stack::top(behind, frames);
+    let language = inside::language_in_force(r, frames);
     if !inside::holds_no_more(behind) {
         return Outcome::Stop(Refusal::OverLimit);
     }
@@ -110,6 +111,7 @@ fn end_property(r: Registers, frames: &[u32], work: &[u8], out: &mut [u8]) -> Ou
     })
 }
 
+// An XML literal has some text.
 fn end_literal(r: Registers, frames: &[u32], work: &[u8], out: &mut [u8]) -> Outcome
     ensures { λ o. ⌜ Ends Kind.ParseTypeLiteralPropertyElt r o (now (frames .entry)) (now (work .entry)) (now (out .entry)) (now (frames .entry)) (now (work .entry)) (now (out .exit)) ⌝ }
 {
@@ -133,7 +135,7 @@ fn end_literal(r: Registers, frames: &[u32], work: &[u8], out: &mut [u8]) -> Out
     })
 }
 
-// Each child takes a label.
+// Each child takes a label for its cell.
 fn end_collection(r: Registers, frames: &[u32], work: &[u8], out: &mut [u8]) -> Outcome
     requires { ⌜ Whole r (now frames) (now work) × (topFrame r (now frames) .kind ≡ Kind.ParseTypeCollectionPropertyElt) ⌝ }
     ensures { λ o. ⌜ Ends Kind.ParseTypeCollectionPropertyElt r o (now (frames .entry)) (now (work .entry)) (now (out .entry)) (now (frames .entry)) (now (work .entry)) (now (out .exit)) ⌝ }

@@ -1,9 +1,9 @@
 -- The cells of a Collection, written one after the other.
 use Prim.Native.Nat.{ℕ, zero, suc, _+_, _-_, _<_, _≤_}
 use mathlib.Core.Path.{_≡_, refl, sym, ap, _∙_}
-use mathlib.Core.Bool.{Bool, true, false}
+use mathlib.Core.Bool.{Bool, true}
 use mathlib.Core.List.{List, [], _∷_, _++_, append-nil, append-assoc}
-use native.Mathlib.Nat.{add-zero, add-suc}
+use native.Mathlib.Nat.{add-zero}
 use native.Mathlib.Numerals.{add-one}
 use native.Mathlib.Omega.{arith}
 use lib.Dec.{eqb}
@@ -24,7 +24,7 @@ use Rattle.frames.specs.Words.{pick}
 use Rattle.state.specs.Meaning.{at, count, childFrom, childOf, childrenOf}
 use Rattle.state.specs.Valid.{childrenOk, kindOk}
 use Rattle.state.specs.Stay.{last-child, collected}
-use Rattle.label.specs.Label.{Generates, generated}
+use Rattle.label.specs.Label.{Generates}
 use Rattle.label.specs.declared.Generated.{Generated}
 use Rattle.nodes.specs.declared.Child.{Child}
 use Rattle.nodes.specs.Take.{childIn}

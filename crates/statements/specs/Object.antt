@@ -1,10 +1,9 @@
 -- The object of a default property, from the marks and parts of its frame.
 use Prim.Native.Nat.{ℕ, _-_}
-use mathlib.Core.Path.{_≡_, refl, sym, ap, _∙_}
+use mathlib.Core.Path.{_≡_, refl, _∙_}
 use mathlib.Core.Bool.{Bool, true, false, not}
 use mathlib.Core.Option.{none, some}
 use mathlib.Core.List.{List, [], _++_, append-nil}
-use native.Mathlib.Omega.{arith}
 use lib.Dec.{eqb}
 use borrow.Author.Tests.{eq-eqb, ne-eqb}
 use Rattle.spec.specs.Bytes.{Bytes}
@@ -18,7 +17,6 @@ use Rattle.frames.specs.Words.{pick}
 use Rattle.state.specs.Meaning.{at, has, span, optional, nodeOf, objectOf, subjectOf, propertyOf}
 use Rattle.stack.specs.declared.Found.{Found}
 use Rattle.inside.specs.Laws.{found}
-use Rattle.writer.specs.Put.{Put}
 use Rattle.ntriples.specs.declared.Node.{Node}
 use Rattle.ntriples.specs.declared.Node.the-variants as node-kind
 use Rattle.ntriples.specs.declared.Term.{Term}

@@ -1,5 +1,4 @@
 -- `closing::main_size` meets its contract. The difference, where there is one.
-use mathlib.Core.Path.{refl}
 use native.Mathlib.Omega.{arith}
 use borrow.Author.Needs.{needs}
 use Rattle.closing.proofs.main_size.Statement.{statement}

@@ -1,3 +1,4 @@
+-- `statements::collection_lines` meets its contract. The cells, and then the statement with their head.
 use Prim.Native.Nat.{_+_}
 use mathlib.Core.Path.{ap, _∙_}
 use Rattle.spec.specs.Bytes.{Bytes, ascii}
@@ -11,70 +12,50 @@ use native.Mathlib.Omega.{arith}
 use borrow.Author.Needs.{needs}
 use Rattle.statements.proofs.collection_lines.Statement.{statement}
 use Rattle.statements.proofs.collection_lines.Tie as tie
-use Rattle.statements.proofs.collection_lines.Reads as reads
-use Rattle.statements.proofs.collection_lines.Lts as lts
-use Rattle.statements.proofs.cells.Reads as cells-reads
-use Rattle.statements.proofs.label_of.Reads as label-of-reads
-use Rattle.statements.proofs.statement.Reads as statement-reads
 
--- src/lib.rt:78:20
 array-read-children : tie.Need-array-read-children
 array-read-children c = search needs
 
--- src/lib.rt:79:9
 cells-requires : tie.Need-cells-requires
 cells-requires c κs = search needs
 
--- src/lib.rt:89:13
 slice-aggregate-statement : tie.Need-slice-aggregate-statement
 slice-aggregate-statement c = search needs
 
--- src/lib.rt:90:13
 slice-aggregate-statement-2 : tie.Need-slice-aggregate-statement-2
 slice-aggregate-statement-2 c = search needs
 
--- src/lib.rt:81:9
 statement-requires : tie.Need-statement-requires
 statement-requires c κs = search needs
 
--- src/lib.rt:81:9
 same-length : tie.Need-same-length
 same-length c = search needs
 
--- src/lib.rt:81:9
 returns : tie.Need-returns
 unfolding termOf rdf ascii
 returns c = let a = c .before .before .before .before .before .before .before .before .before .before .before .before .before .before .args in put-as (puts (c .before .before .before .before .before .before .before .before .before .cells .ensures) (c .before .before .statement .ensures)) (listed (a .f) (a .work .now) (a .labels) _ (ap node (list-none (a .labels) (a .labels + count (a .f)) (omega (arith, c .before .before .before .before .before .before .if1 .taken)))))
 
--- src/lib.rt:93:34
 cast-label-of : tie.Need-cast-label-of
 cast-label-of c = search needs
 
--- src/lib.rt:93:25
 add-label-of : tie.Need-add-label-of
 add-label-of c = search needs
 
--- src/lib.rt:93:9
 label-of-requires : tie.Need-label-of-requires
 label-of-requires c κs = search needs
 
--- src/lib.rt:95:53
 slice-aggregate-statement-3 : tie.Need-slice-aggregate-statement-3
 slice-aggregate-statement-3 c = search needs
 
--- src/lib.rt:95:58
 slice-aggregate-statement-4 : tie.Need-slice-aggregate-statement-4
 slice-aggregate-statement-4 c = search needs
 
--- src/lib.rt:95:5
 statement-requires-2 : tie.Need-statement-requires-2
 statement-requires-2 c κs = search needs
 
--- src/lib.rt:66:1
 same-length-2 : tie.Need-same-length-2
 same-length-2 c = search needs
 
--- src/lib.rt:66:1
 returns-2 : tie.Need-returns-2
 unfolding termOf
 returns-2 c = let a = c .before .before .before .before .before .before .before .before .before .before .before .before .before .before .before .before .args in put-as (puts (c .before .before .before .before .before .before .before .before .before .before .before .cells .ensures) (c .before .before .statement2 .ensures)) (listed (a .f) (a .work .now) (a .labels) _ (ap (λ (s : Bytes). node (blank s)) (c .before .before .before .before .before .before .before .label-of .ensures) ∙ ap node (list-some (a .labels) (a .labels + count (a .f)) (λ z. c .before .before .before .before .before .before .before .before .if1 .left (omega arith)))))

@@ -1,21 +1,16 @@
+-- `statements::label_of` meets its contract. The next label behind `n - 1`.
 use Rattle.statements.specs.Cells.{next-label}
 use native.Mathlib.Omega.{arith}
 use borrow.Author.Needs.{needs}
 use Rattle.statements.proofs.label_of.Statement.{statement}
 use Rattle.statements.proofs.label_of.Tie as tie
-use Rattle.statements.proofs.label_of.Reads as reads
-use Rattle.statements.proofs.label_of.Lts as lts
-use Rattle.label.proofs.BlankNodeIdGenerator.generate.Reads as generate-reads
 
--- src/lib.rt:158:53
 sub-t5 : tie.Need-sub-t5
 sub-t5 c = search needs
 
--- src/lib.rt:159:9
 generate-requires : tie.Need-generate-requires
 generate-requires c κs = search needs
 
--- src/lib.rt:154:1
 returns : tie.Need-returns
 returns c = next-label _ (c .before .generate .ensures) (omega arith) (omega arith)
 

@@ -1,30 +1,21 @@
+-- `statements::object_text` meets its contract. By the mark of the tail.
 use Rattle.statements.specs.Object.{lent-none, lent-marked}
-use native.Mathlib.Omega.{arith}
 use borrow.Author.Needs.{needs}
 use Rattle.statements.proofs.object_text.Statement.{statement}
 use Rattle.statements.proofs.object_text.Tie as tie
-use Rattle.statements.proofs.object_text.Reads as reads
-use Rattle.statements.proofs.object_text.Lts as lts
-use Rattle.statements.proofs.part_of.Reads as part-of-reads
-use Rattle.names.proofs.piece.Reads as piece-reads
 
--- src/lib.rt:97:8
 array-read-if1 : tie.Need-array-read-if1
 array-read-if1 c = search needs
 
--- src/lib.rt:98:9
 piece-requires : tie.Need-piece-requires
 piece-requires c κs = search needs
 
--- src/lib.rt:98:9
 returns : tie.Need-returns
 returns c = lent-none _ _ _ (c .before .if1 .taken) (c .piece .ensures)
 
--- src/lib.rt:100:5
 part-of-requires : tie.Need-part-of-requires
 part-of-requires c κs = search needs
 
--- src/lib.rt:93:1
 returns-2 : tie.Need-returns-2
 returns-2 c = lent-marked _ _ (c .before .if1 .left) (c .part-of .ensures)
 
