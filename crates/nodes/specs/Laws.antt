@@ -1,20 +1,21 @@
 -- What a node that closes does to a valid state, said of the document that it means.
 use Prim.Native.Nat.{ℕ, suc, _+_, _-_, _*_, _≤_}
 use mathlib.Core.Path.{_≡_, refl, sym, ap, _∙_}
-use mathlib.Core.Bool.{Bool, true, false, false≢true}
+use mathlib.Core.Bool.{Bool, true, false, not, false≢true}
 use mathlib.Core.List.{List, [], _∷_, _++_}
 use native.Mathlib.Omega.{arith}
 use native.Mathlib.Numerals.{add-one}
+use native.Mathlib.Nat.{add-zero}
 use lib.Dec.{eqb}
-use lib.ListN.{length, length-set}
+use lib.ListN.{length, getD, length-set}
 use lib.Seq.{getD-set-same, getD-set-other}
-use borrow.Author.Tests.{eqb-true}
+use borrow.Author.Tests.{eqb-true, le-leb}
 use Rattle.spec.specs.Limits as L
 use Rattle.spec.proofs.Booleans.{and-left, and-right}
 use Rattle.spec.specs.NTriples.{Subject, named, blank}
 use Rattle.spec.specs.Document.{nodeObject, textObject, noObject, Kind as What, rdfRDF, nodeElement, propertyElement, xmlElement, Frame as Element, onValue, changeValue}
 use Rattle.spec.specs.EndTag.{takesNode}
-use Rattle.copy.specs.Copy.{part, storedAt, Wrote, wrote-part, wrote-same, length-part}
+use Rattle.copy.specs.Copy.{part, storedAt, Wrote, wrote-part, wrote-same, length-part, getD-part}
 use Rattle.frames.specs.declared.Kind.{Kind}
 use Rattle.frames.specs.declared.Kind.the-variants.{Rdf, NodeElt, PropertyElt, ParseTypeCollectionPropertyElt, ParseTypeLiteralPropertyElt, ParseTypeOtherPropertyElt}
 use Rattle.frames.specs.declared.Frame.{Frame}
@@ -29,7 +30,8 @@ use Rattle.stack.specs.Change.{Holds, poppedTo, popped, top-frame, top-element}
 use Rattle.stack.specs.Calls.{topFrame, sameKind, mayPop}
 use Rattle.stack.specs.Top.{Alike, alike-property, retailed, topped-change, topped-same}
 use Rattle.stack.specs.Laws.{Fresh, by, is-property, is-node, may-pop, top-deep, topmost, tail-alike, tail-end, tail-what, length-at, length-has, stored-frame, front-of, back-of}
-use Rattle.nodes.specs.Take.{mayTake, mayChild, objectWord, blankByte, mainSize, objectFrame, childFrame, markOf, Taken, TakesNode, ClosesNode, mayClose, without, movable}
+use Rattle.nodes.specs.declared.Child.{Child}
+use Rattle.nodes.specs.Take.{mayTake, mayChild, objectWord, blankByte, mainSize, objectFrame, childFrame, markOf, Taken, TakesNode, ClosesNode, mayClose, without, movable, childIn}
 
 -- ---- an object
 
@@ -327,3 +329,30 @@ close-holds {r} {fs} {bs} {is} {w} {gs} {v} {c} x p y =
     let es : closedNode (elementsOf r fs bs is w) ≡ changeValue (takesNode (subjectOf n w)) (framesOf fs bs w i (first n)) =
     ap closedNode (flat-top r fs bs is w (k .0) ∙ top-element x i (tm .depth)) ∙ closed-top n w (subjectBelow fs w i) _ (framesOf fs bs w i (first n)) kind in
     rw (es, ← h .elements, ← h .base) res
+
+-- ---- a child that is read
+
+-- the node that it is
+unfoldable pub childNode : Child → List ℕ → Subject
+childNode c w = pick (c .blank) (blank (part w (c .at) (c .len))) (named (part w (c .at) (c .len)))
+
+-- the child that is meant, and where the one before it ends
+pub record ChildRead (w : List ℕ) (e : ℕ) (c : Child) : Type 0 where
+  pub starts : c .at ≡ childFrom w e
+  pub node : childNode c w ≡ childOf w e
+
+pub child-read : {c : Child} (w : List ℕ) (e : ℕ) → c ≡ childIn w e → 4 ≤ e → e ≤ length w → ChildRead w e c
+unfolding childIn childNode childOf childSize nodeOf
+child-read {c} w e q l h =
+    let low : getD (part w (e - 4) 4) 0 0 ≡ getD w (e - 4) 0 = getD-part w (e - 4) 4 0 (omega arith) ∙ rw add-zero in
+    let high : getD (part w (e - 4) 4) 1 0 ≡ getD w (e - 3) 0 = getD-part w (e - 4) 4 1 (omega arith) ∙ ap (λ (k : ℕ). getD w k 0) (omega arith) in
+    let mark : getD (part w (e - 4) 4) 2 0 ≡ getD w (e - 2) 0 = getD-part w (e - 4) 4 2 (omega arith) ∙ ap (λ (k : ℕ). getD w k 0) (omega arith) in
+    rw (q, le-leb 4 e l, le-leb e (length w) h)
+    (record {
+      starts = rw (low, high);
+      node = rw (low, high, mark) (go (eqb (getD w (e - 2) 0) 0) (part w (e - 4 - (getD w (e - 4) 0 + 256 * getD w (e - 3) 0)) (getD w (e - 4) 0 + 256 * getD w (e - 3) 0)));
+    })
+  where
+    go : (t : Bool) (s : List ℕ) → pick (not t) (blank s) (named s) ≡ pick t (named s) (blank s)
+    go true s = refl
+    go false s = refl

@@ -1,0 +1,197 @@
+// End tags outside Literal content: the statement of a property is written, and a node is handed to the property around it.
+ghost use mathlib.Core.Path.{_≡_};
+ghost use mathlib.Core.List.{List};
+ghost use Prim.Native.Nat.{ℕ, _+_, _-_, _≤_, _<_};
+ghost use Rattle.spec.specs.Pyx.{closing};
+ghost use Rattle.stack.specs.Calls.{topFrame};
+ghost use Rattle.nodes.specs.Take.{mainSize};
+ghost use Rattle.event.specs.Result.{Asks, Handles};
+ghost use Rattle.closing.specs.Ends.{Ends};
+ghost use Rattle.closing.specs.Kinds.{Silent, Whole};
+ghost use Rattle.closing.specs.Node.{HeldAfter};
+use event::Done;
+use event::Outcome;
+use frames::Frame;
+use frames::Kind;
+use frames::wide;
+use label::BlankNodeIdGenerator;
+use spec::Refusal;
+use state::Registers;
+
+// An end tag. Where no element is open, or the name as written is another, it is refused.
+pub fn end_outside(
+    r: Registers,
+    frames: &mut [u32],
+    bindings: &[u32],
+    inners: &[u32],
+    work: &mut [u8],
+    name: &[u8],
+    out: &mut [u8],
+) -> Outcome
+    requires { ⌜ Asks r (now frames) (now bindings) (now inners) (now work) × (r .inner ≡ 0) ⌝ }
+    ensures { λ o. ⌜ Handles (closing (now (name .entry))) r o (now (frames .entry)) (now (bindings .entry)) (now (inners .entry)) (now (work .entry)) (now (out .entry)) (now (frames .exit)) (now (bindings .entry)) (now (inners .entry)) (now (work .exit)) (now (out .exit)) ⌝ }
+{
+    let own = inside::name(r, frames, inners);
+    if !own.there {
+        return Outcome::Stop(Refusal::NotWellFormed);
+    }
+    if !copy::equal(name, names::piece(work, own.at, own.len)) {
+        return Outcome::Stop(Refusal::NotWellFormed);
+    }
+    end_state(r, frames, work, out)
+}
+
+// The end tag of the element on top, by its kind.
+fn end_state(r: Registers, frames: &mut [u32], work: &mut [u8], out: &mut [u8]) -> Outcome
+    requires { ⌜ Whole r (now frames) (now work) ⌝ }
+    ensures { λ o. ⌜ Ends (topFrame r (now (frames .entry)) .kind) r o (now (frames .entry)) (now (work .entry)) (now (out .entry)) (now (frames .exit)) (now (work .exit)) (now (out .exit)) ⌝ }
+{
+    let f = stack::top(r, frames);
+    let kind = f.kind;
+    match kind {
+        Kind::Rdf => end_silent(r, frames),
+        Kind::NodeElt => end_node(r, frames, work),
+        Kind::PropertyElt => end_property(r, frames, work, out),
+        Kind::ParseTypeCollectionPropertyElt => end_collection(r, frames, work, out),
+        Kind::ParseTypeLiteralPropertyElt => end_literal(r, frames, work, out),
+        Kind::ParseTypeOtherPropertyElt => end_silent(r, frames),
+    }
+}
+
+// The element is gone, and that is all.
+fn end_silent(r: Registers, frames: &[u32]) -> Outcome
+    ensures { λ o. ⌜ ((q : Kind) (w out : List ℕ) → Silent q → Ends q r o (now (frames .entry)) w out (now (frames .entry)) w out) ⌝ }
+{
+    let p = stack::pop(r, frames);
+    let behind = p.registers;
+    if !inside::holds_no_more(behind) {
+        return Outcome::Stop(Refusal::OverLimit);
+    }
+    Outcome::Did(Done {
+        written: 0,
+        registers: behind,
+    })
+}
+
+// The property around the node gets it. What is then held is judged first: a child of a Collection takes 4 bytes more.
+fn end_node(r: Registers, frames: &mut [u32], work: &mut [u8]) -> Outcome
+    ensures { λ o. ⌜ ((out : List ℕ) → Ends Kind.NodeElt r o (now (frames .entry)) (now (work .entry)) out (now (frames .exit)) (now (work .exit)) out) ⌝ }
+{
+    let held = held_after(r, frames);
+    if held > Registers::MOST_HELD {
+        return Outcome::Stop(Refusal::OverLimit);
+    }
+    let c = nodes::close_node(r, frames, work);
+    let behind = c.registers;
+    Outcome::Did(Done {
+        written: 0,
+        registers: behind,
+    })
+}
+
+// The object so far, or the empty literal; the language in force is that inside the element.
+fn end_property(r: Registers, frames: &[u32], work: &[u8], out: &mut [u8]) -> Outcome
+    ensures { λ o. ⌜ Ends Kind.PropertyElt r o (now (frames .entry)) (now (work .entry)) (now (out .entry)) (now (frames .entry)) (now (work .entry)) (now (out .exit)) ⌝ }
+{
+    let f = stack::top(r, frames);
+    let p = stack::pop(r, frames);
+    let behind = p.registers;
+    let n = stack::top(behind, frames);
+    let language = inside::language_in_force(r, frames);
+    if !inside::holds_no_more(behind) {
+        return Outcome::Stop(Refusal::OverLimit);
+    }
+    if out.len() < statements::property_lines(out, false, n, f, language, work) {
+        return Outcome::Stop(Refusal::NoRoom);
+    }
+    let written = statements::property_lines(out, true, n, f, language, work);
+    Outcome::Did(Done {
+        written,
+        registers: behind,
+    })
+}
+
+// An XML literal has some text.
+fn end_literal(r: Registers, frames: &[u32], work: &[u8], out: &mut [u8]) -> Outcome
+    ensures { λ o. ⌜ Ends Kind.ParseTypeLiteralPropertyElt r o (now (frames .entry)) (now (work .entry)) (now (out .entry)) (now (frames .entry)) (now (work .entry)) (now (out .exit)) ⌝ }
+{
+    let f = stack::top(r, frames);
+    if statements::tail_size(f, work) == 0 {
+        return Outcome::Stop(Refusal::EmptyLiteral);
+    }
+    let p = stack::pop(r, frames);
+    let behind = p.registers;
+    let n = stack::top(behind, frames);
+    if !inside::holds_no_more(behind) {
+        return Outcome::Stop(Refusal::OverLimit);
+    }
+    if out.len() < statements::literal_lines(out, false, n, f, work) {
+        return Outcome::Stop(Refusal::NoRoom);
+    }
+    let written = statements::literal_lines(out, true, n, f, work);
+    Outcome::Did(Done {
+        written,
+        registers: behind,
+    })
+}
+
+// Each child takes a label for its cell.
+fn end_collection(r: Registers, frames: &[u32], work: &[u8], out: &mut [u8]) -> Outcome
+    requires { ⌜ Whole r (now frames) (now work) × (topFrame r (now frames) .kind ≡ Kind.ParseTypeCollectionPropertyElt) ⌝ }
+    ensures { λ o. ⌜ Ends Kind.ParseTypeCollectionPropertyElt r o (now (frames .entry)) (now (work .entry)) (now (out .entry)) (now (frames .entry)) (now (work .entry)) (now (out .exit)) ⌝ }
+{
+    let f = stack::top(r, frames);
+    let has = f.has;
+    let had = r.labels;
+    let labels = had + wide(has[6]) as u64;
+    if labels > BlankNodeIdGenerator::MOST_LABELS {
+        return Outcome::Stop(Refusal::LabelsSpent);
+    }
+    let p = stack::pop(r, frames);
+    let behind = stack::with_labels(p.registers, labels);
+    let n = stack::top(behind, frames);
+    if !inside::holds_no_more(behind) {
+        return Outcome::Stop(Refusal::OverLimit);
+    }
+    if out.len() < statements::collection_lines(out, false, n, f, had, work) {
+        return Outcome::Stop(Refusal::NoRoom);
+    }
+    let written = statements::collection_lines(out, true, n, f, had, work);
+    Outcome::Did(Done {
+        written,
+        registers: behind,
+    })
+}
+
+// The bytes that are held once the node on top has closed.
+fn held_after(r: Registers, frames: &[u32]) -> usize
+    ensures { λ n. ⌜ HeldAfter r (now (frames .entry)) n ⌝ }
+{
+    let n = stack::top(r, frames);
+    let size = main_size(n);
+    let p = stack::pop(r, frames);
+    let behind = p.registers;
+    let f = stack::top(behind, frames);
+    let at = f.at;
+    let kind = f.kind;
+    if stack::same_kind(kind, Kind::PropertyElt) {
+        return wide(at[7]) + size;
+    }
+    if stack::same_kind(kind, Kind::ParseTypeCollectionPropertyElt) {
+        return wide(at[8]) + size + 4;
+    }
+    behind.top
+}
+
+// The size of a node's subject.
+fn main_size(n: Frame) -> usize
+    ensures { λ r. ⌜ (r ≡ mainSize n) × (r < 4294967296) ⌝ }
+{
+    let at = n.at;
+    let from = wide(at[4]);
+    let to = wide(at[5]);
+    if to < from {
+        return 0;
+    }
+    to - from
+}

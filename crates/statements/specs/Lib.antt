@@ -1,0 +1,4 @@
+-- The object of a default property, and the statement of any.
+pub mod Object
+-- The cells of a Collection.
+pub mod Cells

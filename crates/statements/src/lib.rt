@@ -1,0 +1,269 @@
+// The lines that the end tag of a property writes, counted always and stored where `on`: crate writer says how.
+// `f` is the property's frame and `n` that of the node around it, which is its subject.
+ghost use mathlib.Core.Path.{_≡_};
+ghost use mathlib.Core.List.{[], _++_};
+ghost use Prim.Native.Nat.{_+_, _-_, _≤_, _<_};
+ghost use lib.Dec.{eqb};
+ghost use lib.ListN.{length};
+ghost use Rattle.spec.specs.Rdf.{rdf};
+ghost use Rattle.spec.specs.NTriples.{node, typed, label, write};
+ghost use Rattle.spec.specs.Productions.{statement};
+ghost use Rattle.spec.specs.EndTag.{objectTerm, cells, headCell};
+ghost use Rattle.copy.specs.Copy.{part};
+ghost use Rattle.frames.specs.Words.{pick};
+ghost use Rattle.state.specs.Meaning.{at, has, count, span, optional, objectOf, childrenOf, subjectOf, propertyOf};
+ghost use Rattle.inside.specs.Laws.{found};
+ghost use Rattle.nodes.specs.Laws.{childNode};
+ghost use Rattle.writer.specs.Put.{Put};
+ghost use Rattle.ntriples.specs.Terms.{termOf, cellOf};
+ghost use Rattle.statements.specs.Object.{NodeFor, LiteralFor, TermFor};
+ghost use Rattle.statements.specs.Cells.{nil, listAt, Listed};
+use frames::Frame;
+use frames::wide;
+use label::BlankNodeId;
+use label::BlankNodeIdGenerator;
+use nodes::Child;
+use ntriples::Node;
+use ntriples::Term;
+use stack::Found;
+
+// The statement of a default property: its object so far, or the empty literal.
+pub fn property_lines(
+    out: &mut [u8],
+    on: bool,
+    n: Frame,
+    f: Frame,
+    language: Found,
+    work: &[u8],
+) -> usize
+    ensures { λ r. ⌜ Put on (now (out .entry)) (now (out .exit)) 0 r (write (statement (propertyOf f (now (work .entry)) (subjectOf n (now (work .entry)))) (objectTerm (optional (has f 4) (span (now (work .entry)) (at f 6) (at f 7))) (found language (now (work .entry))) (objectOf (has f 5) (span (now (work .entry)) (at f 7) (at f 8)))))) ⌝ }
+{
+    let has = f.has;
+    let term = object_term(has[5], has[4], language.there);
+    let text = object_text(work, f);
+    let extra = type_or_tag(work, f, language);
+    statement(out, 0, on, n, f, work, term, text, extra)
+}
+
+// The statement of a Literal property: its XML text.
+pub fn literal_lines(out: &mut [u8], on: bool, n: Frame, f: Frame, work: &[u8]) -> usize
+    ensures { λ r. ⌜ Put on (now (out .entry)) (now (out .exit)) 0 r (write (statement (propertyOf f (now (work .entry)) (subjectOf n (now (work .entry)))) (typed (span (now (work .entry)) (at f 7) (at f 8)) (rdf "XMLLiteral")))) ⌝ }
+{
+    let text = part_of(work, f, 7);
+    statement(
+        out,
+        0,
+        on,
+        n,
+        f,
+        work,
+        Term::Typed,
+        text,
+        &ntriples::RDF_XML_LITERAL,
+    )
+}
+
+// How many bytes its XML text has.
+pub fn tail_size(f: Frame, work: &[u8]) -> usize
+    ensures { λ r. ⌜ r ≡ length (span (now (work .entry)) (at f 7) (at f 8)) ⌝ }
+{
+    let text = part_of(work, f, 7);
+    text.len()
+}
+
+// The cells of a Collection and then its statement; `labels` were generated before.
+pub fn collection_lines(
+    out: &mut [u8],
+    on: bool,
+    n: Frame,
+    f: Frame,
+    labels: u64,
+    work: &[u8],
+) -> usize
+    requires { ⌜ Listed f (now work) labels ⌝ }
+    ensures { λ r. ⌜ Put on (now (out .entry)) (now (out .exit)) 0 r (write (cells labels nil (childrenOf (now (work .entry)) (count f) (at f 8)) ++ statement (propertyOf f (now (work .entry)) (subjectOf n (now (work .entry)))) (node (headCell labels nil (childrenOf (now (work .entry)) (count f) (at f 8)))))) ⌝ }
+{
+    let has = f.has;
+    let children = has[6];
+    let to = cells(out, on, f, labels, work);
+    if children == 0 {
+        return statement(
+            out,
+            to,
+            on,
+            n,
+            f,
+            work,
+            Term::Named,
+            &ntriples::RDF_NIL,
+            b"",
+        );
+    }
+    let head = label_of(labels + children as u64);
+    let id = head.id;
+    statement(out, to, on, n, f, work, Term::Blank, &id, b"")
+}
+
+// Children last to first, each takes the next label.
+fn cells(out: &mut [u8], on: bool, f: Frame, labels: u64, work: &[u8]) -> usize
+    requires { ⌜ Listed f (now work) labels ⌝ }
+    ensures { λ r. ⌜ Put on (now (out .entry)) (now (out .exit)) 0 r (write (cells labels nil (childrenOf (now (work .entry)) (count f) (at f 8)))) ⌝ }
+{
+    let at = f.at;
+    let has = f.has;
+    let mut to: usize = 0;
+    let mut e = wide(at[8]);
+    let mut i = has[6];
+    let mut n = labels;
+    while i > 0 {
+        let c = nodes::child_at(work, e);
+        to = cell(out, to, on, c, labels, n, work);
+        e = c.at;
+        n += 1;
+        i -= 1;
+    }
+    to
+}
+
+// The cell of child `c`, where the labels of the list's cells follow `first`, and `n` were generated before this one.
+fn cell(out: &mut [u8], at: usize, on: bool, c: Child, first: u64, n: u64, work: &[u8]) -> usize
+    requires { ⌜ (first ≤ n) × (n < 99_999_999) ⌝ }
+    ensures { λ r. ⌜ Put on (now (out .entry)) (now (out .exit)) at r (write (cellOf (label (n + 1)) (childNode c (now (work .entry))) (listAt first n))) ⌝ }
+{
+    let own = label_of(n + 1);
+    let id = own.id;
+    let node = node_of(c.blank);
+    let member = names::piece(work, c.at, c.len);
+    if n == first {
+        return ntriples::cell(
+            out,
+            at,
+            on,
+            &id,
+            node,
+            member,
+            Node::Named,
+            &ntriples::RDF_NIL,
+        );
+    }
+    let last = label_of(n);
+    let others = last.id;
+    ntriples::cell(out, at, on, &id, node, member, Node::Blank, &others)
+}
+
+// The label that `n` counts to.
+fn label_of(n: u64) -> BlankNodeId
+    requires { ⌜ (0 < n) × (n ≤ 99_999_999) ⌝ }
+    ensures { λ r. ⌜ r .id ≡ label n ⌝ }
+{
+    let generator = BlankNodeIdGenerator { counter: n - 1 };
+    let made = generator.generate();
+    let id = made.id;
+    id
+}
+
+// The statement of property `f`, whose subject is the node `n` around it.
+fn statement(
+    out: &mut [u8],
+    at: usize,
+    on: bool,
+    n: Frame,
+    f: Frame,
+    work: &[u8],
+    term: Term,
+    front: &[u8],
+    extra: &[u8],
+) -> usize
+    ensures { λ r. ⌜ Put on (now (out .entry)) (now (out .exit)) at r (write (statement (propertyOf f (now (work .entry)) (subjectOf n (now (work .entry)))) (termOf term (now (front .entry)) (now (extra .entry))))) ⌝ }
+{
+    let marks = n.has;
+    let has = f.has;
+    let node = node_of(marks[2] != 0);
+    let s = part_of(work, n, 4);
+    let iri = part_of(work, f, 4);
+    let id = part_of(work, f, 5);
+    let reified = has[3] != 0;
+    ntriples::statement(
+        out,
+        at,
+        on,
+        reified,
+        id,
+        node,
+        s,
+        iri,
+        b"",
+        term,
+        front,
+        b"",
+        extra,
+    )
+}
+
+// What the object of a default property is: none means the empty literal.
+fn object_term(what: u32, datatype: u32, language: bool) -> Term
+    ensures { λ r. ⌜ TermFor what datatype language r ⌝ }
+{
+    if what == 1 {
+        return Term::Named;
+    }
+    if what == 2 {
+        return Term::Blank;
+    }
+    new_literal(datatype, language)
+}
+
+// Datatype beats language.
+fn new_literal(datatype: u32, language: bool) -> Term
+    ensures { λ r. ⌜ LiteralFor datatype language r ⌝ }
+{
+    if datatype != 0 {
+        return Term::Typed;
+    }
+    if language {
+        return Term::Tagged;
+    }
+    Term::Plain
+}
+
+// The bytes of the object so far.
+fn object_text(work: &[u8], f: Frame) -> &[u8]
+    ensures { λ r. ⌜ now r ≡ pick (eqb (has f 5) 0) [] (span (now (work .entry)) (at f 7) (at f 8)) ⌝ }
+{
+    let has = f.has;
+    if has[5] == 0 {
+        return names::piece(work, 0, 0);
+    }
+    part_of(work, f, 7)
+}
+
+// What stands beside a literal's text: its datatype, or else the language in force.
+fn type_or_tag(work: &[u8], f: Frame, language: Found) -> &[u8]
+    ensures { λ r. ⌜ now r ≡ pick (eqb (has f 4) 0) (part (now (work .entry)) (language .at) (language .len)) (span (now (work .entry)) (at f 6) (at f 7)) ⌝ }
+{
+    let has = f.has;
+    if has[4] == 0 {
+        return names::piece(work, language.at, language.len);
+    }
+    part_of(work, f, 6)
+}
+
+// Part `k` of a frame.
+fn part_of(work: &[u8], f: Frame, k: usize) -> &[u8]
+    requires { ⌜ k < 8 ⌝ }
+    ensures { λ r. ⌜ now r ≡ span (now (work .entry)) (at f k) (at f (k + 1)) ⌝ }
+{
+    let at = f.at;
+    let from = wide(at[k]);
+    let to = wide(at[k + 1]);
+    if to < from {
+        return names::piece(work, from, 0);
+    }
+    names::piece(work, from, to - from)
+}
+
+fn node_of(blank: bool) -> Node
+    ensures { λ r. ⌜ NodeFor blank r ⌝ }
+{
+    if blank { Node::Blank } else { Node::Named }
+}
