@@ -88,6 +88,19 @@ pub accept-handled : (bytes : Bytes) (room : ℕ) (d : Doc) {e : Event} → read
 unfolding accept handled acceptedAs _>>=_
 accept-handled bytes room d {e} q = rw q (step-then (next e d) (length bytes) room)
 
+-- the bytes of an event: 5, and then as above
+unfoldable pub parsed : Bytes → ℕ → Doc → Answer Step
+parsed bytes room d = readEvent bytes >>= λ e. handled e room d
+
+pub accept-parsed : (bytes : Bytes) (room : ℕ) (d : Doc) → (parsed bytes room d >>= acceptedAs (length bytes)) ≡ accept bytes room d
+unfolding parsed accept handled acceptedAs _>>=_
+accept-parsed bytes room d = go (readEvent bytes)
+  where
+    go : (a : Answer Event) → ((a >>= λ e. handled e room d) >>= acceptedAs (length bytes))
+        ≡ (a >>= λ e. next e d >>= λ s. (require leb (length (write (s .0))) room or NoRoom) >> acceptedAs (length bytes) s)
+    go (refuse n) = refl
+    go (good e) = step-then (next e d) (length bytes) room
+
 -- ---- the limits on what is kept
 
 -- the rdf:IDs are within their limits
