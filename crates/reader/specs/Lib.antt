@@ -5,3 +5,5 @@ pub mod Meaning
 pub mod Meets
 -- ---- how the calls come to their answers
 pub mod Starting
+-- ---- what the contracts determine
+pub mod Unique

@@ -34,6 +34,9 @@ pub struct Report {
 }
 
 impl State {
+    // The start base, in bytes: it is an IRI.
+    pub const MOST_BASE: usize = IdTable::LONGEST;
+
     // Before any document.
     pub fn none() -> Self
         ensures { λ s. ⌜ Nothing s ⌝ }
@@ -116,7 +119,7 @@ fn may_start(lengths: bool, based: bool, base: &[u8]) -> Answer
     if !iri::is_iri(base) {
         return Answer::Refused(Refusal::BadIri);
     }
-    if base.len() > IdTable::LONGEST {
+    if base.len() > State::MOST_BASE {
         return Answer::Refused(Refusal::OverLimit);
     }
     Answer::Done
