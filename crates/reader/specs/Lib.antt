@@ -7,3 +7,5 @@ pub mod Meets
 pub mod Starting
 -- ---- what the contracts determine
 pub mod Unique
+pub mod Runs
+pub mod Whole

@@ -3,18 +3,17 @@ use Prim.Native.Nat.{ℕ}
 use mathlib.Core.Path.{_≡_, refl, sym, ap, _∙_}
 use mathlib.Core.Bool.{Bool}
 use mathlib.Core.List.{List, []}
-use native.Mathlib.Omega.{arith}
 use Rattle.spec.specs.Bytes.{Bytes}
-use Rattle.spec.specs.Numbers.{number}
 use Rattle.spec.specs.declared.Refusal.{Refusal}
+use Rattle.spec.specs.declared.Refusal.the-variants.{BadState}
 use Rattle.spec.specs.Calls as calls
 use Rattle.spec.proofs.Calls.{number-positive, number-injective}
 use Rattle.reader.specs.declared.State.{State}
 use Rattle.reader.specs.declared.Answer.{Answer}
 use Rattle.reader.specs.declared.Answer.the-variants.{Done, Refused}
 use Rattle.reader.specs.declared.Report.{Report}
-use Rattle.reader.specs.Meaning.{meaningOf}
-use Rattle.reader.specs.Meets.{numberOf, Meets, Starts, Steps, Finishes}
+use Rattle.reader.specs.Meaning.{meaningOf, marked}
+use Rattle.reader.specs.Meets.{numberOf, Kept, Meets, Starts, Steps, Finishes}
 
 -- two results: a report, work store, ID store and output each
 pub record Same (r : Report) (w i out : List ℕ) (q : Report) (v j o : List ℕ) : Type 0 where
@@ -68,3 +67,14 @@ step-unique x y = unique (x .meets) (y .meets)
 
 pub finish-unique : {s : State} {w i : List ℕ} {r q : Report} → Finishes s w i r → Finishes s w i q → Same r w i [] q w i []
 finish-unique x y = unique (x .meets) (y .meets)
+
+-- ---- 3 changes nothing, not even the mark
+
+pub step-three-keeps : {last : Bool} {input : Bytes} {s : State} {w i out : List ℕ} {r : Report} {w′ i′ out′ : List ℕ}
+    → Steps last input s w i out r w′ i′ out′ → numberOf (r .answer) ≡ 3 → Kept s w i out r w′ i′ out′
+unfolding marked
+step-three-keeps {r = r} x e = x .meets .kept BadState (number-tells (r .answer) (Refused BadState) e)
+
+pub finish-three-keeps : {s : State} {w i : List ℕ} {r : Report} → Finishes s w i r → numberOf (r .answer) ≡ 3 → Kept s w i [] r w i []
+unfolding marked
+finish-three-keeps {r = r} x e = x .meets .kept BadState (number-tells (r .answer) (Refused BadState) e)
