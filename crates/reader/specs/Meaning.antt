@@ -129,6 +129,21 @@ module _ (s : State) (w i : List ℕ) where
           table = table.valid-is p q (and-right (validState (s .registers) (s .frames) (s .bindings) (s .inners) w) _ h);
         }
 
+-- an open document, for a caller that takes its state apart
+pub record Open (s : State) (w i : List ℕ) (d : Doc) : Type 0 where
+  pub lawful : lawfulState s w i ≡ true
+  pub mark : s .registers .closed ≡ false
+  pub doc : docFrom s w i ≡ d
+
+pub open-means : (s : State) (w i : List ℕ) {d : Doc} → meaningOf s w i ≡ isOpen d → Open s w i d
+unfolding meaningOf
+open-means s w i {d} = go (lawfulState s w i) refl (s .registers .closed) refl
+  where
+    go : (l : Bool) → lawfulState s w i ≡ l → (c : Bool) → s .registers .closed ≡ c → pick l (pick c (isClosed (docFrom s w i)) (isOpen (docFrom s w i))) unlawful ≡ isOpen d → Open s w i d
+    go true p false q e = record { lawful = p; mark = q; doc = cc }
+    go true p true q e = let z : _≡_ {A = ℕ} 0 1 = cc in absurd (omega arith)
+    go false p c q e = let z : _≡_ {A = ℕ} 0 1 = cc in absurd (omega arith)
+
 pub facts-lawful : (s : State) {w i out : List ℕ} → Lawful (s .registers) (s .ids .count) (s .ids .used) (lentBy s w i out) → lawfulState s w i ≡ true
 unfolding lawfulState
 facts-lawful s {w} {i} l = rw (state.is-valid (s .registers) (s .frames) (s .bindings) (s .inners) w (l .valid)) (table.is-valid (l .table))
