@@ -1,0 +1,12 @@
+-- `reader::may_finish` meets its contract: the tests are those of the definition.
+use borrow.Author.Needs.{needs}
+use Rattle.reader.specs.Starting.{overIn}
+use Rattle.reader.proofs.may_finish.Statement.{statement}
+use Rattle.reader.proofs.may_finish.Tie as tie
+
+returns : tie.Need-returns
+unfolding overIn
+returns c = search needs
+
+pub may-finish-spec : {M : Type 1} → statement M
+may-finish-spec = tie.close (tie.spec returns)

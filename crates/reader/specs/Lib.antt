@@ -1,0 +1,11 @@
+-- What the calls promise, in reading order.
+-- ---- what a state means
+pub mod Meaning
+-- ---- the contract of a call
+pub mod Meets
+-- ---- how the calls come to their answers
+pub mod Starting
+-- ---- what the contracts determine
+pub mod Unique
+pub mod Runs
+pub mod Whole
