@@ -2,32 +2,30 @@
 use Prim.Native.Nat.{ℕ, _+_, _-_, _*_, _<_, _≤_}
 use mathlib.Core.Path.{_≡_, refl, sym, ap, _∙_}
 use mathlib.Core.Bool.{Bool, true, false, false≢true}
-use mathlib.Core.Option.{Option}
-use mathlib.Core.List.{List, [], _∷_, _++_}
-use native.Mathlib.Nat.{zero-add}
+use mathlib.Core.List.{List}
 use native.Mathlib.Omega.{arith}
-use lib.Dec.{leb, ltb}
+use lib.Dec.{leb}
 use lib.ListN.{length, take, drop}
 use borrow.Author.Tests.{leb-true, leb-false, le-leb, lt-leb, lt-ltb}
 use Rattle.spec.specs.Limits as L
 use Rattle.spec.specs.Limits.{mostHeldBytes}
-use Rattle.spec.specs.Bytes.{Bytes, total}
+use Rattle.spec.specs.Bytes.{Bytes}
 use Rattle.spec.specs.declared.Refusal.{Refusal}
 use Rattle.spec.specs.declared.Refusal.the-variants.{OverLimit}
 use Rattle.spec.specs.Pyx.{Event}
-use Rattle.spec.specs.Document.{Frame as Element, frameBytes, changeValue}
+use Rattle.spec.specs.Document.{Frame as Element, changeValue}
 use Rattle.spec.specs.XmlLiteral.{takesXml}
 use Rattle.copy.specs.Copy.{part, wrote-part}
 use Rattle.writer.specs.Put.{Put, most, counted, put-wrote}
 use Rattle.frames.specs.declared.Kind.{Kind}
 use Rattle.frames.specs.declared.Kind.the-variants.{ParseTypeLiteralPropertyElt, ParseTypeOtherPropertyElt}
-use Rattle.frames.specs.Words.{pick, frameAt}
+use Rattle.frames.specs.Words.{pick}
 use Rattle.state.specs.declared.Registers.{Registers}
 use Rattle.state.specs.Meaning.{at, startOf, elementsOf}
 use Rattle.state.specs.Valid.{Valid}
 use Rattle.state.specs.Held.{room}
 use Rattle.stack.specs.declared.Changed.{Changed}
-use Rattle.stack.specs.Calls.{topFrame, sameKind, Xmls, Tails, mayTail}
+use Rattle.stack.specs.Calls.{topFrame, sameKind, Xmls, mayTail}
 use Rattle.stack.specs.Change.{Holds, toppedTo, top-frame}
 use Rattle.stack.specs.Laws.{by, xml-holds, topmost, top-deep}
 use Rattle.inside.specs.Calls.{heldIn, held-is}
@@ -36,7 +34,7 @@ use Rattle.event.specs.declared.Outcome.{Outcome}
 use Rattle.event.specs.declared.Outcome.the-variants.{Stop, Did}
 use Rattle.event.specs.Result.{Asks}
 use Rattle.literal.specs.Quiet.{Quiet, Quietly, heldWith, held-with, holds-self, holds-as, quiet-over, quiet-done}
-use Rattle.literal.specs.Xml.{keepsXml, adds-nothing, adds-bytes, keeps-read}
+use Rattle.literal.specs.Xml.{adds-nothing, adds-bytes, keeps-read}
 
 -- n is a writer's count of x, whose bytes, if they have room, are the first of `area`
 pub record XmlIn (area : List ℕ) (n : ℕ) (x : Bytes) : Type 0 where

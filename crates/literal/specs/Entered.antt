@@ -1,11 +1,10 @@
 -- One more element inside Literal content: its name and bindings are put below what is held at the far end of the work store.
-use mathlib.Core.Path.{_≡_, refl, sym, ap, _∙_}
-use mathlib.Core.Bool.{Bool, true, false}
+use mathlib.Core.Path.{_≡_, refl, ap, _∙_}
+use mathlib.Core.Bool.{Bool, true}
 use mathlib.Core.Option.{Option, none}
-use mathlib.Core.List.{List, [], _∷_, _++_}
+use mathlib.Core.List.{List, _∷_}
 use Prim.Native.Nat.{ℕ, _+_, _-_, _*_, _<_, _≤_}
 use native.Mathlib.Omega.{arith}
-use lib.Dec.{leb, ltb}
 use lib.ListN.{length}
 use borrow.Author.Tests.{le-leb, lt-ltb}
 use Rattle.spec.specs.Limits as L
@@ -13,18 +12,17 @@ use Rattle.spec.specs.Bytes.{Bytes, total, sizeOf}
 use Rattle.spec.specs.declared.Refusal.{Refusal}
 use Rattle.spec.specs.Pyx.{Attribute, opening}
 use Rattle.spec.specs.Namespaces.{Binding, declared}
-use Rattle.spec.specs.Document.{Frame as Element, xmlElement, changeValue, bindingBytes, kindBytes, frameBytes, placeIn, xml}
-use Rattle.spec.specs.XmlLiteral.{startTagXml, takesXml}
+use Rattle.spec.specs.Document.{Frame as Element, xmlElement, bindingBytes, kindBytes, frameBytes, placeIn, xml}
+use Rattle.spec.specs.XmlLiteral.{startTagXml}
 use Rattle.copy.specs.Copy.{part, Put, Wrote, put-fits, wrote-part, wrote-same}
-use Rattle.frames.specs.Kept.{Kept, kept-then, kept-less, kept-before, kept-behind}
+use Rattle.frames.specs.Kept.{kept-then, kept-less, kept-before, kept-behind}
 use Rattle.state.specs.declared.Registers.{Registers}
 use Rattle.state.specs.Meaning.{startOf, elementsOf}
 use Rattle.state.specs.Valid.{Valid}
 use Rattle.state.specs.Held.{room}
 use Rattle.stack.specs.declared.Changed.{Changed}
 use Rattle.stack.specs.Change.{Holds, toppedTo}
-use Rattle.stack.specs.Laws.{Bound}
-use Rattle.inside.specs.Calls.{Opens, mayOpen, heldIn, held-is}
+use Rattle.inside.specs.Calls.{Opens, mayOpen, held-is}
 use Rattle.inside.specs.Laws.{Written, open-holds}
 use Rattle.names.specs.Tag.{attributesOf}
 use Rattle.element.specs.declared.Next.{Next}

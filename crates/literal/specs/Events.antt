@@ -1,11 +1,9 @@
 -- What the definitions say of events inside Literal content, of the document that a state means.
-use mathlib.Core.Path.{_≡_, refl, sym, ap, _∙_}
-use mathlib.Core.Bool.{Bool, true, false}
+use mathlib.Core.Path.{_≡_, ap, _∙_}
+use mathlib.Core.Bool.{true, false}
 use mathlib.Core.List.{List, _∷_, _++_}
-use Prim.Native.Nat.{ℕ, suc, _+_, _-_, _*_, _<_, _≤_}
+use Prim.Native.Nat.{ℕ, _-_, _<_}
 use native.Mathlib.Omega.{arith}
-use lib.Dec.{ltb}
-use lib.ListN.{length}
 use borrow.Author.Tests.{ne-eqb, lt-ltb}
 use Rattle.spec.specs.Bytes.{Bytes, same, _>>_, require_or_}
 use Rattle.spec.specs.declared.Refusal.the-variants.{NotWellFormed}
@@ -15,7 +13,7 @@ use Rattle.spec.specs.XmlLiteral.{textXml, endTagXml, takesXml, addXml}
 use Rattle.spec.specs.EndTag.{closeElement, endKind}
 use Rattle.spec.specs.RdfXml.{onEvent, onText}
 use Rattle.copy.specs.Copy.{part}
-use Rattle.frames.specs.Words.{pick, rowAt, load-row}
+use Rattle.frames.specs.Words.{rowAt, load-row}
 use Rattle.state.specs.declared.Registers.{Registers}
 use Rattle.state.specs.Meaning.{bindingsOf, framesOf, innerOf, innersOf, startOf, elementsOf, docOf}
 use Rattle.state.specs.Valid.{Valid}

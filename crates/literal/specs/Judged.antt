@@ -3,40 +3,31 @@ use mathlib.Core.Path.{_≡_, refl, sym, ap, _∙_}
 use mathlib.Core.Bool.{Bool, true, false, _&&_, _||_, not, false≢true}
 use mathlib.Core.Option.{none}
 use mathlib.Core.List.{List, [], _∷_, _++_}
-use Prim.Native.Nat.{ℕ, zero, suc, _+_, _-_, _<_, _≤_}
+use Prim.Native.Nat.{ℕ, zero, suc, _+_, _<_, _≤_}
 use native.Mathlib.Omega.{arith}
-use lib.Dec.{leb, eqb}
+use lib.Dec.{leb}
 use lib.ListN.{length, take, length-append}
-use borrow.Author.Tests.{le-leb, lt-leb, leb-true, leb-false}
+use borrow.Author.Tests.{leb-true}
 use Rattle.spec.specs.Limits as L
 use Rattle.spec.specs.Limits.{mostOpenElements, mostAttributes, mostBindings}
-use Rattle.spec.specs.Bytes.{Bytes, isEmpty, isSome, if_then_else_, _>>=_, _>>_, require_or_, each}
+use Rattle.spec.specs.Bytes.{Bytes, isEmpty, if_then_else_, _>>=_, _>>_, require_or_, each}
 use Rattle.spec.specs.Numbers.{Answer, refuse, good}
 use Rattle.spec.specs.declared.Refusal.{Refusal}
 use Rattle.spec.specs.declared.Refusal.the-variants.{NotWellFormed, OverLimit, NoNamespace}
-use Rattle.spec.specs.Pyx.{Attribute, attribute, opening}
-use Rattle.spec.specs.XmlNames.{prefixOf}
-use Rattle.spec.specs.Namespaces.{Binding, declared, isDeclaration, nameOf, allLegal, namespace, isKnown, repeatsWritten}
-use Rattle.spec.specs.Document.{Frame as Element, xmlElement, Doc, withFrames, changeValue, inScope, placeIn, outside, xml}
+use Rattle.spec.specs.Pyx.{Attribute, opening}
+use Rattle.spec.specs.Namespaces.{Binding, declared, isDeclaration, nameOf, allLegal, isKnown, repeatsWritten}
+use Rattle.spec.specs.Document.{Frame as Element, xmlElement, Doc, withFrames, changeValue, inScope, placeIn, xml}
 use Rattle.spec.specs.XmlLiteral.{startTagXml, takesXml, addXml}
 use Rattle.spec.specs.Opening.{Step, isSecondRoot, countsFit, knownAttribute, copyElement, openIn, isXml, repeated, onOpening}
 use Rattle.spec.specs.RdfXml.{onEvent}
 use Rattle.spec.proofs.Booleans.{and-left, and-right}
-use Rattle.copy.specs.Copy.{part}
-use Rattle.frames.specs.Words.{pick}
 use Rattle.state.specs.declared.Registers.{Registers}
 use Rattle.state.specs.Meaning.{bindingsOf, elementsOf, docOf}
 use Rattle.state.specs.Valid.{Valid}
 use Rattle.state.specs.Held.{depth}
 use Rattle.state.specs.Live.{in-scope}
-use Rattle.stack.specs.Laws.{by}
-use Rattle.names.specs.declared.Found.{Found}
-use Rattle.names.specs.declared.Found.the-variants.{Unknown, Xml, Own, Held}
-use Rattle.names.specs.Tag.{nameAt, valueAt, colonAt, attributeAt, attributesFrom, attributesOf, attributes-all, attributes-more, attributes-end, frontOf, Split, Splits}
-use Rattle.names.specs.Declarations.{is-empty, not-empty}
-use Rattle.names.specs.Found.{foundBytes, scope}
-use Rattle.event.specs.declared.Outcome.{Outcome}
-use Rattle.event.specs.declared.Outcome.the-variants.{Stop as Refused, Did}
+use Rattle.names.specs.Tag.{attributesFrom, Split, Splits}
+use Rattle.event.specs.declared.Outcome.the-variants.{Stop as Refused}
 use Rattle.literal.specs.declared.Judged.{Judged}
 use Rattle.literal.specs.declared.Judged.the-variants.{Stop, Go}
 use Rattle.literal.specs.Quiet.{Quietly, Quiet, quiet-refused}

@@ -1,8 +1,8 @@
 -- 8 inside Literal content: is each prefix known?
-use mathlib.Core.Path.{_≡_, refl, sym, ap, _∙_}
+use mathlib.Core.Path.{_≡_, sym, ap, _∙_}
 use mathlib.Core.Bool.{Bool, true, false, _&&_, _||_}
 use mathlib.Core.Option.{some}
-use mathlib.Core.List.{List, [], _∷_, _++_}
+use mathlib.Core.List.{List, _++_}
 use Prim.Native.Nat.{ℕ, suc, _+_, _-_, _<_, _≤_}
 use native.Mathlib.Omega.{arith}
 use lib.ListN.{length, length-append}
@@ -10,9 +10,7 @@ use lib.Dec.{leb}
 use borrow.Author.Tests.{le-leb, lt-leb, leb-true, leb-false}
 use Rattle.spec.specs.Limits as L
 use Rattle.spec.specs.Bytes.{Bytes, isEmpty, isSome}
-use Rattle.spec.specs.Pyx.{Attribute}
 use Rattle.spec.specs.Namespaces.{Binding, declared, isDeclaration, nameOf, namespace, isKnown}
-use Rattle.state.specs.declared.Registers.{Registers}
 use Rattle.state.specs.Meaning.{bindingsOf}
 use Rattle.stack.specs.Laws.{by}
 use Rattle.names.specs.declared.Found.{Found}

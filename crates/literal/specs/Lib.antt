@@ -1,11 +1,11 @@
--- Events that write no lines.
+-- Events that write no lines: what their handlers promise.
 pub mod Quiet
--- XML text that is added to a Literal property.
+-- XML text: which property keeps it, and what adding it does.
 pub mod Xml
 pub mod Added
--- What the definitions say of the events here.
+-- Text and end tags.
 pub mod Events
--- A start tag, judged.
+-- Start tags: judged, copied, and one more element open.
 pub mod Judged
 pub mod Known
 pub mod Copied

@@ -1,34 +1,32 @@
 -- Events that write no lines: what their handlers promise, and how they come to it.
 use Prim.Native.Nat.{ℕ, _+_, _<_, _≤_}
-use mathlib.Core.Path.{_≡_, refl, sym, ap, _∙_}
-use mathlib.Core.Bool.{Bool, true, false}
+use mathlib.Core.Path.{_≡_, refl, ap, _∙_}
+use mathlib.Core.Bool.{Bool, false}
 use mathlib.Core.Option.{Option}
-use mathlib.Core.List.{List, [], _∷_, _++_}
+use mathlib.Core.List.{List, []}
 use native.Mathlib.Omega.{arith}
 use lib.Dec.{leb}
 use lib.ListN.{length}
 use borrow.Author.Tests.{le-leb, lt-leb}
 use Rattle.spec.specs.Limits as L
 use Rattle.spec.specs.Bytes.{Bytes, total, sizeOf}
-use Rattle.spec.specs.Numbers.{Answer, refuse, good}
+use Rattle.spec.specs.Numbers.{refuse, good}
 use Rattle.spec.specs.declared.Refusal.{Refusal}
 use Rattle.spec.specs.declared.Refusal.the-variants.{OverLimit}
 use Rattle.spec.specs.Pyx.{Event}
 use Rattle.spec.specs.NTriples.{write}
-use Rattle.spec.specs.Document.{Frame as Element, Doc, withFrames, frameBytes, heldBytes, fits}
-use Rattle.spec.specs.Opening.{Step}
+use Rattle.spec.specs.Document.{Frame as Element, withFrames, frameBytes, heldBytes, fits}
 use Rattle.spec.specs.RdfXml.{onEvent}
-use Rattle.copy.specs.Copy.{Wrote, wrote-none}
+use Rattle.copy.specs.Copy.{wrote-none}
 use Rattle.state.specs.declared.Registers.{Registers}
 use Rattle.state.specs.Meaning.{startOf, elementsOf, docOf}
 use Rattle.state.specs.Valid.{Valid}
 use Rattle.stack.specs.Change.{Holds, holds-doc}
 use Rattle.inside.specs.Calls.{heldIn}
 use Rattle.inside.specs.Laws.{held-read}
-use Rattle.event.specs.declared.Done.{Done}
 use Rattle.event.specs.declared.Outcome.{Outcome}
 use Rattle.event.specs.declared.Outcome.the-variants.{Stop, Did}
-use Rattle.event.specs.Result.{handled, handled-by, refused-on, over-limit, all-fits, fits-held, IdsFit, Means, Doing, Result, stopped, done, Handles, Asks}
+use Rattle.event.specs.Result.{handled-by, refused-on, over-limit, all-fits, fits-held, IdsFit, stopped, done, Handles, Asks}
 
 -- whatever room there is for lines: none is written
 pub record Quietly (e : Event) (r : Registers) (o : Outcome) (fs bs is w fs′ bs′ is′ w′ : List ℕ) : Type 0 where

@@ -1,21 +1,19 @@
 -- XML text that is added: which property keeps it, and what the open elements hold then.
-use Prim.Native.Nat.{ℕ, zero, suc, _+_, _-_, _*_, _<_, _≤_}
+use Prim.Native.Nat.{ℕ, zero, suc, _+_, _-_}
 use mathlib.Core.Path.{_≡_, refl, sym, ap, _∙_}
 use mathlib.Core.Bool.{Bool, true, false, false≢true}
-use mathlib.Core.Option.{Option}
 use mathlib.Core.List.{List, [], _∷_, _++_}
 use native.Mathlib.Omega.{arith}
-use lib.Dec.{eqb, leb}
 use lib.ListN.{length, length-append}
-use borrow.Author.Tests.{eqb-true, eq-eqb, ne-eqb}
+use borrow.Author.Tests.{eq-eqb}
 use Rattle.spec.specs.Bytes.{Bytes, if_then_else_, total}
 use Rattle.spec.specs.NTriples.{Subject}
-use Rattle.spec.specs.Document.{Value, default, collection, literal, other, Kind as What, rdfRDF, nodeElement, propertyElement, xmlElement, Frame as Element, withKind, onValue, isXmlElement, changeValue, valueBytes, kindBytes, frameBytes}
+use Rattle.spec.specs.Document.{default, collection, literal, other, Kind as What, rdfRDF, nodeElement, propertyElement, xmlElement, Frame as Element, withKind, onValue, isXmlElement, changeValue, valueBytes, kindBytes, frameBytes}
 use Rattle.spec.specs.XmlLiteral.{takesXml}
 use Rattle.frames.specs.declared.Kind.{Kind}
 use Rattle.frames.specs.declared.Kind.the-variants.{Rdf, NodeElt, PropertyElt, ParseTypeCollectionPropertyElt, ParseTypeLiteralPropertyElt, ParseTypeOtherPropertyElt}
 use Rattle.frames.specs.declared.Frame.{Frame}
-use Rattle.frames.specs.Words.{pick, frameAt, rowAt, noFrame, load-frame}
+use Rattle.frames.specs.Words.{frameAt, rowAt}
 use Rattle.state.specs.declared.Registers.{Registers}
 use Rattle.state.specs.Meaning.{whatOf, elementOf, framesOf, innerOf, innersOf, subjectBelow, elementsOf}
 use Rattle.state.specs.Valid.{Valid}

@@ -1,25 +1,25 @@
 // Events inside Literal content: their XML text is made in a lent area, and then added to the Literal property around.
 ghost use mathlib.Core.Path.{_≡_};
+ghost use mathlib.Core.Bool.{true};
 ghost use Prim.Native.Nat.{_+_, _<_, _≤_};
 ghost use lib.Dec.{leb};
 ghost use lib.ListN.{length, take};
 ghost use Rattle.spec.specs.Limits.{mostHeldBytes};
 ghost use Rattle.spec.specs.Pyx.{text, closing, opening};
-ghost use Rattle.spec.specs.Document.{placeIn, xml};
-ghost use mathlib.Core.Bool.{true};
 ghost use Rattle.spec.specs.Namespaces.{declared};
+ghost use Rattle.spec.specs.Document.{placeIn, xml};
 ghost use Rattle.spec.specs.XmlLiteral.{attributesXml, startTagXml};
 ghost use Rattle.writer.specs.Put.{Put};
-ghost use Rattle.names.specs.Tag.{attributesOf, Split, Splits};
-ghost use Rattle.names.specs.Found.{scope};
-ghost use Rattle.literal.specs.Judged.{Tag, Judges, counts, allKnown};
-ghost use Rattle.literal.specs.Entered.{Ready, Room, Enters};
-ghost use Rattle.literal.specs.Known.{knownPrefix, knownAt};
 ghost use Rattle.state.specs.Meaning.{elementsOf};
 ghost use Rattle.inside.specs.Calls.{heldIn};
+ghost use Rattle.names.specs.Tag.{attributesOf, Split, Splits};
+ghost use Rattle.names.specs.Found.{scope};
 ghost use Rattle.event.specs.Result.{Asks};
 ghost use Rattle.literal.specs.Quiet.{Quietly};
 ghost use Rattle.literal.specs.Added.{Adds, keptOf};
+ghost use Rattle.literal.specs.Judged.{Tag, Judges, counts, allKnown};
+ghost use Rattle.literal.specs.Known.{knownPrefix, knownAt};
+ghost use Rattle.literal.specs.Entered.{Ready, Room, Enters};
 use element::Next;
 use event::Done;
 use event::Outcome;
@@ -39,7 +39,7 @@ enum Judged {
     Go,
 }
 
-// Text.
+// Text in Literal content.
 pub fn text_inside(
     r: Registers,
     frames: &mut [u32],
@@ -102,7 +102,16 @@ pub fn start_inside(
     match judged {
         Judged::Stop(n) => Outcome::Stop(n),
         Judged::Go => copy_element(
-            r, frames, bindings, inners, work, scratch, spans, name, k, area,
+            r,
+            frames,
+            bindings,
+            inners,
+            work,
+            scratch,
+            spans,
+            name,
+            k,
+            area,
         ),
     }
 }
@@ -301,7 +310,17 @@ fn copy_element(
         Outcome::Stop(n) => Outcome::Stop(n),
         Outcome::Did(d) => {
             let behind = d.registers;
-            let open = enter(behind, bindings, inners, work, scratch, spans, name, k, more);
+            let open = enter(
+                behind,
+                bindings,
+                inners,
+                work,
+                scratch,
+                spans,
+                name,
+                k,
+                more,
+            );
             Outcome::Did(Done {
                 written: 0,
                 registers: open,

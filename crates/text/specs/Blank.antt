@@ -1,10 +1,10 @@
 -- Events that change nothing, and text where only blank text may stand.
 use Prim.Native.Nat.{ℕ, _<_, _≤_}
-use mathlib.Core.Path.{_≡_, refl, sym, _∙_}
-use mathlib.Core.Bool.{Bool, true, false}
+use mathlib.Core.Path.{_≡_, refl, _∙_}
+use mathlib.Core.Bool.{true, false}
 use mathlib.Core.List.{List, []}
 use Rattle.spec.specs.Bytes.{Bytes, _>>_, require_or_}
-use Rattle.spec.specs.Numbers.{refuse, good}
+use Rattle.spec.specs.Numbers.{good}
 use Rattle.spec.specs.NTriples.{Subject}
 use Rattle.spec.specs.declared.Refusal.the-variants.{OverLimit, StrayText}
 use Rattle.spec.specs.Pyx.{Event, text}
@@ -12,17 +12,16 @@ use Rattle.spec.specs.Document as D
 use Rattle.spec.specs.Document.{withFrames, placeIn}
 use Rattle.spec.specs.RdfXml.{onEvent, onText, isBlank}
 use Rattle.state.specs.declared.Registers.{Registers}
-use Rattle.state.specs.Meaning.{startOf, elementsOf, docOf}
+use Rattle.state.specs.Meaning.{elementsOf, docOf}
 use Rattle.state.specs.Valid.{Valid}
 use Rattle.inside.specs.Calls.{heldIn}
-use Rattle.event.specs.declared.Done.{Done}
 use Rattle.event.specs.declared.Outcome.{Outcome}
 use Rattle.event.specs.declared.Outcome.the-variants.{Stop, Did}
 use Rattle.event.specs.declared.Place.{Place}
 use Rattle.event.specs.declared.Place.the-variants.{Outside, Nodes, Properties, Xml}
 use Rattle.event.specs.Place.{placeAt, placeIs, place-read}
 use Rattle.event.specs.Result.{Asks}
-use Rattle.literal.specs.Quiet.{Quietly, Quiet, heldWith, held-with, holds-self, quiet-refused, quiet-over, quiet-done}
+use Rattle.literal.specs.Quiet.{Quietly, Quiet, held-with, holds-self, quiet-refused, quiet-over, quiet-done}
 
 -- o is the outcome of an event that changes nothing
 pub record Unchanged (r : Registers) (o : Outcome) : Type 0 where

@@ -1,16 +1,15 @@
 -- Text in a default property: it replaces the object so far.
-use Prim.Native.Nat.{ℕ, suc, _+_, _-_, _*_, _<_, _≤_}
+use Prim.Native.Nat.{ℕ, _+_, _-_, _*_, _<_, _≤_}
 use mathlib.Core.Path.{_≡_, refl, sym, ap, _∙_}
 use mathlib.Core.Bool.{Bool, true, false, false≢true, _&&_}
 use mathlib.Core.List.{List, [], _∷_}
 use native.Mathlib.Omega.{arith}
-use lib.Dec.{eqb, leb, ltb}
+use lib.Dec.{eqb, leb}
 use lib.ListN.{length, length-set}
 use borrow.Author.Tests.{leb-true, leb-false, le-leb, lt-leb, lt-ltb}
 use Rattle.spec.specs.Limits as L
-use Rattle.spec.specs.Limits.{mostHeldBytes, workStoreBytes}
+use Rattle.spec.specs.Limits.{mostHeldBytes}
 use Rattle.spec.specs.Bytes.{Bytes, if_then_else_, total}
-use Rattle.spec.specs.Numbers.{good}
 use Rattle.spec.specs.declared.Refusal.the-variants.{OverLimit}
 use Rattle.spec.specs.Pyx.{text}
 use Rattle.spec.specs.Document as D
@@ -26,8 +25,8 @@ use Rattle.state.specs.Meaning.{at, startOf, elementsOf, docOf}
 use Rattle.state.specs.Valid.{Valid, rising}
 use Rattle.state.specs.Held.{room}
 use Rattle.stack.specs.declared.Changed.{Changed}
-use Rattle.stack.specs.Calls.{topFrame, sameKind, tailTo, Texts, Tails, mayTail}
-use Rattle.stack.specs.Change.{Holds, toppedTo, top-frame}
+use Rattle.stack.specs.Calls.{topFrame, sameKind, tailTo, Texts, mayTail}
+use Rattle.stack.specs.Change.{toppedTo, top-frame}
 use Rattle.stack.specs.Laws.{by, text-holds, topmost, top-deep, length-at, length-has}
 use Rattle.inside.specs.Calls.{heldIn, held-is}
 use Rattle.event.specs.declared.Place.{Place}
@@ -36,7 +35,7 @@ use Rattle.event.specs.declared.Outcome.{Outcome}
 use Rattle.event.specs.declared.Outcome.the-variants.{Stop, Did}
 use Rattle.event.specs.Place.{placeOf, placeAt, placeIs, place-read}
 use Rattle.event.specs.Result.{Asks}
-use Rattle.literal.specs.Quiet.{Quietly, Quiet, heldWith, held-with, holds-self, quiet-over, quiet-done}
+use Rattle.literal.specs.Quiet.{Quietly, Quiet, heldWith, held-with, quiet-over, quiet-done}
 use Rattle.text.specs.Blank.{Unchanged}
 
 -- ---- in the definitions

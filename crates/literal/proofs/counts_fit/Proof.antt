@@ -1,7 +1,7 @@
 -- `literal::counts_fit` meets its contract, test by test.
-use Rattle.literal.specs.Known.{counts-deep, counts-many, counts-bound, counts-rest}
-use mathlib.Core.Path.{refl, sym, ap}
 use Prim.Native.Nat.{_+_}
+use Rattle.literal.specs.Known.{counts-deep, counts-many, counts-bound, counts-rest}
+use mathlib.Core.Path.{sym, ap}
 use native.Mathlib.Omega.{arith}
 use borrow.Author.Needs.{needs}
 use Rattle.literal.proofs.counts_fit.Statement.{statement}
