@@ -24,8 +24,8 @@ use Rattle.ids.specs.Ids as Ids
 use Rattle.reference.specs.declared.Reference.{Reference}
 use Rattle.reference.specs.declared.Reference.the-variants.{Missing, Bad, Long, Made}
 use Rattle.reference.specs.Reference.{isBad, isLong, Refers, Resolves, refers-as, refers-kept}
-use Rattle.roles.specs.Reads.{meaningsOf, Roles}
-use Rattle.roles.specs.First.{firstIn}
+use Rattle.attributes.specs.Reads.{meaningsOf, Roles}
+use Rattle.attributes.specs.First.{firstIn}
 use Rattle.references.specs.declared.Others.{Others}
 use Rattle.references.specs.declared.References.{References}
 use Rattle.references.specs.declared.Resolutions.{Resolutions}

@@ -16,8 +16,8 @@ use Rattle.stack.specs.declared.Found.{Found}
 use Rattle.inside.specs.Laws.{found}
 use Rattle.names.specs.Tag.{startAt, sizeAt, valueSizeAt, valueAt}
 use Rattle.reference.specs.Reference.{given}
-use Rattle.roles.specs.Reads.{meaningsOf, Roles}
-use Rattle.roles.specs.First.{firstIn, first-some, first-none}
+use Rattle.attributes.specs.Reads.{meaningsOf, Roles}
+use Rattle.attributes.specs.First.{firstIn, first-some, first-none}
 
 -- a part is no longer than what it is of
 pub part-most : (s : List ℕ) (at n : ℕ) → length (part s at n) ≤ length s

@@ -4,7 +4,7 @@ ghost use Rattle.spec.specs.StartTag.{resolved, withHash, rdf-ID};
 ghost use Rattle.inside.specs.Calls.{baseIn};
 ghost use Rattle.reference.specs.Reference.{given, Resolves};
 ghost use Rattle.roles.specs.Role.{roleIs};
-ghost use Rattle.roles.specs.First.{firstIn};
+ghost use Rattle.attributes.specs.First.{firstIn};
 ghost use Rattle.references.specs.Values.{valueIf, inForce};
 ghost use Rattle.references.specs.References.{fiveAt, references, freshBy, usedBy, Ready, Four, anyBad, anyLong, Resolving};
 use reference::Area;
@@ -91,7 +91,7 @@ pub fn resolve_references(
     requires { ⌜ Ready (now scratch) (now work) (now area) 4096 ⌝ }
     ensures { λ q. ⌜ Resolving (references (inForce (now (scratch .entry)) (now (spans .entry)) (now (work .entry)) k (now (roles .entry)) (baseIn r (now (frames .entry)))) (freshBy count (now (starts .entry)) (now (sizes .entry)) (now (ids .entry))) (fiveAt (now (scratch .entry)) (now (spans .entry)) k (now (roles .entry)))) (now (area .entry)) (now (area .exit)) q ⌝ }
 {
-    let j = roles::first_in(roles, k, Role::XmlBase);
+    let j = attributes::first_in(roles, k, Role::XmlBase);
     if j < k {
         let own = names::value_of(scratch, spans, j);
         return resolve_on(
@@ -168,7 +168,7 @@ fn resolve_id(
     requires { ⌜ Ready (now scratch) (now base) (now area) 0 ⌝ }
     ensures { λ r. ⌜ Resolves (resolved (given based (now (base .entry))) (withHash (valueIf (now (scratch .entry)) (now (spans .entry)) k (firstIn (now (roles .entry)) k rdf-ID)))) (now (area .entry)) (now (area .exit)) 0 r ⌝ }
 {
-    let j = roles::first_in(roles, k, Role::Id);
+    let j = attributes::first_in(roles, k, Role::Id);
     let value = names::value_of(scratch, spans, j);
     reference::resolved_id(based, base, j < k, value, area)
 }
@@ -271,7 +271,7 @@ fn resolve_in(
     requires { ⌜ Ready (now scratch) (now base) (now area) at ⌝ }
     ensures { λ r. ⌜ Resolves (resolved (given based (now (base .entry))) (valueIf (now (scratch .entry)) (now (spans .entry)) k (firstIn (now (roles .entry)) k (roleIs role)))) (now (area .entry)) (now (area .exit)) at r ⌝ }
 {
-    let j = roles::first_in(roles, k, role);
+    let j = attributes::first_in(roles, k, role);
     let value = names::value_of(scratch, spans, j);
     reference::resolved(based, base, j < k, value, area, at)
 }

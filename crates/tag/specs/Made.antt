@@ -27,9 +27,9 @@ use Rattle.reference.specs.Reference.{given, isLong, Refers, Resolves, refers-k
 use Rattle.references.specs.declared.References.{References}
 use Rattle.references.specs.Values.{valueIf, value-most}
 use Rattle.references.specs.References.{anyLong}
-use Rattle.roles.specs.Places.{places}
-use Rattle.roles.specs.First.{firstIn}
-use Rattle.roles.specs.Short.{shortAt}
+use Rattle.attributes.specs.Places.{places}
+use Rattle.attributes.specs.First.{firstIn}
+use Rattle.attributes.specs.Short.{shortAt}
 use Rattle.tag.specs.declared.Tag.{Tag}
 
 -- ---- the expanded name

@@ -39,14 +39,14 @@ use Rattle.references.specs.declared.Resolutions.{Resolutions}
 use Rattle.references.specs.declared.Resolutions.the-variants.{Stop as Refused, Good as Came}
 use Rattle.references.specs.Values.{valueIf, first-value, inForce}
 use Rattle.references.specs.References.{Five, references, others, fiveOf, fiveAt, five-means, freshBy, fresh-means, references-fresh, Resolved, Resolving}
-use Rattle.roles.specs.Places.{places}
+use Rattle.attributes.specs.Places.{places}
 use Rattle.roles.specs.declared.Judgment.{Judgment}
 use Rattle.roles.specs.declared.Judgment.the-variants.{Good as Fine, Stop as Wrong}
 use Rattle.roles.specs.Judgment.{said}
-use Rattle.roles.specs.Reads as R
-use Rattle.roles.specs.Reads.{meaningsOf, Roles, reads-mean}
-use Rattle.roles.specs.First.{firstIn, properties-some, properties-none}
-use Rattle.roles.specs.Short.{short-means}
+use Rattle.attributes.specs.Reads as R
+use Rattle.attributes.specs.Reads.{meaningsOf, Roles, reads-mean}
+use Rattle.attributes.specs.First.{firstIn, properties-some, properties-none}
+use Rattle.attributes.specs.Short.{short-means}
 use Rattle.tag.specs.declared.Tag.{Tag}
 use Rattle.tag.specs.declared.Read.{Read}
 use Rattle.tag.specs.declared.Read.the-variants.{Stop, Good}

@@ -11,8 +11,8 @@ ghost use Rattle.names.specs.Tag.{backOf};
 ghost use Rattle.names.specs.Found.{foundBytes};
 ghost use Rattle.reference.specs.Reference.{Resolves};
 ghost use Rattle.references.specs.Values.{valueIf};
-ghost use Rattle.roles.specs.Places.{places};
-ghost use Rattle.roles.specs.Short.{shortAt};
+ghost use Rattle.attributes.specs.Places.{places};
+ghost use Rattle.attributes.specs.Short.{shortAt};
 ghost use Rattle.tag.specs.Made.{isUnknown, iriOf, Lowered, shortIf, shortBy, RoomToMake, Finished};
 ghost use Rattle.tag.specs.Tag.{Asks, Reads};
 use names::Found;
@@ -80,7 +80,7 @@ pub fn read_tag(
     if is_unknown(found) {
         return Read::Stop(Refusal::NoNamespace);
     }
-    let judgment = roles::read_attributes(scratch, spans, k, work, classes, roles);
+    let judgment = attributes::read_attributes(scratch, spans, k, work, classes, roles);
     if let Judgment::Stop(n) = judgment {
         return Read::Stop(n);
     }
@@ -151,16 +151,16 @@ fn tag_of(
     let datatype = others.datatype;
     let kind = others.kind;
     let iri = make_iri(found, name, c, scratch, work, area);
-    let base = roles::first_in(roles, k, Role::XmlBase);
-    let language = roles::first_in(roles, k, Role::XmlLang);
+    let base = attributes::first_in(roles, k, Role::XmlBase);
+    let language = attributes::first_in(roles, k, Role::XmlLang);
     make_lower(scratch, spans, k, language, area);
-    let property = roles::first_in(roles, k, Role::Property);
+    let property = attributes::first_in(roles, k, Role::Property);
     Tag {
         iri,
         base,
         language,
-        node: roles::first_in(roles, k, Role::NodeId),
-        parse: roles::first_in(roles, k, Role::ParseType),
+        node: attributes::first_in(roles, k, Role::NodeId),
+        parse: attributes::first_in(roles, k, Role::ParseType),
         id,
         about,
         resource,
@@ -237,7 +237,7 @@ fn is_short(
     if iri.is_long() {
         return false;
     }
-    if !roles::names_short(scratch, spans, k, work, classes) {
+    if !attributes::names_short(scratch, spans, k, work, classes) {
         return false;
     }
     if is_long_value(scratch, spans, k, j) {

@@ -3,8 +3,8 @@ use mathlib.Core.Path.{sym, _∙_}
 use borrow.Author.Tests.{not-true, not-false}
 use Rattle.spec.specs.Bytes.{every}
 use Rattle.tag.specs.Made.{iri-long, name-long, base-long, id-long, others-decide}
-use Rattle.roles.specs.Short.{shortAt}
-use Rattle.roles.specs.Places.{places}
+use Rattle.attributes.specs.Short.{shortAt}
+use Rattle.attributes.specs.Places.{places}
 use Rattle.references.specs.Values.{valueIf}
 use borrow.Author.Needs.{needs}
 use Rattle.tag.proofs.is_short.Statement.{statement}
