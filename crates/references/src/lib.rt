@@ -1,0 +1,277 @@
+// The references of a start tag, resolved on the base that holds for it: refusals 11 and 12.
+ghost use mathlib.Core.Path.{_≡_};
+ghost use Rattle.spec.specs.StartTag.{resolved, withHash, rdf-ID};
+ghost use Rattle.inside.specs.Calls.{baseIn};
+ghost use Rattle.reference.specs.Reference.{given, Resolves};
+ghost use Rattle.roles.specs.Role.{roleIs};
+ghost use Rattle.attributes.specs.First.{firstIn};
+ghost use Rattle.references.specs.Values.{valueIf, inForce};
+ghost use Rattle.references.specs.References.{fiveAt, references, freshBy, usedBy, Ready, Four, anyBad, anyLong, Resolving};
+use reference::Area;
+use reference::Reference;
+use roles::Role;
+use spec::Refusal;
+use state::Registers;
+
+// The references of a tag, resolved: rdf:ID, and rdf:about, rdf:resource, rdf:datatype, rdf:type.
+pub struct References {
+    pub id: Reference,
+    pub others: Others,
+}
+
+pub struct Others {
+    pub about: Reference,
+    pub resource: Reference,
+    pub datatype: Reference,
+    pub kind: Reference,
+}
+
+pub enum Resolutions {
+    Stop(Refusal),
+    Good(References),
+}
+
+impl Others {
+    // Did no IRI come of one of them?
+    fn is_bad(self) -> bool
+        ensures { λ r. ⌜ r ≡ anyBad self ⌝ }
+    {
+        let about = self.about;
+        let resource = self.resource;
+        let datatype = self.datatype;
+        let kind = self.kind;
+        if about.is_bad() {
+            return true;
+        }
+        if resource.is_bad() {
+            return true;
+        }
+        if datatype.is_bad() {
+            return true;
+        }
+        kind.is_bad()
+    }
+
+    // Is one of them longer than an IRI may be?
+    pub fn is_long(self) -> bool
+        ensures { λ r. ⌜ r ≡ anyLong self ⌝ }
+    {
+        let about = self.about;
+        let resource = self.resource;
+        let datatype = self.datatype;
+        let kind = self.kind;
+        if about.is_long() {
+            return true;
+        }
+        if resource.is_long() {
+            return true;
+        }
+        if datatype.is_long() {
+            return true;
+        }
+        kind.is_long()
+    }
+}
+
+// The base is the tag's own, or that in force.
+pub fn resolve_references(
+    r: Registers,
+    frames: &[u32],
+    work: &[u8],
+    count: usize,
+    starts: &[u32; 512],
+    sizes: &[u32; 512],
+    ids: &[u8],
+    scratch: &[u8],
+    spans: &[u32],
+    k: usize,
+    roles: &[u8],
+    area: &mut [u8],
+) -> Resolutions
+    requires { ⌜ Ready (now scratch) (now work) (now area) 4096 ⌝ }
+    ensures { λ q. ⌜ Resolving (references (inForce (now (scratch .entry)) (now (spans .entry)) (now (work .entry)) k (now (roles .entry)) (baseIn r (now (frames .entry)))) (freshBy count (now (starts .entry)) (now (sizes .entry)) (now (ids .entry))) (fiveAt (now (scratch .entry)) (now (spans .entry)) k (now (roles .entry)))) (now (area .entry)) (now (area .exit)) q ⌝ }
+{
+    let j = attributes::first_in(roles, k, Role::XmlBase);
+    if j < k {
+        let own = names::value_of(scratch, spans, j);
+        return resolve_on(
+            true,
+            own,
+            count,
+            starts,
+            sizes,
+            ids,
+            scratch,
+            spans,
+            k,
+            roles,
+            area,
+        );
+    }
+    let f = inside::base_in_force(r, frames);
+    let base = names::piece(work, f.at, f.len);
+    resolve_on(
+        f.there,
+        base,
+        count,
+        starts,
+        sizes,
+        ids,
+        scratch,
+        spans,
+        k,
+        roles,
+        area,
+    )
+}
+
+// rdf:ID (11, 12), then the others (11), among which the order does not show.
+fn resolve_on(
+    based: bool,
+    base: &[u8],
+    count: usize,
+    starts: &[u32; 512],
+    sizes: &[u32; 512],
+    ids: &[u8],
+    scratch: &[u8],
+    spans: &[u32],
+    k: usize,
+    roles: &[u8],
+    area: &mut [u8],
+) -> Resolutions
+    requires { ⌜ Ready (now scratch) (now base) (now area) 4096 ⌝ }
+    ensures { λ r. ⌜ Resolving (references (given based (now (base .entry))) (freshBy count (now (starts .entry)) (now (sizes .entry)) (now (ids .entry))) (fiveAt (now (scratch .entry)) (now (spans .entry)) k (now (roles .entry)))) (now (area .entry)) (now (area .exit)) r ⌝ }
+{
+    let id = resolve_id(based, base, scratch, spans, k, roles, area);
+    if id.is_bad() {
+        return Resolutions::Stop(Refusal::BadIri);
+    }
+    if is_used(id, area, count, starts, sizes, ids) {
+        return Resolutions::Stop(Refusal::RepeatedId);
+    }
+    let others = resolve_others(based, base, scratch, spans, k, roles, area);
+    if others.is_bad() {
+        return Resolutions::Stop(Refusal::BadIri);
+    }
+    Resolutions::Good(References { id, others })
+}
+
+fn resolve_id(
+    based: bool,
+    base: &[u8],
+    scratch: &[u8],
+    spans: &[u32],
+    k: usize,
+    roles: &[u8],
+    area: &mut [u8],
+) -> Reference
+    requires { ⌜ Ready (now scratch) (now base) (now area) 0 ⌝ }
+    ensures { λ r. ⌜ Resolves (resolved (given based (now (base .entry))) (withHash (valueIf (now (scratch .entry)) (now (spans .entry)) k (firstIn (now (roles .entry)) k rdf-ID)))) (now (area .entry)) (now (area .exit)) 0 r ⌝ }
+{
+    let j = attributes::first_in(roles, k, Role::Id);
+    let value = names::value_of(scratch, spans, j);
+    reference::resolved_id(based, base, j < k, value, area)
+}
+
+// Had an earlier event this rdf:ID? One that is too long had none.
+fn is_used(
+    id: Reference,
+    area: &[u8],
+    count: usize,
+    starts: &[u32; 512],
+    sizes: &[u32; 512],
+    ids: &[u8],
+) -> bool
+    ensures { λ r. ⌜ r ≡ usedBy count (now (starts .entry)) (now (sizes .entry)) (now (ids .entry)) (now (area .entry)) id ⌝ }
+{
+    match id {
+        Reference::Missing => false,
+        Reference::Bad => false,
+        Reference::Long => false,
+        Reference::Made(n) => ids::find(count, starts, sizes, ids, names::piece(area, Area::ID, n)),
+    }
+}
+
+fn resolve_others(
+    based: bool,
+    base: &[u8],
+    scratch: &[u8],
+    spans: &[u32],
+    k: usize,
+    roles: &[u8],
+    area: &mut [u8],
+) -> Others
+    requires { ⌜ Ready (now scratch) (now base) (now area) 4096 ⌝ }
+    ensures { λ r. ⌜ Four (given based (now (base .entry))) (fiveAt (now (scratch .entry)) (now (spans .entry)) k (now (roles .entry))) (now (area .entry)) (now (area .exit)) r ⌝ }
+{
+    let about = resolve_in(
+        Role::About,
+        based,
+        base,
+        scratch,
+        spans,
+        k,
+        roles,
+        area,
+        Area::ABOUT,
+    );
+    let resource = resolve_in(
+        Role::Resource,
+        based,
+        base,
+        scratch,
+        spans,
+        k,
+        roles,
+        area,
+        Area::RESOURCE,
+    );
+    let datatype = resolve_in(
+        Role::Datatype,
+        based,
+        base,
+        scratch,
+        spans,
+        k,
+        roles,
+        area,
+        Area::DATATYPE,
+    );
+    let kind = resolve_in(
+        Role::Type,
+        based,
+        base,
+        scratch,
+        spans,
+        k,
+        roles,
+        area,
+        Area::TYPE,
+    );
+    Others {
+        about,
+        resource,
+        datatype,
+        kind,
+    }
+}
+
+// The value of the first attribute in a role, resolved to a place of the area.
+fn resolve_in(
+    role: Role,
+    based: bool,
+    base: &[u8],
+    scratch: &[u8],
+    spans: &[u32],
+    k: usize,
+    roles: &[u8],
+    area: &mut [u8],
+    at: usize,
+) -> Reference
+    requires { ⌜ Ready (now scratch) (now base) (now area) at ⌝ }
+    ensures { λ r. ⌜ Resolves (resolved (given based (now (base .entry))) (valueIf (now (scratch .entry)) (now (spans .entry)) k (firstIn (now (roles .entry)) k (roleIs role)))) (now (area .entry)) (now (area .exit)) at r ⌝ }
+{
+    let j = attributes::first_in(roles, k, role);
+    let value = names::value_of(scratch, spans, j);
+    reference::resolved(based, base, j < k, value, area, at)
+}
