@@ -154,17 +154,22 @@ module _ {on : Bool} {d : List ℕ} {at : ℕ} (s : Subject) {t : Bool} (i : Byt
 
 -- ---- what callers learn: the lines of a start tag t about s
 
-module _ {e w v cs rs : List ℕ} {k : ℕ} (h : Roles e w v cs rs k) (s : Subject) (t : Tag) (a : t .attributes ≡ propertyAttributes (meaningsOf e w v cs k)) where
-  pub tag-lines : (tagged : Bool) (language : Bytes) (typed : Bool) (kind : Bytes) → t .language ≡ given tagged language → t .type ≡ given typed kind
-      → attributeLines s (given tagged language) (propertiesFrom e w v cs rs 0 k) ++ typeLine s (given typed kind) ≡ tagLines s t
-  unfolding tagLines
-  tag-lines tagged language typed kind l y = rw (l, y, a, properties h)
-
 -- the type of a node element, unless it is rdf:Description
-pub element-type : (i : Bytes) {named : Bool} → named ≡ not (same i (rdf "Description")) → given named i ≡ elementType i
+pub element-type : (i : Bytes) {x : Bool} → x ≡ not (same i (rdf "Description")) → given x i ≡ elementType i
 unfolding given elementType if_then_else_
 element-type i q = rw q (go (same i (rdf "Description")))
   where
     go : (t : Bool) → given (not t) i ≡ (if t then none else some i)
     go true = refl
     go false = refl
+
+module _ {e w v cs rs : List ℕ} {k : ℕ} (h : Roles e w v cs rs k) (s : Subject) (t : Tag) (a : t .attributes ≡ propertyAttributes (meaningsOf e w v cs k))
+    (tagged : Bool) (language : Bytes) (l : t .language ≡ given tagged language) (typed : Bool) (kind : Bytes) (y : t .type ≡ given typed kind) where
+  pub tag-lines : attributeLines s (given tagged language) (propertiesFrom e w v cs rs 0 k) ++ typeLine s (given typed kind) ≡ tagLines s t
+  unfolding tagLines
+  tag-lines = rw (l, y, a, properties h)
+
+  pub node-lines : (x : Bool) → x ≡ not (same (t .iri) (rdf "Description"))
+      → (attributeLines s (given tagged language) (propertiesFrom e w v cs rs 0 k) ++ typeLine s (given typed kind)) ++ typeLine s (given x (t .iri))
+      ≡ tagLines s t ++ typeLine s (elementType (t .iri))
+  node-lines x q = rw (tag-lines, element-type (t .iri) q)
