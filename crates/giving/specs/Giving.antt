@@ -184,3 +184,25 @@ module _ {t : Tag} {e w : List ℕ} {m k : ℕ} {v cs rs a : List ℕ} {d : Doc}
 
   pub iri-says : maybe (madeAt 5120 (t .iri)) e b ≡ some (y .is .iri)
   iri-says = reference-says e 5120 (some (y .is .iri)) (t .iri) (y .iri) kp (omega arith) (all-short .iri)
+
+-- ---- how the calls come to their answers
+
+pub made-there-at : (at : ℕ) {r : Reference} {n : ℕ} → r ≡ reference.Made n → Made at n ≡ madeAt at r
+made-there-at at h = rw h
+
+module _ (e w : List ℕ) (j k : ℕ) where
+  pub no-value : k ≤ j → Missing ≡ valueAtPlace w j k
+  unfolding valueAtPlace
+  no-value h = rw (le-ltb j k h)
+
+  pub value-there : {a b c : ℕ} → j < k → a ≡ startAt w j → b ≡ sizeAt w j → c ≡ valueSizeAt w j → Own (a + b) c ≡ valueAtPlace w j k
+  unfolding valueAtPlace
+  value-there h p q s = rw (lt-ltb j k h, p, q, s)
+
+  pub no-tag : k ≤ j → Missing ≡ tagAtPlace e w j k
+  unfolding tagAtPlace
+  no-tag h = rw (le-ltb j k h)
+
+  pub tag-there : {s : Bytes} → j < k → s ≡ valueAt e w j → Made 6224 (length s) ≡ tagAtPlace e w j k
+  unfolding tagAtPlace
+  tag-there h q = rw (lt-ltb j k h, q)

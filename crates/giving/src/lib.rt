@@ -15,13 +15,17 @@ pub fn given(t: Tag, scratch: &[u8], spans: &[u32], k: usize) -> Given
     requires { ⌜ k * 4 ≤ length (now spans) ⌝ }
     ensures { λ g. ⌜ Gives t (now (scratch .entry)) (now (spans .entry)) k g ⌝ }
 {
+    let named = t.id;
+    let described = t.about;
+    let object = t.resource;
+    let typed = t.datatype;
     let base = value(spans, t.base, k);
     let tag = language(scratch, spans, t.language, k);
     let node = value(spans, t.node, k);
-    let id = made(Area::ID, t.id);
-    let about = made(Area::ABOUT, t.about);
-    let resource = made(Area::RESOURCE, t.resource);
-    let datatype = made(Area::DATATYPE, t.datatype);
+    let id = made(Area::ID, named);
+    let about = made(Area::ABOUT, described);
+    let resource = made(Area::RESOURCE, object);
+    let datatype = made(Area::DATATYPE, typed);
     Given {
         base,
         tag,

@@ -77,6 +77,10 @@ pub record RoomForId (base value area : List ℕ) : Type 0 where
   pub from : length value ≤ 32_768
   pub room : 33_794 ≤ length area
 
+-- the same answer of the definitions, said otherwise
+pub refers-as : {x y : Answer (Option Bytes)} (area : List ℕ) (at : ℕ) (r : Reference) → Refers r area at x → x ≡ y → Refers r area at y
+refers-as area at r h e = rw (← e) h
+
 -- an answer stays true while its bytes stay
 pub refers-kept : {a b : List ℕ} (at : ℕ) {hi : ℕ} (x : Answer (Option Bytes)) (r : Reference) → Refers r a at x → Kept a b 0 hi → at + 1024 ≤ hi → length b ≡ length a → Refers r b at x
 refers-kept at x Missing h k l s = h

@@ -23,7 +23,7 @@ use Rattle.ids.specs.Ids.{idsOf, endToEnd, ValidIds, last-short, others-linked,
 use Rattle.ids.specs.Ids as Ids
 use Rattle.reference.specs.declared.Reference.{Reference}
 use Rattle.reference.specs.declared.Reference.the-variants.{Missing, Bad, Long, Made}
-use Rattle.reference.specs.Reference.{isBad, isLong, Over, Placed, Refers, Resolves, refers-kept}
+use Rattle.reference.specs.Reference.{isBad, isLong, Over, Placed, Refers, Resolves, refers-as, refers-kept}
 use Rattle.attributes.specs.Reads.{meaningsOf, Roles}
 use Rattle.attributes.specs.First.{firstIn}
 use Rattle.references.specs.declared.Others.{Others}
@@ -253,9 +253,6 @@ others-are : (base : Option Bytes) (v : Five) (i : Option Bytes) {p q t u : Opti
     → others base v i ≡ good (record { id = i; about = p; resource = q; datatype = t; type = u })
 unfolding others _>>=_
 others-are base v i a b c d = rw (a, b, c, d)
-
-refers-as : {x y : Answer (Option Bytes)} (area : List ℕ) (at : ℕ) (r : Reference) → Refers r area at x → x ≡ y → Refers r area at y
-refers-as area at r h e = rw (← e) h
 
 module _ {base : Option Bytes} {v : Five} {area after : List ℕ} {r : Others} (h : Four base v area after r) (id′ : Option Bytes) where
   others-bad : anyBad r ≡ true → others base v id′ ≡ refuse BadIri

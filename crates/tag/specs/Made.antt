@@ -7,7 +7,6 @@ use mathlib.Core.List.{List, [], _∷_, _++_, map}
 use native.Mathlib.Omega.{arith}
 use lib.Dec.{leb, ltb}
 use lib.ListN.{length, drop, length-append, length-take, length-map}
-
 use borrow.Author.Tests.{le-leb, lt-leb, lt-ltb, le-ltb, ltb-true, leb-true, leb-false}
 use Rattle.spec.specs.Bytes.{Bytes, every, present}
 use Rattle.spec.specs.Numbers.{Answer, refuse, good}
@@ -25,7 +24,7 @@ use Rattle.names.specs.Tag.{valueAt, backOf}
 use Rattle.names.specs.Found.{foundBytes, answered}
 use Rattle.reference.specs.declared.Reference.{Reference}
 use Rattle.reference.specs.declared.Reference.the-variants.{Missing, Bad, Long, Made}
-use Rattle.reference.specs.Reference.{given, isLong, Over, Placed, Refers, Resolves}
+use Rattle.reference.specs.Reference.{given, isLong, Over, Placed, Refers, Resolves, refers-kept}
 use Rattle.references.specs.declared.Others.{Others}
 use Rattle.references.specs.declared.References.{References}
 use Rattle.references.specs.Values.{valueIf, value-most}
@@ -175,3 +174,87 @@ pub record Finished (f : Found) (name : Bytes) (c : ℕ) (e w : List ℕ) (k : �
   pub lowered : t .language < k → part after 6224 (length (valueAt e w (t .language))) ≡ map lower (valueAt e w (t .language))
   pub before : Kept area after 0 5120
   pub same : length after ≡ length area
+
+-- from what each part made
+pub finished : {f : Found} {name : Bytes} {c : ℕ} {e w : List ℕ} {k : ℕ} {v cs rs : List ℕ} {r : References} {area b after : List ℕ} {iri : Reference}
+    {base language node parse other : ℕ} {short : Bool}
+    → Resolves (iriOf (foundBytes e v f) (backOf c name)) area b 5120 iri → Lowered e w k language b after
+    → base ≡ firstIn rs k xml-base → language ≡ firstIn rs k xml-lang → node ≡ firstIn rs k rdf-nodeID → parse ≡ firstIn rs k rdf-parseType → other ≡ firstIn rs k property
+    → short ≡ shortBy iri (every (shortAt e w v cs) (places 0 k)) (valueIf e w k base) r
+    → Finished f name c e w k v cs rs r area after
+    (record {
+      iri = iri;
+      base = base;
+      language = language;
+      node = node;
+      parse = parse;
+      id = r .id;
+      about = r .others .about;
+      resource = r .others .resource;
+      datatype = r .others .datatype;
+      kind = r .others .kind;
+      properties = ltb other k;
+      short = short;
+    })
+finished {f} {name} {c} {e} {w} {k} {v} {iri = iri} i l p q s t u z =
+    record {
+      iri = refers-kept 5120 (iriOf (foundBytes e v f) (backOf c name)) iri (i .is) (l .before) (omega arith) (l .same);
+      base = p;
+      language = q;
+      node = s;
+      parse = t;
+      properties = rw u;
+      id = refl;
+      about = refl;
+      resource = refl;
+      datatype = refl;
+      kind = refl;
+      short = z;
+      lowered = l .tag;
+      before = kept-then (i .before) (kept-less (l .before) (omega arith) (omega arith));
+      same = l .same ∙ i .same;
+    }
+
+-- ---- the tests of `is_long_value`: x is the value as it was read
+
+over : (n : ℕ) → ltb 1024 n ≡ not (leb n 1024)
+over n = go (leb n 1024) refl
+  where
+    go : (t : Bool) → leb n 1024 ≡ t → ltb 1024 n ≡ not t
+    go true h = le-ltb 1024 n (leb-true n 1024 h)
+    go false h = lt-ltb 1024 n (leb-false n 1024 h)
+
+module _ (e w : List ℕ) {k j : ℕ} where
+  pub no-value : k ≤ j → false ≡ not (shortIf (valueIf e w k j))
+  unfolding valueIf given shortIf
+  no-value h = rw (le-ltb j k h)
+
+  pub value-length : {x : Bytes} → j < k → x ≡ valueAt e w j → ltb 1024 (length x) ≡ not (shortIf (valueIf e w k j))
+  unfolding valueIf given shortIf mostNameBytes
+  value-length {x} h q = rw (lt-ltb j k h, ← q) (over (length x))
+
+-- ---- the tests of `is_short`
+
+module _ (iri : Reference) (n : Bool) (b : Option Bytes) (r : References) where
+  pub iri-long : isLong iri ≡ true → false ≡ shortBy iri n b r
+  unfolding shortBy
+  iri-long h = rw h
+
+  module _ (p : isLong iri ≡ false) where
+    pub name-long : n ≡ false → false ≡ shortBy iri n b r
+    unfolding shortBy
+    name-long h = rw (p, h)
+
+    module _ (q : n ≡ true) where
+      pub base-long : shortIf b ≡ false → false ≡ shortBy iri n b r
+      unfolding shortBy
+      base-long h = rw (p, q, h)
+
+      module _ (t : shortIf b ≡ true) where
+        pub id-long : isLong (r .id) ≡ true → false ≡ shortBy iri n b r
+        unfolding shortBy
+        id-long h = rw (p, q, t, h)
+
+        pub others-decide : {x : Bool} → isLong (r .id) ≡ false → x ≡ anyLong (r .others) → not x ≡ shortBy iri n b r
+        unfolding shortBy
+        others-decide h u = rw (p, q, t, h, u)

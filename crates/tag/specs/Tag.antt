@@ -1,5 +1,5 @@
 -- A start tag as it is read: what `read_tag` asks and answers, and the answer in the definitions' words.
-use Prim.Native.Nat.{ℕ, _<_, _≤_}
+use Prim.Native.Nat.{ℕ, _+_, _<_, _≤_}
 use mathlib.Core.Path.{_≡_, refl, sym, ap, _∙_}
 use mathlib.Core.Bool.{Bool, true, false, _&&_, _||_, not}
 use mathlib.Core.Option.{Option, none, some}
@@ -25,6 +25,7 @@ use Rattle.state.specs.declared.Registers.{Registers}
 use Rattle.state.specs.Meaning.{bindingsOf, startOf, elementsOf, docOf}
 use Rattle.state.specs.Valid.{Valid}
 use Rattle.state.specs.Live.{in-scope}
+use Rattle.stack.specs.Laws.{by}
 use Rattle.inside.specs.Calls.{baseIn}
 use Rattle.inside.specs.Laws.{found, base-read}
 use Rattle.ids.specs.Ids.{idsOf, ValidIds}
@@ -33,7 +34,7 @@ use Rattle.names.specs.Tag.{valueAt, attributesOf, Split, Splits, frontOf, back
 use Rattle.names.specs.Found.{foundBytes, answered, scope, Names, element-means}
 use Rattle.names.specs.Classes.{Classified}
 use Rattle.reference.specs.declared.Reference.{Reference}
-use Rattle.reference.specs.Reference.{given, isLong, Refers, refers-kept}
+use Rattle.reference.specs.Reference.{given, isLong, Refers, refers-as, refers-kept}
 use Rattle.references.specs.declared.References.{References}
 use Rattle.references.specs.declared.Resolutions.{Resolutions}
 use Rattle.references.specs.declared.Resolutions.the-variants.{Stop as Refused, Good as Came}
@@ -93,7 +94,7 @@ pub record Reads (r : Registers) (fs bs v : List ℕ) (count : ℕ) (at len stor
   pub places : length rs ≡ length rs₀
   pub same : length after ≡ length area
   pub cases : (is : List ℕ) (used : ℕ) → Valid r fs bs is v → ValidIds count used at len store
-    → Cases t e w m k v cs rs after (docOf r fs bs is v (idsOf at len store count))
+      → Cases t e w m k v cs rs after (docOf r fs bs is v (idsOf at len store count))
 
 -- ---- `readTag`, the references apart
 
@@ -136,6 +137,7 @@ made-of {A} fresh f (good i) a b c t = on (fresh i) a b c t
   where
     from : {B : Type 0} → (Five → B) → Bool → Answer (Option Bytes) → Answer (Option Bytes) → Answer (Option Bytes) → Answer (Option Bytes) → Answer B
     from g y a b c t = each-of (λ _. y) g (good i) a b c t
+
     on : (y : Bool) (a b c t : Answer (Option Bytes)) → from f y a b c t ≡ (from (λ x. x) y a b c t >>= λ x. good (f x))
     on false a b c t = refl
     on true (refuse n) b c t = refl
@@ -212,6 +214,40 @@ none-long false false true d = refl
 none-long false false false true = refl
 none-long false false false false = refl
 
+short-by : (t : S.Tag) (iri : Reference) {n : Bool} {b : Option Bytes} (r : References)
+    → shortIf (some (t .iri)) ≡ not (isLong iri) → allShort (t .names) ≡ n → t .ownBase ≡ b → shortIf (t .id) ≡ not (isLong (r .id))
+    → shortIf (t .about) ≡ not (isLong (r .others .about)) → shortIf (t .resource) ≡ not (isLong (r .others .resource))
+    → shortIf (t .datatype) ≡ not (isLong (r .others .datatype)) → shortIf (t .type) ≡ not (isLong (r .others .kind)) → isShort t ≡ shortBy iri n b r
+unfolding shortBy
+short-by t iri r h1 h2 h3 h4 h5 h6 h7 h8 =
+    short-texts t
+    ∙ rw (h1, h2, h3, h4, h5, h6, h7, h8, none-long (isLong (r .others .about)) (isLong (r .others .resource)) (isLong (r .others .datatype)) (isLong (r .others .kind)))
+
+-- the expanded name where the namespace was found
+iri-is : (c : ℕ) {o : Option Bytes} {s n l : Bytes} → o ≡ some s → n ≡ l → iriOf o (backOf c n) ≡ good (some (s ++ backOf c l))
+unfolding iriOf
+iri-is c p q = rw (p, q)
+
+-- ---- what the roles tell
+
+module _ {e w v cs rs : List ℕ} {k : ℕ} (h : Roles e w v cs rs k) where
+  properties-are : ltb (firstIn rs k property) k ≡ not (isEmpty (propertyAttributes (meaningsOf e w v cs k)))
+  properties-are =
+      by (ltb (firstIn rs k property) k)
+      (λ y. rw (y, properties-some h (ltb-true (firstIn rs k property) k y)))
+      (λ y. rw (y, properties-none h (ltb-false (firstIn rs k property) k y)))
+
+  -- l is the place of xml:lang
+  language-is : {l : ℕ} (area : List ℕ) → l ≡ firstIn rs k xml-lang → (l < k → part area 6224 (length (valueAt e w l)) ≡ map lower (valueAt e w l))
+      → lowercased (first xml-lang (meaningsOf e w v cs k)) ≡ given (ltb l k) (part area 6224 (length (valueAt e w l)))
+  unfolding lowercased valueIf given
+  language-is {l} area q made =
+      ap lowercased (first-value h xml-lang)
+      ∙ rw (← q) (by (ltb l k) (λ y. rw y (ap some (sym (made (ltb-true l k y))))) (λ y. rw y))
+
+  value-is : {l : ℕ} (r : S.Role) → l ≡ firstIn rs k r → first r (meaningsOf e w v cs k) ≡ valueIf e w k l
+  value-is r q = first-value h r ∙ rw q
+
 -- ---- the answers of `read_tag`: f is where the element's namespace was found, j the judgment of the attributes, q the references
 
 module _ (r : Registers) (fs bs v : List ℕ) (count : ℕ) (at len store : List ℕ) {e w : List ℕ} {m c k : ℕ} {cs rs₀ area : List ℕ}
@@ -234,8 +270,8 @@ module _ (r : Registers) (fs bs v : List ℕ) (count : ℕ) (at len store : List
         places = refl;
         same = refl;
         cases = λ is used x y.
-          let ids = idsOf at len store count in
-          stop-name (take m e) (attributesOf e w k) (docOf r fs bs is v ids) (rw (scope-is ids x) (sym named ∙ unknown-space e v f (backOf c (take m e)) u));
+            let ids = idsOf at len store count in
+            stop-name (take m e) (attributesOf e w k) (docOf r fs bs is v ids) (rw (scope-is ids x) (sym named ∙ unknown-space e v f (backOf c (take m e)) u));
       }
 
   module _ (u : isUnknown f ≡ false) where
@@ -252,10 +288,10 @@ module _ (r : Registers) (fs bs v : List ℕ) (count : ℕ) (at len store : List
           places = o .same;
           same = refl;
           cases = λ is used x y.
-            let ids = idsOf at len store count in
-            let s = scope-is ids x in
-            stop-attributes (take m e) (attributesOf e w k) (docOf r fs bs is v ids) {i = known .space ++ backOf c (take m e)} (rw s expanded)
-            (rw s (reads-mean (a .classified) (a .splits) o ∙ ap (λ (q : Judgment). said q (meaningsOf e w v cs k)) h));
+              let ids = idsOf at len store count in
+              let s = scope-is ids x in
+              stop-attributes (take m e) (attributesOf e w k) (docOf r fs bs is v ids) {i = known .space ++ backOf c (take m e)} (rw s expanded)
+              (rw s (reads-mean (a .classified) (a .splits) o ∙ ap (λ (q : Judgment). said q (meaningsOf e w v cs k)) h));
         }
 
     module _ {rs : List ℕ} {j : Judgment} (o : R.Reads e w v cs k rs₀ rs j) (g : j ≡ Fine) where
@@ -303,3 +339,55 @@ module _ (r : Registers) (fs bs v : List ℕ) (count : ℕ) (at len store : List
               same = res .same;
               cases = λ is used x y. resolved-refused x y (rw h at (res .cases));
             }
+
+        module _ {refs : References} {after : List ℕ} {t : Tag} (came : q ≡ Came refs) (fin : Finished f name c e w k v cs rs refs b after t) where
+          reached : Resolved refs b (references (inForce e w v k rs (baseIn r fs)) (freshBy count at len store) (fiveAt e w k rs))
+          reached = rw came at (res .cases)
+
+          element-iri : Refers (t .iri) after 5120 (good (some (known .space ++ backOf c (take m e))))
+          element-iri = refers-as after 5120 (t .iri) (fin .iri) (iri-is c (known .is) whole)
+
+          tells : {is : List ℕ} {used : ℕ} → Valid r fs bs is v → ValidIds count used at len store → Tells t e w m k v cs rs after (docOf r fs bs is v (idsOf at len store count))
+          unfolding tagFrom
+          tells {is} x y =
+              let ids = idsOf at len store count in
+              let five = reached .five in
+              let tag = tagFrom (take m e) (attributesOf e w k) (docOf r fs bs is v ids) (known .space ++ backOf c (take m e)) (meaningsOf e w v cs k) five in
+              record {
+                is = tag;
+                answer = resolved-good x y (reached .is);
+                roles = roles-are;
+                name = refl;
+                iri = element-iri;
+                bindings = refl;
+                ownBase = value-is roles-are xml-base (fin .base);
+                ownTag = language-is roles-are after (fin .language) (fin .lowered);
+                language = refl;
+                nodeID = value-is roles-are rdf-nodeID (fin .node);
+                parseType = value-is roles-are rdf-parseType (fin .parse);
+                attributes = refl;
+                properties = fin .properties ∙ properties-are roles-are;
+                id = moved 0 (five .id) (fin .id) (reached .id) (omega arith);
+                about = moved 1024 (five .about) (fin .about) (reached .about) (omega arith);
+                resource = moved 2048 (five .resource) (fin .resource) (reached .resource) (omega arith);
+                datatype = moved 3072 (five .datatype) (fin .datatype) (reached .datatype) (omega arith);
+                kind = moved 4096 (five .type) (fin .kind) (reached .kind) (omega arith);
+                short =
+                    fin .short
+                    ∙ sym
+                    (short-by tag (t .iri) refs
+                    (refers-short after 5120 (some (known .space ++ backOf c (take m e))) (t .iri) element-iri)
+                    (rw (scope-is ids x) (sym (short-means (a .classified) (a .splits))))
+                    (value-is roles-are xml-base (fin .base))
+                    (refers-short b 0 (five .id) (refs .id) (reached .id))
+                    (refers-short b 1024 (five .about) (refs .others .about) (reached .about))
+                    (refers-short b 2048 (five .resource) (refs .others .resource) (reached .resource))
+                    (refers-short b 3072 (five .datatype) (refs .others .datatype) (reached .datatype))
+                    (refers-short b 4096 (five .type) (refs .others .kind) (reached .kind)));
+              }
+            where
+              moved : (p : ℕ) (i : Option Bytes) {u n : Reference} → u ≡ n → Refers n b p (good i) → p + 1024 ≤ 5120 → Refers u after p (good i)
+              moved p i {u} {n} z s l = rw z (refers-kept p (good i) n s (fin .before) l (fin .same))
+
+          pub tag-read : Reads r fs bs v count at len store e w m k cs rs₀ area rs after (Good t)
+          tag-read = record { places = o .same; same = fin .same ∙ res .same; cases = λ is used x y. tells x y }
