@@ -31,6 +31,18 @@ pub struct Plan {
     pub labels: u64,
 }
 
+// All that is carried out for an accepted start tag: besides its plan, whether it is an rdf:li to be counted, the rdf:ID to be entered,
+// its rdf:type, its element's IRI and whether that is a type of its node, and the IRI of the property that it is.
+pub struct Start {
+    pub plan: Plan,
+    pub li: bool,
+    pub id: Source,
+    pub kind: Source,
+    pub iri: Source,
+    pub named: bool,
+    pub property: Source,
+}
+
 // A node that a tag names, or the label made for it.
 pub struct Named {
     pub source: Source,

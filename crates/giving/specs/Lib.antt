@@ -1,0 +1,2 @@
+-- Where each thing that a tag says stands.
+pub mod Giving

@@ -1,0 +1,2 @@
+-- Node elements.
+use mathlib.Core.Path.{_≡_}
