@@ -1,8 +1,0 @@
--- The element's name, where it may be too long.
-pub mod Names
--- The limits on what is kept.
-pub mod Limits
--- What is judged, and what comes of it.
-pub mod Judges
--- Node elements.
-pub mod Nodes

@@ -1,2 +1,0 @@
--- Node elements.
-use mathlib.Core.Path.{_≡_}
