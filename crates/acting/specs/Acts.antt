@@ -1,37 +1,33 @@
 -- A start tag that was judged good is carried out: the document behind it keeps the limits, and is what the state means.
-use Prim.Native.Nat.{ℕ, _+_, _<_, _≤_}
+use Prim.Native.Nat.{ℕ}
 use mathlib.Core.Path.{_≡_, refl, sym, ap, _∙_}
-use mathlib.Core.Bool.{Bool, true, false}
-use mathlib.Core.Option.{Option, none, some}
-use mathlib.Core.List.{List, [], _∷_, _++_}
+use mathlib.Core.Bool.{true, false}
+use mathlib.Core.List.{List, _∷_}
 use native.Mathlib.Omega.{arith}
 use lib.Dec.{leb}
 use lib.ListN.{length, take}
 use borrow.Author.Tests.{le-leb}
-use Rattle.spec.specs.Bytes.{Bytes, total, sizeOf}
+use Rattle.spec.specs.Bytes.{total}
 use Rattle.spec.specs.Numbers.{good}
 use Rattle.spec.specs.declared.Refusal.the-variants.{NoRoom}
 use Rattle.spec.specs.Limits as L
 use Rattle.spec.specs.NTriples.{write}
 use Rattle.spec.specs.Pyx.{opening}
-use Rattle.spec.specs.Namespaces.{declared}
-use Rattle.spec.specs.Document.{Doc, Kind, Frame as Element, frameBytes, heldBytes, fits}
-use Rattle.spec.specs.Opening.{Step, opened, countLi, enter, onOpening}
+use Rattle.spec.specs.Document.{Doc, Frame as Element, heldBytes, fits}
+use Rattle.spec.specs.Opening.{Step, opened, countLi, enter}
 use Rattle.spec.specs.RdfXml.{onEvent}
 use Rattle.ids.specs.declared.Added.{Added}
 use Rattle.ids.specs.Ids.{idsOf, roomFor, ValidIds, length-ids, total-ids}
-use Rattle.ids.specs.Adding.{Room, has-room}
+use Rattle.ids.specs.Adding.{has-room}
 use Rattle.state.specs.declared.Registers.{Registers}
 use Rattle.state.specs.Meaning.{startOf, elementsOf, subjectBelow, docOf}
-use Rattle.state.specs.Valid.{Valid}
 use Rattle.stack.specs.Calls.{topFrame}
-use Rattle.stack.specs.Change.{Holds, holds-doc}
+use Rattle.stack.specs.Change.{holds-doc}
 use Rattle.inside.specs.Calls.{languageIn}
 use Rattle.names.specs.Tag.{attributesOf}
-use Rattle.event.specs.declared.Progress.{Progress}
 use Rattle.event.specs.declared.Progress.the-variants.{Stop, Did}
 use Rattle.event.specs.Result.{IdsFit, fits-held, handled, handled-by, concluded, all-fits, no-room}
-use Rattle.event.specs.Progress.{Lent, lent, docIn, Lawful, HandlesAll, stopped}
+use Rattle.event.specs.Progress.{lent, docIn, Lawful, HandlesAll, stopped}
 use Rattle.element.specs.declared.Source.{Source}
 use Rattle.element.specs.declared.Source.the-variants.{Missing, Own, Made}
 use Rattle.element.specs.Element.{textOf, maybe, newElement}
@@ -64,11 +60,11 @@ module _ {x : Start} {r : Registers} {count used : ℕ} {fs bs is w ia il st out
   step = opened (g .tag) (docIn r count (lent fs bs is w ia il st out)) (g .what)
 
   -- the element that it opens
-  abbrev pub new : Element
+  abbrev new : Element
   new = newElement e v m k a (x .plan .parts) (subjectBelow fs w (r .depth))
 
   -- the document from what was planned
-  abbrev pub planned : Doc
+  abbrev planned : Doc
   planned =
       record {
         startBase = startOf r w;

@@ -1,6 +1,6 @@
 -- Lines measured, and written where all of them have room.
-use Prim.Native.Nat.{ℕ, _+_, _<_, _≤_}
-use mathlib.Core.Path.{_≡_, refl, sym, _∙_}
+use Prim.Native.Nat.{ℕ, _<_, _≤_}
+use mathlib.Core.Path.{_≡_, sym, _∙_}
 use mathlib.Core.Bool.{Bool, true, false, false≢true}
 use mathlib.Core.List.{List}
 use native.Mathlib.Omega.{arith}
@@ -8,7 +8,7 @@ use lib.Dec.{leb}
 use lib.ListN.{length}
 use borrow.Author.Tests.{lt-leb, le-leb}
 use Rattle.spec.specs.Bytes.{Bytes}
-use Rattle.copy.specs.Copy.{Wrote, wrote-same}
+use Rattle.copy.specs.Copy.{Wrote}
 use Rattle.writer.specs.Put.{Put, most, put-measures, put-both}
 use Rattle.acting.specs.declared.Said.{Said}
 

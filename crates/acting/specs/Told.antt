@@ -1,20 +1,20 @@
 -- The lines of a start tag that is carried out, from its plan, from the frame of the element around it and from the language in force there.
-use Prim.Native.Nat.{ℕ, zero, suc, _-_, _*_, _+_, _<_, _≤_}
-use mathlib.Core.Path.{_≡_, refl, sym, ap, _∙_}
-use mathlib.Core.Bool.{Bool, true, false, _||_, not, false≢true}
+use Prim.Native.Nat.{ℕ, zero, suc, _-_, _*_, _≤_}
+use mathlib.Core.Path.{_≡_, refl, sym, _∙_}
+use mathlib.Core.Bool.{Bool, true, false, _||_, not}
 use mathlib.Core.Option.{Option, none, some}
-use mathlib.Core.List.{List, [], _∷_, _++_}
+use mathlib.Core.List.{List, [], _++_}
 use native.Mathlib.Omega.{arith}
 use lib.Dec.{eqb}
 use lib.ListN.{length}
 use borrow.Author.Tests.{eq-eqb, ne-eqb}
 use Rattle.spec.specs.Bytes.{Bytes, orElse}
 use Rattle.spec.specs.NTriples.{Subject, named, blank, node, Triple, write}
-use Rattle.spec.specs.Document.{Property, Doc, languageInForce}
-use Rattle.spec.specs.Productions.{attributeLines, typeLine, statement, Opened}
+use Rattle.spec.specs.Document.{Doc}
+use Rattle.spec.specs.Productions.{attributeLines, typeLine, statement}
 use Rattle.copy.specs.Copy.{part}
 use Rattle.frames.specs.declared.Frame.{Frame}
-use Rattle.frames.specs.Words.{pick, frameAt, load-frame, noFrame}
+use Rattle.frames.specs.Words.{pick, load-frame, noFrame}
 use Rattle.state.specs.declared.Registers.{Registers}
 use Rattle.state.specs.Meaning.{at, has, span, nodeOf, subjectOf, subjectBelow, elementsOf}
 use Rattle.state.specs.Valid.{Valid}
@@ -33,7 +33,6 @@ use Rattle.attributes.specs.Properties.{propertiesFrom}
 use Rattle.element.specs.declared.Source.{Source}
 use Rattle.element.specs.declared.Source.the-variants.{Missing, Own, Made}
 use Rattle.element.specs.Element.{textOf, maybe, nodeIs}
-use Rattle.plan.specs.declared.Lines.{Lines}
 use Rattle.plan.specs.declared.Lines.the-variants.{Nothing, Object, Resource}
 use Rattle.plan.specs.declared.Lines.the-variants as lines-kind
 use Rattle.plan.specs.declared.Start.{Start}
@@ -65,7 +64,7 @@ linesOf x f l w e v k a cs rs =
     told (x .plan .lines) (mainOf x e a) (objectOf x e a) (languageBy x l w e a) (propertiesFrom e v w cs rs 0 k) (maybe (x .kind) e a)
     (given (x .named) (textOf (x .iri) e a)) (propertyOf x e a (subjectOf f w))
 
--- ---- terms
+-- ---- terms: a label where b, else an IRI
 
 pub record NodeFor (b : Bool) (n : Node) : Type 0 where
   pub says : (s : Bytes) → T.subjectOf n s ≡ nodeIs b s
@@ -134,20 +133,20 @@ module _ {t : Source} {s : Bytes} (l : Found) (w e a : List ℕ) where
 language-is : {t : Source} {l : Found} {w e a : List ℕ} {y : Bytes} {g : Bool} → LanguageFor t l w e a y → g ≡ (isThere t || l .there) → given g y ≡ orElse (maybe t e a) (found l w)
 language-is j i = rw i (j .says)
 
-type-is : (s : Source) (e a : List ℕ) {z : Bytes} {h : Bool} → h ≡ isThere s → z ≡ textOf s e a → given h z ≡ maybe s e a
-type-is s e a o q = rw (o, q) (given-text s e a)
+part-is : (s : Source) (e a : List ℕ) {z : Bytes} {h : Bool} → h ≡ isThere s → z ≡ textOf s e a → given h z ≡ maybe s e a
+part-is s e a o q = rw (o, q) (given-text s e a)
 
 module _ {on : Bool} {d f : List ℕ} {from to : ℕ} (x : Start) (l : Found) (w e v : List ℕ) (k : ℕ) (a cs rs : List ℕ) {g : Bool} {y z : Bytes} {h : Bool} {n : Node} {s : Bytes}
     (i : g ≡ (isThere (x .plan .parts .tag) || l .there)) (j : LanguageFor (x .plan .parts .tag) l w e a y) (o : h ≡ isThere (x .kind)) (q : z ≡ textOf (x .kind) e a) where
   pub node-told : {u : Bytes} → NodeFor (x .plan .parts .blank) n → s ≡ textOf (x .plan .parts .main) e a → u ≡ textOf (x .iri) e a
       → Put on d f from to (write ((attributeLines (T.subjectOf n s) (given g y) (propertiesFrom e v w cs rs 0 k) ++ typeLine (T.subjectOf n s) (given h z)) ++ typeLine (T.subjectOf n s) (given (x .named) u)))
       → Put on d f from to (write (nodeLines x l w e v k a cs rs))
-  node-told b c m p = put-as p (rw (b .says s, c, m, language-is j i, type-is (x .kind) e a o q))
+  node-told b c m p = put-as p (rw (b .says s, c, m, language-is j i, part-is (x .kind) e a o q))
 
   pub object-told : NodeFor (eqb (x .plan .parts .what) 2) n → s ≡ textOf (x .plan .parts .object) e a
       → Put on d f from to (write (attributeLines (T.subjectOf n s) (given g y) (propertiesFrom e v w cs rs 0 k) ++ typeLine (T.subjectOf n s) (given h z)))
       → Put on d f from to (write (objectLines x l w e v k a cs rs))
-  object-told b c p = put-as p (rw (b .says s, c, language-is j i, type-is (x .kind) e a o q))
+  object-told b c p = put-as p (rw (b .says s, c, language-is j i, part-is (x .kind) e a o q))
 
 -- the bytes from a to b, as they are lent
 pub span-lent : {r : List ℕ} {from n : ℕ} (w : List ℕ) (a b : ℕ) → r ≡ part w from n → from ≡ a → n ≡ b - a → r ≡ span w a b
@@ -162,7 +161,7 @@ pub resource-told : {on : Bool} {d f : List ℕ} {from to : ℕ} (x : Start) (r 
     → Put on d f from to (write (resourceLines x (subjectOf r w) e a))
 unfolding T.propertyOf subjectOf
 resource-told x r w e a {s = s} {o = o} b c j q u t m y =
-    put-as y (rw (b .says s, marked (has r 2) s, c, type-is (x .id) e a j q, u, t .says o [], m))
+    put-as y (rw (b .says s, marked (has r 2) s, c, part-is (x .id) e a j q, u, t .says o [], m))
 
 -- ---- by the plan
 

@@ -81,7 +81,7 @@ pub fn act<'a>(
     }
     let plan = x.plan;
     let parts = plan.parts;
-    let id = x.id;
+    let own_id = x.id;
     let behind = element::commit(
         r,
         frames,
@@ -96,7 +96,7 @@ pub fn act<'a>(
         x.li,
         plan.labels,
     );
-    let table = enter(id, count, used, id_at, id_len, ids, scratch, area);
+    let table = enter(own_id, count, used, id_at, id_len, ids, scratch, area);
     Progress::Did(Advance {
         written: said.written,
         registers: behind,
@@ -123,22 +123,21 @@ fn say<'a>(
 {
     let around = stack::top(r, frames);
     let language = inside::language_in_force(r, frames);
-    if out.len()
-        < tell(
-            out,
-            false,
-            x,
-            around,
-            language,
-            work,
-            scratch,
-            spans,
-            k,
-            area,
-            classes,
-            roles,
-        )
-    {
+    let size = tell(
+        out,
+        false,
+        x,
+        around,
+        language,
+        work,
+        scratch,
+        spans,
+        k,
+        area,
+        classes,
+        roles,
+    );
+    if out.len() < size {
         return Said {
             fits: false,
             written: 0,

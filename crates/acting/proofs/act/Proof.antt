@@ -1,7 +1,6 @@
 -- `acting::act` meets its contract. 2, or all that was judged is done.
 use Rattle.acting.specs.Acts.{act-full, act-done}
 use borrow.Author.Tests.{not-true, not-false}
-use native.Mathlib.Omega.{arith}
 use borrow.Author.Needs.{needs}
 use Rattle.acting.proofs.act.Statement.{statement}
 use Rattle.acting.proofs.act.Tie as tie

@@ -2,7 +2,6 @@
 use Rattle.acting.specs.Entered.{enters-none, enters-one}
 use mathlib.Core.Path.{sym, _∙_}
 use borrow.Author.Tests.{not-true, not-false}
-use native.Mathlib.Omega.{arith}
 use borrow.Author.Needs.{needs}
 use Rattle.acting.proofs.enter.Statement.{statement}
 use Rattle.acting.proofs.enter.Tie as tie

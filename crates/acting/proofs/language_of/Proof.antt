@@ -1,6 +1,5 @@
 -- `acting::language_of` meets its contract. By the source.
 use Rattle.acting.specs.Told.{language-around, language-own, language-made}
-use native.Mathlib.Omega.{arith}
 use borrow.Author.Needs.{needs}
 use Rattle.acting.proofs.language_of.Statement.{statement}
 use Rattle.acting.proofs.language_of.Tie as tie

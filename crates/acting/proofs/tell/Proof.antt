@@ -1,6 +1,5 @@
 -- `acting::tell` meets its contract. By the plan.
 use Rattle.acting.specs.Told.{told-nothing, told-node, told-object, told-resource}
-use native.Mathlib.Omega.{arith}
 use borrow.Author.Needs.{needs}
 use Rattle.acting.proofs.tell.Statement.{statement}
 use Rattle.acting.proofs.tell.Tie as tie

@@ -1,6 +1,5 @@
 -- `acting::tell_node` meets its contract. What is lent is what the plan says.
 use Rattle.acting.specs.Told.{node-told}
-use native.Mathlib.Omega.{arith}
 use borrow.Author.Needs.{needs}
 use Rattle.acting.proofs.tell_node.Statement.{statement}
 use Rattle.acting.proofs.tell_node.Tie as tie

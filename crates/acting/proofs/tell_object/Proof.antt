@@ -1,6 +1,5 @@
 -- `acting::tell_object` meets its contract. What is lent is what the plan says.
 use Rattle.acting.specs.Told.{object-told}
-use native.Mathlib.Omega.{arith}
 use borrow.Author.Needs.{needs}
 use Rattle.acting.proofs.tell_object.Statement.{statement}
 use Rattle.acting.proofs.tell_object.Tie as tie

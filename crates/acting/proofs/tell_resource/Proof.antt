@@ -1,6 +1,5 @@
 -- `acting::tell_resource` meets its contract. What is lent is what the plan says.
 use Rattle.acting.specs.Told.{resource-told}
-use native.Mathlib.Omega.{arith}
 use borrow.Author.Needs.{needs}
 use Rattle.acting.proofs.tell_resource.Statement.{statement}
 use Rattle.acting.proofs.tell_resource.Tie as tie
