@@ -5,6 +5,7 @@ use mathlib.Core.Bool.{Bool, true, false, false≢true}
 use mathlib.Core.List.{List}
 use native.Mathlib.Omega.{arith}
 use lib.ListN.{length, take}
+use Rattle.spec.specs.Limits.{mostIds, mostIdBytes}
 use Rattle.spec.specs.Bytes.{Bytes, _>>=_}
 use Rattle.spec.specs.Numbers.{Answer, refuse, good}
 use Rattle.spec.specs.declared.Refusal.{Refusal}
@@ -16,7 +17,7 @@ use Rattle.pyx.specs.declared.Event.{Event}
 use Rattle.pyx.specs.declared.Event.the-variants.{Malformed, NoScratch, Instruction, Text, Closing, Opening, Crowded}
 use Rattle.pyx.specs.Decode.{unread, noScratch, Decodes, Says, Opened, Over}
 use Rattle.names.specs.Tag.{attributesOf}
-use Rattle.ids.specs.Ids.{idsOf, ValidIds}
+use Rattle.ids.specs.Ids.{idsOf, ValidIds, length-ids, total-ids}
 use Rattle.state.specs.declared.Registers.{Registers}
 use Rattle.event.specs.declared.Outcome.{Outcome}
 use Rattle.event.specs.declared.Outcome.the-variants as outcome
@@ -39,11 +40,20 @@ ids-stop count used e = rw e
 pub ids-did : {o : Outcome} {d : Done} (count used : ℕ) → o ≡ outcome.Did d → Did (record { written = d .written; registers = d .registers; count = count; used = used }) ≡ withIds o count used
 ids-did count used e = rw e
 
-pub without-ids : {e : P.Event} {r : Registers} {count used : ℕ} {fs bs is w out fs′ bs′ is′ w′ out′ : List ℕ} (ia il st : List ℕ) (o : Outcome)
-    → IdsFit (idsOf ia il st count) → ValidIds count used ia il st → Handles e r o fs bs is w out fs′ bs′ is′ w′ out′
+ids-fit : {count used : ℕ} {ia il st : List ℕ} → ValidIds count used ia il st → IdsFit (idsOf ia il st count)
+unfolding mostIds mostIdBytes
+ids-fit {count} {used} {ia} {il} {st} v = record { few = rw (length-ids ia il st count) (v .few); small = rw (total-ids v) (v .within) }
+
+by-outcome : {e : P.Event} {r : Registers} {count used : ℕ} {fs bs is w out fs′ bs′ is′ w′ out′ : List ℕ} (ia il st : List ℕ) (o : Outcome)
+    → ValidIds count used ia il st → Handles e r o fs bs is w out fs′ bs′ is′ w′ out′
     → HandlesAll e r count (withIds o count used) (lent fs bs is w ia il st out) (lent fs′ bs′ is′ w′ ia il st out′)
-without-ids {count = count} ia il st (outcome.Stop n) f v h = without-stop count ia il st f h refl
-without-ids {count = count} ia il st (outcome.Did d) f v h = without-did count ia il st f h refl v
+by-outcome {count = count} ia il st (outcome.Stop n) v h = without-stop count ia il st (ids-fit v) h refl
+by-outcome {count = count} ia il st (outcome.Did d) v h = without-did count ia il st (ids-fit v) h refl v
+
+pub without-ids : {e : P.Event} {r : Registers} {count used : ℕ} {fs bs is w ia il st out fs′ bs′ is′ w′ out′ : List ℕ} {o : Outcome} {p : Progress}
+    → ValidIds count used ia il st → Handles e r o fs bs is w out fs′ bs′ is′ w′ out′ → p ≡ withIds o count used
+    → HandlesAll e r count p (lent fs bs is w ia il st out) (lent fs′ bs′ is′ w′ ia il st out′)
+without-ids {ia = ia} {il} {st} {o = o} v h q = rw q (by-outcome ia il st o v h)
 
 -- ---- by what was decoded
 

@@ -1,2 +1,8 @@
+-- What is asked of all that is lent.
+pub mod Asked
 -- From what was decoded to what is done.
 pub mod Dispatch
+-- Start tags and end tags, by where they stand.
+pub mod Tags
+-- The arms of `parse_event`.
+pub mod Arms
