@@ -5,6 +5,7 @@ pub mod Meaning
 pub mod Meets
 -- ---- how the calls come to their answers
 pub mod Starting
+pub mod Stepping
 -- ---- what the contracts determine
 pub mod Unique
 pub mod Runs

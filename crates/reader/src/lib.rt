@@ -1,14 +1,17 @@
 // The three calls. What is kept of a document between them goes in and comes back by value; the stores are lent.
 ghost use mathlib.Core.Path.{_≡_};
 ghost use Rattle.spec.specs.Numbers.{number, closes};
-ghost use Rattle.reader.specs.Meaning.{lawfulState, closedState, Fresh, Nothing};
-ghost use Rattle.reader.specs.Meets.{numberOf, refusing, doing, Starts, Finishes};
+ghost use Rattle.reader.specs.Meaning.{lawfulState, closedState, marked, Fresh, Nothing};
+ghost use Rattle.reader.specs.Meets.{numberOf, refusing, doing, Starts, Steps, Finishes};
 ghost use Rattle.reader.specs.Starting.{Judges, sizeOfBase, overIn};
+ghost use Rattle.reader.specs.Stepping.{accepting};
+use event::Advance;
 use frames::Frame;
 use frames::Row;
 use ids::IdTable;
 use spec::Refusal;
 use state::Registers;
+use stream::Taken;
 
 // What is kept of a document between calls, beside the work store and the ID store: docs/STATE.md.
 pub struct State {
@@ -86,6 +89,57 @@ pub fn start(state: State, based: bool, base: &[u8], work: &mut [u8], ids: &[u8]
             copy::put(work, 0, &base[..n]);
             done(State::fresh(based, n))
         }
+    }
+}
+
+// The first event of the input, which is what is left of it; `last` where no more follows. Its lines go to the front of `out`.
+pub fn step(
+    state: State,
+    work: &mut [u8],
+    ids: &mut [u8],
+    input: &[u8],
+    last: bool,
+    out: &mut [u8],
+) -> Report
+    ensures { λ r. ⌜ Steps last (now (input .entry)) state (now (work .entry)) (now (ids .entry)) (now (out .entry)) r (now (work .exit)) (now (ids .exit)) (now (out .exit)) ⌝ }
+{
+    if !lawful(state, work, ids) {
+        return refused(state, Refusal::BadState);
+    }
+    let registers = state.registers;
+    if registers.closed {
+        return refused(state, Refusal::Closed);
+    }
+    let mut frames = state.frames;
+    let mut bindings = state.bindings;
+    let mut inners = state.inners;
+    let table = state.ids;
+    let mut at = table.at;
+    let mut len = table.len;
+    let mut scratch = [0u8; Taken::SCRATCH];
+    let mut spans = [0u32; Taken::SPANS];
+    let mut area = [0u8; Taken::AREA];
+    let taken = stream::core(
+        registers,
+        table.count,
+        table.used,
+        &mut frames,
+        &mut bindings,
+        &mut inners,
+        work,
+        &mut at,
+        &mut len,
+        ids,
+        input,
+        last,
+        out,
+        &mut scratch,
+        &mut spans,
+        &mut area,
+    );
+    match taken {
+        Taken::Stop(why) => refused(marked(state, why), why),
+        Taken::Did(n, a) => accepted(n, a, frames, bindings, inners, at, len),
     }
 }
 
@@ -175,6 +229,13 @@ fn closed(state: State) -> State
     }
 }
 
+// The state behind a refusal.
+fn marked(state: State, why: Refusal) -> State
+    ensures { λ s. ⌜ s ≡ marked why state ⌝ }
+{
+    if closes(why) { closed(state) } else { state }
+}
+
 // Nothing was consumed or written.
 fn refused(state: State, why: Refusal) -> Report
     ensures { λ r. ⌜ r ≡ refusing state why ⌝ }
@@ -197,6 +258,41 @@ fn done(state: State) -> Report
         answer,
         consumed: 0,
         written: 0,
+    }
+}
+
+// An event of `n` bytes is done.
+fn accepted(
+    n: usize,
+    a: Advance,
+    frames: [u32; Frame::TABLE],
+    bindings: [u32; Row::BINDINGS],
+    inners: [u32; Row::INNERS],
+    at: [u32; IdTable::MOST],
+    len: [u32; IdTable::MOST],
+) -> Report
+    ensures { λ r. ⌜ r ≡ accepting n a frames bindings inners at len ⌝ }
+{
+    let registers = a.registers;
+    let ids = IdTable {
+        count: a.count,
+        used: a.used,
+        at,
+        len,
+    };
+    let state = State {
+        registers,
+        frames,
+        bindings,
+        inners,
+        ids,
+    };
+    let answer = Answer::Done;
+    Report {
+        state,
+        answer,
+        consumed: n,
+        written: a.written,
     }
 }
 

@@ -1,0 +1,2 @@
+-- What `core` asks, and what it does.
+pub mod Core
