@@ -27,7 +27,11 @@ use Rattle.element.specs.declared.Parts.{Parts}
 use Rattle.element.specs.Element.{textOf, maybe, kindIs, newElement}
 use Rattle.element.specs.Sizes.{Measures}
 use Rattle.element.specs.Laws.{held-with}
+use Rattle.plan.specs.declared.Start.{Start}
 use Rattle.plan.specs.Plan.{isThere}
+use Rattle.spec.specs.declared.Refusal.the-variants.{OverLimit}
+use Rattle.judging.specs.declared.Verdict.{Verdict}
+use Rattle.judging.specs.declared.Verdict.the-variants.{Stop, Go}
 
 -- is there room for the rdf:ID, if there is one?
 unfoldable pub roomForId : ℕ → ℕ → Source → List ℕ → List ℕ → Bool
@@ -56,3 +60,37 @@ module _ {r : Registers} {count used : ℕ} {fs bs is w ia il st : List ℕ} (v 
       rw (held-with v flat (t .iri) (elementOf t o), f)
       (and-assoc (leb (length (enter (t .id) (idsOf ia il st count))) mostIds) (leb (total length (enter (t .id) (idsOf ia il st count))) mostIdBytes) (leb (r .top + n) mostHeldBytes)
       ∙ ap (λ (b : Bool). b && leb (r .top + n) mostHeldBytes) (ids-room x s e a (t .id) q h))
+
+-- ---- what `limited` answers
+
+-- the element would hold so many bytes
+pub record Limited (q : Verdict) (x : Start) (r : Registers) (count used : ℕ) (e v : List ℕ) (m k : ℕ) (a : List ℕ) : Type 0 where
+  pub size : ℕ
+  pub measures : Measures e v m k a (x .plan .parts) size
+  pub decides : q ≡ pick (roomForId count used (x .id) e a && leb (r .top + size) mostHeldBytes) (Go x) (Stop OverLimit)
+
+module _ {x : Start} {r : Registers} {count used : ℕ} {e v : List ℕ} {m k : ℕ} {a : List ℕ} {n : ℕ} (me : Measures e v m k a (x .plan .parts) n) where
+  pub limited-id : {t : Bool} → t ≡ roomForId count used (x .id) e a → t ≡ false → Limited (Stop OverLimit) x r count used e v m k a
+  limited-id p h = record { size = n; measures = me; decides = rw (← p, h) }
+
+  pub limited-held : {t : Bool} → t ≡ roomForId count used (x .id) e a → t ≡ true → 49_152 < r .top + n → Limited (Stop OverLimit) x r count used e v m k a
+  unfolding mostHeldBytes
+  limited-held p h l = record { size = n; measures = me; decides = rw (← p, h, lt-leb (r .top + n) 49_152 l) }
+
+  pub limited-not : {t : Bool} → t ≡ roomForId count used (x .id) e a → t ≡ true → r .top + n ≤ 49_152 → Limited (Go x) x r count used e v m k a
+  unfolding mostHeldBytes
+  limited-not p h l = record { size = n; measures = me; decides = rw (← p, h, le-leb (r .top + n) 49_152 l) }
+
+-- the arms of `id_fits`
+module _ (count used : ℕ) (e a : List ℕ) {s : Source} where
+  pub no-id : s ≡ Missing → true ≡ roomForId count used s e a
+  unfolding roomForId
+  no-id h = rw h
+
+  pub own-id : {i n : ℕ} {t : Bytes} {b : Bool} → s ≡ Own i n → t ≡ Rattle.copy.specs.Copy.part e i n → b ≡ roomFor count used (length t) → b ≡ roomForId count used s e a
+  unfolding roomForId textOf
+  own-id h p q = q ∙ rw (h, p)
+
+  pub made-id : {i n : ℕ} {t : Bytes} {b : Bool} → s ≡ Made i n → t ≡ Rattle.copy.specs.Copy.part a i n → b ≡ roomFor count used (length t) → b ≡ roomForId count used s e a
+  unfolding roomForId textOf
+  made-id h p q = q ∙ rw (h, p)

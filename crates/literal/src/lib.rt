@@ -102,7 +102,16 @@ pub fn start_inside(
     match judged {
         Judged::Stop(n) => Outcome::Stop(n),
         Judged::Go => copy_element(
-            r, frames, bindings, inners, work, scratch, spans, name, k, area,
+            r,
+            frames,
+            bindings,
+            inners,
+            work,
+            scratch,
+            spans,
+            name,
+            k,
+            area,
         ),
     }
 }
@@ -301,7 +310,17 @@ fn copy_element(
         Outcome::Stop(n) => Outcome::Stop(n),
         Outcome::Did(d) => {
             let behind = d.registers;
-            let open = enter(behind, bindings, inners, work, scratch, spans, name, k, more);
+            let open = enter(
+                behind,
+                bindings,
+                inners,
+                work,
+                scratch,
+                spans,
+                name,
+                k,
+                more,
+            );
             Outcome::Did(Done {
                 written: 0,
                 registers: open,

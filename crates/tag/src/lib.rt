@@ -27,4 +27,3 @@ pub enum Read {
     Stop(Refusal),
     Good(Tag),
 }
-
