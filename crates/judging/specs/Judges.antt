@@ -121,7 +121,7 @@ abbrev pub startBy : Plan → Tag → Bool → Bool → Source → Start
 startBy p t li named property =
     record { plan = p; li = li; id = madeAt 0 (t .id); kind = madeAt 4096 (t .kind); iri = madeAt 5120 (t .iri); named = named; property = property }
 
-text-of : (s : Source) (e a : List ℕ) {i : Bytes} → maybe s e a ≡ some i → textOf s e a ≡ i
+pub text-of : (s : Source) (e a : List ℕ) {i : Bytes} → maybe s e a ≡ some i → textOf s e a ≡ i
 unfolding maybe textOf
 text-of source.Missing e a h = absurd (let z : _≡_ {A = ℕ} 0 1 = cc in omega arith)
 text-of (source.Own i n) e a h = cc

@@ -6,3 +6,5 @@ pub mod Limits
 pub mod Judges
 -- Node elements.
 pub mod Nodes
+-- Property elements.
+pub mod Properties

@@ -90,7 +90,7 @@ pub record JudgesNode (q : Verdict) (t : Tag) (r : Registers) (count used : ℕ)
       → Rules q r count used fs bs is w ia il st e v m k cs rs b
   pub same : length b ≡ length a
 
-value-there : (e v : List ℕ) (k j : ℕ) → isSome (valueIf e v k j) ≡ ltb j k
+pub value-there : (e v : List ℕ) (k j : ℕ) → isSome (valueIf e v k j) ≡ ltb j k
 unfolding valueIf given isSome
 value-there e v k j = go (ltb j k)
   where
