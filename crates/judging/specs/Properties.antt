@@ -19,6 +19,7 @@ use Rattle.spec.specs.Rdf as F
 use Rattle.spec.specs.NTriples.{Subject, named, blank, node, label, decimal}
 use Rattle.spec.specs.Document as D
 use Rattle.spec.specs.StartTag as S
+use Rattle.spec.specs.Productions as O
 use Rattle.spec.specs.Productions.{Opened, tagLines, statement, elementType, isLi, propertyIri, subjectOf, hasNode, openProperty, parseTypeOf, noParseType, asCollection, asResource, asLiteral, asOther}
 use Rattle.copy.specs.Copy.{part, Wrote, wrote-part, wrote-same}
 use Rattle.label.specs.Digits.{length-decimal}
@@ -53,7 +54,7 @@ use Rattle.plan.specs.declared.Plan.{Plan}
 use Rattle.plan.specs.declared.Start.{Start}
 use Rattle.plan.specs.Plan.{isThere, objectIn, madeLabel, defaultPlan, heldPlan, resourcePlan}
 use Rattle.plan.specs.Says.{Says, object-subject, no-object}
-use Rattle.plan.specs.Does.{Does, does-collection, does-literal, does-other, does-resource, does-default}
+use Rattle.plan.specs.Does.{Does, lacking-object, does-collection, does-literal, does-other, does-resource, does-default}
 use Rattle.plan.specs.Goes.{told, mainOf, objectOf, propertyOf, Goes}
 use Rattle.tag.specs.declared.Tag.{Tag}
 use Rattle.tag.specs.Tag.{Tells}
@@ -108,6 +109,13 @@ labels-of parse.Collection g s u n = refl
 labels-of parse.Resource g s u n = refl
 labels-of parse.Literal g s u n = refl
 labels-of parse.Other g s u n = refl
+
+fitting-of : (q : ParseType) (g : Given) (s : Source) (u : Bool) (n : ℕ) → Fitting (propertyPlan q g s u n .parts)
+fitting-of parse.Absent g s u n = record { lacks = lacking-object g u }
+fitting-of parse.Collection g s u n = record { lacks = (refl, refl) }
+fitting-of parse.Resource g s u n = record { lacks = (refl, refl, refl) }
+fitting-of parse.Literal g s u n = record { lacks = (refl, refl) }
+fitting-of parse.Other g s u n = record { lacks = (refl, refl) }
 
 -- a label is left, a number is left
 pub label-left : {reserved li : Bool} {c : ℕ} {p : ParseType} {resource nodeID properties : Bool} {n : ℕ} {j : Judgment} → PropertyJudged reserved li c p resource nodeID properties n j → j ≡ judgment.Good
@@ -305,3 +313,108 @@ module _ {t : Tag} {r : Registers} {ids used : ℕ} {fs e v : List ℕ} {m k : �
 
       pub property-judged : JudgesProperty l t r ids used fs e v m k a b
       property-judged = record { cases = λ bs is w ia il st cs rs y kd dp fw at. rules y at kd dp fw; same = mk .keeps .same }
+
+-- the arms of `property_plan`
+module _ {q : ParseType} (g : Given) (s : Source) (u : Bool) (n : ℕ) {p : Plan} where
+  pub plan-absent : q ≡ parse.Absent → p ≡ defaultPlan g s u n → p ≡ propertyPlan q g s u n
+  plan-absent h e = e ∙ rw h
+
+  pub plan-collection : q ≡ parse.Collection → p ≡ heldPlan ParseTypeCollectionPropertyElt g s n → p ≡ propertyPlan q g s u n
+  plan-collection h e = e ∙ rw h
+
+  pub plan-resource : q ≡ parse.Resource → p ≡ resourcePlan g n → p ≡ propertyPlan q g s u n
+  plan-resource h e = e ∙ rw h
+
+  pub plan-literal : q ≡ parse.Literal → p ≡ heldPlan ParseTypeLiteralPropertyElt g s n → p ≡ propertyPlan q g s u n
+  plan-literal h e = e ∙ rw h
+
+  pub plan-other : q ≡ parse.Other → p ≡ heldPlan ParseTypeOtherPropertyElt g s n → p ≡ propertyPlan q g s u n
+  plan-other h e = e ∙ rw h
+
+-- ---- what the calls make
+
+-- `label_if`
+pub record Labels (takes : Bool) (n : ℕ) (a b : List ℕ) (m : ℕ) : Type 0 where
+  pub is : m ≡ pick takes (n + 1) n
+  pub made : takes ≡ true → Wrote a b 6144 6156 (label (n + 1))
+  pub before : Kept a b 0 6144
+  pub behind : Kept a b 6224 (length a)
+  pub same : length b ≡ length a
+
+pub no-label : {takes : Bool} {n : ℕ} {a : List ℕ} → takes ≡ false → Labels takes n a a n
+no-label h = record { is = rw h; made = λ u. absurd (false≢true (sym h ∙ u)); before = kept-all; behind = kept-all; same = refl }
+
+pub one-label : {takes : Bool} {n m : ℕ} {a b : List ℕ} → takes ≡ true → (m ≡ n + 1) × Wrote a b 6144 (6144 + 12) (label (n + 1)) → Labels takes n a b m
+one-label {a = a} h w = record { is = w .0 ∙ rw h; made = λ u. w .1; before = kept-before (w .1); behind = kept-less (kept-behind (length a) (w .1)) (omega arith) (omega arith); same = wrote-same (w .1) }
+
+-- `numbered`
+pub record Numbers (li : Bool) (c : ℕ) (i : Reference) (a b : List ℕ) (s : Source) : Type 0 where
+  pub number : li ≡ true → (e : List ℕ) → textOf s e b ≡ rdf "_" ++ decimal (c + 1)
+  pub own : li ≡ false → s ≡ madeAt 5120 i
+  pub before : Kept a b 0 6160
+  pub behind : Kept a b 6224 (length a)
+  pub same : length b ≡ length a
+
+pub not-numbered : {li : Bool} {c : ℕ} (i : Reference) {a : List ℕ} {s : Source} → li ≡ false → s ≡ madeAt 5120 i → Numbers li c i a a s
+not-numbered i h q = record { number = λ u. absurd (false≢true (sym h ∙ u)); own = λ u. q; before = kept-all; behind = kept-all; same = refl }
+
+number-short : (c : ℕ) → length (rdf "_" ++ decimal (c + 1)) ≤ 64
+unfolding F.all
+number-short c = omega (arith, length-append (rdf "_") (decimal (c + 1)), length-decimal (c + 1))
+
+pub is-numbered : {li : Bool} {c n : ℕ} (i : Reference) {a b : List ℕ} → li ≡ true → Wrote a b 6160 (6160 + n) (rdf "_" ++ decimal (c + 1)) → Numbers li c i a b (Made 6160 n)
+unfolding textOf
+is-numbered {c = c} {n = n} i {a} {b} h w =
+    let l : n ≡ length (rdf "_" ++ decimal (c + 1)) = omega (arith, w .up) in
+    record {
+      number = λ u e. rw l (wrote-part w);
+      own = λ u. absurd (false≢true (sym u ∙ h));
+      before = kept-before w;
+      behind = kept-less (kept-behind (length a) w) (omega (arith, number-short c, l)) (omega arith);
+      same = wrote-same w;
+    }
+
+-- `make_property`
+pub record Left (takes li : Bool) (labels c : ℕ) : Type 0 where
+  pub label : takes ≡ true → labels < 99_999_999
+  pub number : li ≡ true → c < 99_999_999
+
+pub labels-asks : {e v : List ℕ} {k : ℕ} {a : List ℕ} {takes li : Bool} {n c : ℕ} → Ready e v k a → Left takes li n c → (49_152 ≤ length a) × (takes ≡ true → n < mostLabels)
+unfolding mostLabels
+labels-asks rd l = (rd .room, l .label)
+
+pub numbers-asks : {e v : List ℕ} {k : ℕ} {a d : List ℕ} {takes li : Bool} {n c m : ℕ} → Ready e v k a → Left takes li n c → Labels takes n a d m → (49_152 ≤ length d) × (li ≡ true → c < mostLabels)
+unfolding mostLabels
+numbers-asks rd l lb = (omega (arith, rd .room, lb .same), l .number)
+
+pub parse-read : (e v : List ℕ) (b : Bool) (j : ℕ) {p : O.ParseType} {x : Bytes} → p ≡ parseTypeOf (N.idOf b x) → x ≡ valueAt e v j → p ≡ parseTypeOf (N.idOf b (valueAt e v j))
+parse-read e v b j h q = h ∙ ap (λ (y : Bytes). parseTypeOf (N.idOf b y)) q
+
+pub both-left : {reserved li : Bool} {c : ℕ} {p : ParseType} {resource nodeID properties takes : Bool} {n : ℕ} {j : Judgment} → PropertyJudged reserved li c p resource nodeID properties n j → j ≡ judgment.Good
+    → takes ≡ takesLabel (parseTypeIs p) resource nodeID properties → Left takes li n c
+both-left jg h tk = record { label = λ u. label-left jg h (sym tk ∙ u); number = λ u. li-left jg h u }
+
+pub property-made : {x : Start} {t : Tag} {q : ParseType} {takes li named : Bool} {c labels n : ℕ} {e v : List ℕ} {k : ℕ} {a d b : List ℕ} {g : Given} {s : Source} {p : Plan} → Ready e v k a
+    → Labels takes labels a d n → Numbers li c (t .iri) d b s → Gives t e v k g → p ≡ propertyPlan q g s (t .properties) n → x ≡ startBy p t li named s
+    → MakesProperty x t q takes li named c labels e v k a b
+property-made {t = t} {q = q} {li = li} {named = nm} {labels = labels} {e = e} {a = a} {g = g} {s = s} rd lb nu gv pp h =
+    record {
+      parts = g;
+      gives = gv;
+      property = s;
+      is = h ∙ ap (λ (y : Plan). startBy y t li nm s) (pp ∙ ap (propertyPlan q g s (t .properties)) (lb .is));
+      keeps = record {
+        before = kept-then (lb .before) (kept-less (nu .before) (omega arith) (omega arith));
+        behind = kept-then (lb .behind) (kept-less (nu .behind) (omega arith) (omega (arith, lb .same)));
+        same = nu .same ∙ lb .same;
+        room = rd .room;
+      };
+      number = λ u. nu .number u e;
+      own = nu .own;
+      labelled = λ u. nu .before .parts 6144 12 (omega arith) (omega arith) ∙ label-made labels (lb .made u);
+    }
+
+pub limit-asks : {x : Start} {t : Tag} {q : ParseType} {takes li named : Bool} {c labels : ℕ} {e v : List ℕ} {k : ℕ} {a b : List ℕ} → Ready e v k a → MakesProperty x t q takes li named c labels e v k a b
+    → (Short e b) × (k ≤ 65_536) × (Fitting (x .plan .parts))
+limit-asks {x} {t} {q} {e = e} {b = b} rd mk =
+    (record { event = omega (arith, rd .event); area = omega (arith, rd .small, mk .keeps .same) }, omega (arith, rd .few), rw (mk .is) (fitting-of q (mk .parts) (mk .property) (t .properties) _))
