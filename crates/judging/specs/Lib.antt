@@ -8,3 +8,5 @@ pub mod Judges
 pub mod Nodes
 -- Property elements.
 pub mod Properties
+-- By what it stands in.
+pub mod Places

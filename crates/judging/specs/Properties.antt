@@ -27,7 +27,7 @@ use Rattle.frames.specs.declared.Kind.the-variants.{NodeElt, ParseTypeCollectio
 use Rattle.frames.specs.Kept.{Kept, kept-all, kept-then, kept-before, kept-behind, kept-less}
 use Rattle.frames.specs.Words.{pick}
 use Rattle.state.specs.declared.Registers.{Registers}
-use Rattle.state.specs.Meaning.{subjectBelow, elementsOf, count} 
+use Rattle.state.specs.Meaning.{subjectBelow, elementsOf, count}
 use Rattle.state.specs.Meaning as M
 use Rattle.stack.specs.Calls.{topFrame}
 use Rattle.stack.specs.Laws.{Numbered}
@@ -180,7 +180,7 @@ module _ {t : Tag} {r : Registers} {ids used : ℕ} {fs e v : List ℕ} {m k : �
   property-refused {n} h =
       record {
         cases = λ bs is w ia il st cs rs y kd dp fw at. production-stops y (asked y at ∙ (jg .is (y .tells .is) (subjectBelow fs w (r .depth)) (tagged y)
-          ∙ ap (λ (x : Judgment). said x (propertyOpened (parseTypeIs p) (y .tells .is) (propertyIn (y .tells .is) (subjectBelow fs w (r .depth)) c) (r .labels))) h));
+            ∙ ap (λ (x : Judgment). said x (propertyOpened (parseTypeIs p) (y .tells .is) (propertyIn (y .tells .is) (subjectBelow fs w (r .depth)) c) (r .labels))) h));
         same = refl;
       }
 
@@ -256,8 +256,12 @@ module _ {t : Tag} {r : Registers} {ids used : ℕ} {fs e v : List ℕ} {m k : �
         unfolding propertyOpened hasNode J.objectIn told tagLines if_then_else_
         default-lines z true u n =
             let g = no-object (mk .parts) says (t .properties) in
-            rw (← (y .tells .properties), u, g ∙ ap not u,
-              object-subject e b (label (suc (r .labels))) (mk .parts) says (t .properties) u (λ a′ b′. labelled-as z (rw (a′, b′) (without (isSome (y .tells .is .resource)) (isSome (y .tells .is .nodeID)) (t .properties) u a′ b′))))
+            rw (
+              ← (y .tells .properties),
+              u,
+              g ∙ ap not u,
+              object-subject e b (label (suc (r .labels))) (mk .parts) says (t .properties) u (λ a′ b′. labelled-as z (rw (a′, b′) (without (isSome (y .tells .is .resource)) (isSome (y .tells .is .nodeID)) (t .properties) u a′ b′))),
+            )
         default-lines z false u n =
             let g = no-object (mk .parts) says (t .properties) in
             rw (← (y .tells .properties), u, g ∙ ap not u)

@@ -1,7 +1,7 @@
 // The rules that a start tag outside Literal content is judged by, once it is read: 14, 15, 18, and the limits on what is kept (7).
 ghost use mathlib.Core.Path.{_≡_};
 ghost use mathlib.Core.Bool.{not, true};
-ghost use Prim.Native.Nat.{_<_, _≤_};
+ghost use Prim.Native.Nat.{_*_, _<_, _≤_};
 ghost use lib.ListN.{length};
 ghost use Rattle.element.specs.Element.{Fitting};
 ghost use Rattle.element.specs.Sizes.{Short};
@@ -9,10 +9,12 @@ ghost use Rattle.giving.specs.Giving.{isMissing};
 ghost use Rattle.spec.specs.Limits.{mostLabels};
 ghost use Rattle.judging.specs.Names.{iriText};
 ghost use Rattle.judging.specs.Limits.{roomForId, Limited};
-ghost use Rattle.judging.specs.Judges.{startBy};
+ghost use Rattle.judging.specs.Judges.{Judges, startBy};
 ghost use Rattle.judging.specs.Nodes.{Ready, MakesNode, JudgesNode};
 ghost use Rattle.judging.specs.Properties.{propertyPlan, MakesProperty, JudgesProperty, Labels, Numbers, Left};
+ghost use Rattle.judging.specs.Places.{JudgesRoot, MakesRoot};
 use element::Source;
+use event::Place;
 use frames::Kind;
 use plan::Given;
 use plan::Plan;
@@ -31,8 +33,75 @@ pub enum Verdict {
     Go(Start),
 }
 
+// A start tag that was read, by what it stands in.
+pub fn judge_tag(
+    t: Tag,
+    r: Registers,
+    count: usize,
+    used: usize,
+    frames: &[u32],
+    work: &[u8],
+    scratch: &[u8],
+    spans: &[u32],
+    m: usize,
+    k: usize,
+    area: &mut [u8],
+) -> Verdict
+    requires { ⌜ Ready (now scratch) (now spans) k (now area) ⌝ }
+    ensures { λ q. ⌜ Judges q t r count used (now (frames .entry)) (now (work .entry)) (now (scratch .entry)) (now (spans .entry)) m k (now (area .entry)) (now (area .exit)) ⌝ }
+{
+    let place = event::place_at(r, frames);
+    match place {
+        Place::Outside => judge_root(t, r, count, used, scratch, spans, m, k, area),
+        Place::Nodes => judge_node(t, r, count, used, scratch, spans, m, k, area),
+        Place::Properties => {
+            judge_property(t, r, count, used, frames, scratch, spans, m, k, area)
+        }
+        Place::NodesOrText => judge_node(t, r, count, used, scratch, spans, m, k, area),
+        Place::Xml => judge_node(t, r, count, used, scratch, spans, m, k, area),
+    }
+}
+
+// The root: rdf:RDF, or a node element.
+fn judge_root(
+    t: Tag,
+    r: Registers,
+    count: usize,
+    used: usize,
+    scratch: &[u8],
+    spans: &[u32],
+    m: usize,
+    k: usize,
+    area: &mut [u8],
+) -> Verdict
+    requires { ⌜ Ready (now scratch) (now spans) k (now area) ⌝ }
+    ensures { λ q. ⌜ JudgesRoot q t r count used (now (scratch .entry)) (now (spans .entry)) m k (now (area .entry)) (now (area .exit)) ⌝ }
+{
+    let iri = t.iri;
+    let name = iri_text(iri, area);
+    let described = production::is_description(name);
+    if !production::is_rdf(name) {
+        return judge_node(t, r, count, used, scratch, spans, m, k, area);
+    }
+    if !t.short {
+        return Verdict::Stop(Refusal::OverLimit);
+    }
+    let x = make_root(t, !described, r.labels, scratch, spans, k);
+    limited(x, r, count, used, scratch, spans, m, k, area)
+}
+
+// rdf:RDF.
+fn make_root(t: Tag, named: bool, labels: u64, scratch: &[u8], spans: &[u32], k: usize) -> Start
+    requires { ⌜ k * 4 ≤ length (now spans) ⌝ }
+    ensures { λ x. ⌜ MakesRoot x t named labels (now (scratch .entry)) (now (spans .entry)) k ⌝ }
+{
+    let g = giving::given(t, scratch, spans, k);
+    let p = plan::root(g, labels);
+    start_by(p, t, false, named, Source::Missing)
+}
+
 // A node element. Its label is made in the area.
-pub fn judge_node(
+fn judge_node(
     t: Tag,
     r: Registers,
     count: usize,
@@ -67,7 +136,7 @@ pub fn judge_node(
 }
 
 // A property element in the node on top. The number of an rdf:li and the label that it takes are made in the area.
-pub fn judge_property(
+fn judge_property(
     t: Tag,
     r: Registers,
     count: usize,
@@ -93,14 +162,35 @@ pub fn judge_property(
     let described = production::is_description(name);
     let parse = production::parse_type_of(t.parse < k, names::value_of(scratch, spans, t.parse));
     let resource = !is_missing(object);
-    match production::judge_property(reserved, li, numbers, parse, resource, t.node < k, t.properties, r.labels) {
+    match production::judge_property(
+        reserved,
+        li,
+        numbers,
+        parse,
+        resource,
+        t.node < k,
+        t.properties,
+        r.labels,
+    ) {
         Judgment::Stop(why) => Verdict::Stop(why),
         Judgment::Good => {
             if !t.short {
                 return Verdict::Stop(Refusal::OverLimit);
             }
             let takes = production::takes_label(parse, resource, t.node < k, t.properties);
-            let x = make_property(t, parse, takes, li, !described, numbers, r.labels, scratch, spans, k, area);
+            let x = make_property(
+                t,
+                parse,
+                takes,
+                li,
+                !described,
+                numbers,
+                r.labels,
+                scratch,
+                spans,
+                k,
+                area,
+            );
             limited(x, r, count, used, scratch, spans, m, k, area)
         }
     }
@@ -132,12 +222,23 @@ fn make_property(
 }
 
 // By its rdf:parseType.
-fn property_plan(parse: ParseType, g: Given, property: Source, attributes: bool, labels: u64) -> Plan
+fn property_plan(
+    parse: ParseType,
+    g: Given,
+    property: Source,
+    attributes: bool,
+    labels: u64,
+) -> Plan
     ensures { λ p. ⌜ p ≡ propertyPlan parse g property attributes labels ⌝ }
 {
     match parse {
         ParseType::Absent => plan::default(g, property, attributes, labels),
-        ParseType::Collection => plan::held(Kind::ParseTypeCollectionPropertyElt, g, property, labels),
+        ParseType::Collection => plan::held(
+            Kind::ParseTypeCollectionPropertyElt,
+            g,
+            property,
+            labels,
+        ),
         ParseType::Resource => plan::resource(g, labels),
         ParseType::Literal => plan::held(Kind::ParseTypeLiteralPropertyElt, g, property, labels),
         ParseType::Other => plan::held(Kind::ParseTypeOtherPropertyElt, g, property, labels),
