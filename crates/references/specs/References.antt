@@ -3,17 +3,17 @@ use Prim.Native.Nat.{ℕ, zero, suc, _+_, _<_, _≤_}
 use mathlib.Core.Path.{_≡_, refl, sym, ap, _∙_}
 use mathlib.Core.Bool.{Bool, true, false, _&&_, _||_, not, false≢true}
 use mathlib.Core.Option.{Option, none, some}
-use mathlib.Core.List.{List, [], _∷_}
+use mathlib.Core.List.{List}
 use native.Mathlib.Omega.{arith}
 use lib.Dec.{leb}
 use lib.ListN.{length, getD, length-take, drop}
-use borrow.Author.Tests.{le-leb, lt-leb, leb-true, leb-false}
+use borrow.Author.Tests.{le-leb, lt-leb, leb-false}
 use Rattle.spec.specs.Bytes.{Bytes, same, member, _>>=_, _>>_, require_or_}
 use Rattle.spec.specs.Numbers.{Answer, refuse, good}
 use Rattle.spec.specs.declared.Refusal.{Refusal}
 use Rattle.spec.specs.declared.Refusal.the-variants.{BadIri, RepeatedId}
 use Rattle.spec.specs.Limits.{mostNameBytes}
-use Rattle.spec.specs.StartTag.{Role, rdf-ID, rdf-about, rdf-resource, rdf-datatype, rdf-type, Meaning, first, resolved, withHash, isUnused}
+use Rattle.spec.specs.StartTag.{rdf-ID, rdf-about, rdf-resource, rdf-datatype, rdf-type, Meaning, first, resolved, withHash, isUnused}
 use Rattle.spec.proofs.Booleans.{no-true}
 use Rattle.copy.specs.Copy.{part}
 use Rattle.copy.specs.Texts.{same-true}
@@ -23,7 +23,7 @@ use Rattle.ids.specs.Ids.{idsOf, endToEnd, ValidIds, last-short, others-linked,
 use Rattle.ids.specs.Ids as Ids
 use Rattle.reference.specs.declared.Reference.{Reference}
 use Rattle.reference.specs.declared.Reference.the-variants.{Missing, Bad, Long, Made}
-use Rattle.reference.specs.Reference.{isBad, isLong, Over, Placed, Refers, Resolves, refers-as, refers-kept}
+use Rattle.reference.specs.Reference.{isBad, isLong, Refers, Resolves, refers-as, refers-kept}
 use Rattle.attributes.specs.Reads.{meaningsOf, Roles}
 use Rattle.attributes.specs.First.{firstIn}
 use Rattle.references.specs.declared.Others.{Others}

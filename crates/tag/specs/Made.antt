@@ -3,20 +3,19 @@ use Prim.Native.Nat.{ℕ, _+_, _-_, _<_, _≤_}
 use mathlib.Core.Path.{_≡_, refl, sym, ap, _∙_}
 use mathlib.Core.Bool.{Bool, true, false, _&&_, not, false≢true}
 use mathlib.Core.Option.{Option, none, some}
-use mathlib.Core.List.{List, [], _∷_, _++_, map}
+use mathlib.Core.List.{List, _++_, map}
 use native.Mathlib.Omega.{arith}
 use lib.Dec.{leb, ltb}
 use lib.ListN.{length, drop, length-append, length-take, length-map}
-use borrow.Author.Tests.{le-leb, lt-leb, lt-ltb, le-ltb, ltb-true, leb-true, leb-false}
-use Rattle.spec.specs.Bytes.{Bytes, every, present}
+use borrow.Author.Tests.{le-leb, lt-leb, lt-ltb, le-ltb, leb-true, leb-false}
+use Rattle.spec.specs.Bytes.{Bytes, every}
 use Rattle.spec.specs.Numbers.{Answer, refuse, good}
 use Rattle.spec.specs.declared.Refusal.the-variants.{NoNamespace}
 use Rattle.spec.specs.Limits.{mostNameBytes}
 use Rattle.spec.specs.Abnf.{lower}
 use Rattle.spec.specs.Namespaces.{xmlName}
-use Rattle.spec.specs.StartTag.{xml-base, xml-lang, rdf-nodeID, rdf-parseType, property, lowercased, allShort}
+use Rattle.spec.specs.StartTag.{xml-base, xml-lang, rdf-nodeID, rdf-parseType, property}
 use Rattle.copy.specs.Copy.{part, Put, Wrote, put-fits, then as row, wrote-part}
-use Rattle.frames.specs.Words.{pick}
 use Rattle.frames.specs.Kept.{Kept, kept-all, kept-before, kept-then, kept-less}
 use Rattle.names.specs.declared.Found.{Found}
 use Rattle.names.specs.declared.Found.the-variants.{Unknown, Xml, Own, Held}
@@ -24,8 +23,7 @@ use Rattle.names.specs.Tag.{valueAt, backOf}
 use Rattle.names.specs.Found.{foundBytes, answered}
 use Rattle.reference.specs.declared.Reference.{Reference}
 use Rattle.reference.specs.declared.Reference.the-variants.{Missing, Bad, Long, Made}
-use Rattle.reference.specs.Reference.{given, isLong, Over, Placed, Refers, Resolves, refers-kept}
-use Rattle.references.specs.declared.Others.{Others}
+use Rattle.reference.specs.Reference.{given, isLong, Refers, Resolves, refers-kept}
 use Rattle.references.specs.declared.References.{References}
 use Rattle.references.specs.Values.{valueIf, value-most}
 use Rattle.references.specs.References.{anyLong}

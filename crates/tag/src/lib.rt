@@ -1,6 +1,31 @@
 // A start tag outside Literal content, read: refusals 8 to 14 in their order, and everything that a production looks at.
+ghost use mathlib.Core.Path.{_≡_};
+ghost use mathlib.Core.Bool.{not};
+ghost use mathlib.Core.List.{_++_};
+ghost use mathlib.Core.Option.{some};
+ghost use Prim.Native.Nat.{_≤_};
+ghost use lib.ListN.{length};
+ghost use Rattle.spec.specs.Bytes.{every};
+ghost use Rattle.spec.specs.Numbers.{good};
+ghost use Rattle.names.specs.Tag.{backOf};
+ghost use Rattle.names.specs.Found.{foundBytes};
+ghost use Rattle.reference.specs.Reference.{Resolves};
+ghost use Rattle.references.specs.Values.{valueIf};
+ghost use Rattle.attributes.specs.Places.{places};
+ghost use Rattle.attributes.specs.Short.{shortAt};
+ghost use Rattle.tag.specs.Made.{isUnknown, iriOf, Lowered, shortIf, shortBy, RoomToMake, Finished};
+ghost use Rattle.tag.specs.Tag.{Asks, Reads};
+use names::Found;
+use names::XML;
+use reference::Area;
 use reference::Reference;
+use references::References;
+use references::Resolutions;
+use resolve::Resolved;
+use roles::Judgment;
+use roles::Role;
 use spec::Refusal;
+use state::Registers;
 
 // What a tag says. Some attributes are told by their places, which are k where there is none; what is made stands in the area.
 pub struct Tag {
@@ -26,4 +51,210 @@ pub struct Tag {
 pub enum Read {
     Stop(Refusal),
     Good(Tag),
+}
+
+// A tag whose name is the first m bytes of the scratch, with its colon at c, and that has k attributes, which are classified.
+pub fn read_tag(
+    r: Registers,
+    frames: &[u32],
+    bindings: &[u32],
+    work: &[u8],
+    count: usize,
+    starts: &[u32; 512],
+    sizes: &[u32; 512],
+    ids: &[u8],
+    scratch: &[u8],
+    spans: &[u32],
+    m: usize,
+    c: usize,
+    k: usize,
+    classes: &[usize],
+    roles: &mut [u8],
+    area: &mut [u8],
+) -> Read
+    requires { ⌜ Asks (now scratch) (now spans) m c k (now work) (now bindings) (r .bindings) (now classes) (now roles) (now area) ⌝ }
+    ensures { λ t. ⌜ Reads r (now (frames .entry)) (now (bindings .entry)) (now (work .entry)) count (now (starts .entry)) (now (sizes .entry)) (now (ids .entry)) (now (scratch .entry)) (now (spans .entry)) m k (now (classes .entry)) (now (roles .entry)) (now (area .entry)) (now (roles .exit)) (now (area .exit)) t ⌝ }
+{
+    let name = names::piece(scratch, 0, m);
+    let found = names::element(name, c, scratch, spans, k, work, bindings, r.bindings);
+    if is_unknown(found) {
+        return Read::Stop(Refusal::NoNamespace);
+    }
+    let judgment = attributes::read_attributes(scratch, spans, k, work, classes, roles);
+    if let Judgment::Stop(n) = judgment {
+        return Read::Stop(n);
+    }
+    let resolutions = references::resolve_references(
+        r,
+        frames,
+        work,
+        count,
+        starts,
+        sizes,
+        ids,
+        scratch,
+        spans,
+        k,
+        roles,
+        area,
+    );
+    match resolutions {
+        Resolutions::Stop(n) => Read::Stop(n),
+        Resolutions::Good(references) => Read::Good(tag_of(
+            found,
+            name,
+            c,
+            scratch,
+            spans,
+            k,
+            work,
+            classes,
+            roles,
+            references,
+            area,
+        )),
+    }
+}
+
+fn is_unknown(found: Found) -> bool
+    ensures { λ r. ⌜ r ≡ isUnknown found ⌝ }
+{
+    match found {
+        Found::Unknown => true,
+        Found::Xml => false,
+        Found::Own(_, _) => false,
+        Found::Held(_, _) => false,
+    }
+}
+
+// A tag in which nothing is wrong: its expanded name and its language are made.
+fn tag_of(
+    found: Found,
+    name: &[u8],
+    c: usize,
+    scratch: &[u8],
+    spans: &[u32],
+    k: usize,
+    work: &[u8],
+    classes: &[usize],
+    roles: &[u8],
+    references: References,
+    area: &mut [u8],
+) -> Tag
+    requires { ⌜ RoomToMake (now scratch) (now area) ⌝ }
+    ensures { λ t. ⌜ Finished found (now (name .entry)) c (now (scratch .entry)) (now (spans .entry)) k (now (work .entry)) (now (classes .entry)) (now (roles .entry)) references (now (area .entry)) (now (area .exit)) t ⌝ }
+{
+    let id = references.id;
+    let others = references.others;
+    let about = others.about;
+    let resource = others.resource;
+    let datatype = others.datatype;
+    let kind = others.kind;
+    let iri = make_iri(found, name, c, scratch, work, area);
+    let base = attributes::first_in(roles, k, Role::XmlBase);
+    let language = attributes::first_in(roles, k, Role::XmlLang);
+    make_lower(scratch, spans, k, language, area);
+    let property = attributes::first_in(roles, k, Role::Property);
+    Tag {
+        iri,
+        base,
+        language,
+        node: attributes::first_in(roles, k, Role::NodeId),
+        parse: attributes::first_in(roles, k, Role::ParseType),
+        id,
+        about,
+        resource,
+        datatype,
+        kind,
+        properties: property < k,
+        short: is_short(scratch, spans, k, work, classes, base, iri, references),
+    }
+}
+
+// The namespace and the local part, joined at their place.
+fn make_iri(
+    found: Found,
+    name: &[u8],
+    c: usize,
+    scratch: &[u8],
+    work: &[u8],
+    area: &mut [u8],
+) -> Reference
+    requires { ⌜ 6144 ≤ length (now area) ⌝ }
+    ensures { λ r. ⌜ Resolves (iriOf (foundBytes (now (scratch .entry)) (now (work .entry)) found) (backOf c (now (name .entry)))) (now (area .entry)) (now (area .exit)) 5120 r ⌝ }
+{
+    let local = names::back_of(name, c);
+    match found {
+        Found::Unknown => Reference::Missing,
+        Found::Xml => join(&XML, local, area),
+        Found::Own(at, n) => join(names::piece(scratch, at, n), local, area),
+        Found::Held(at, n) => join(names::piece(work, at, n), local, area),
+    }
+}
+
+fn join(space: &[u8], local: &[u8], area: &mut [u8]) -> Reference
+    requires { ⌜ 6144 ≤ length (now area) ⌝ }
+    ensures { λ r. ⌜ Resolves (good (some (now (space .entry) ++ now (local .entry)))) (now (area .entry)) (now (area .exit)) 5120 r ⌝ }
+{
+    let n = space.len();
+    if Resolved::MOST_BYTES < n {
+        return Reference::Long;
+    }
+    if Resolved::MOST_BYTES - n < local.len() {
+        return Reference::Long;
+    }
+    copy::put(area, Area::IRI, space);
+    copy::put(area, Area::IRI + n, local);
+    Reference::Made(n + local.len())
+}
+
+// xml:lang, at place j of k, in lower case.
+fn make_lower(scratch: &[u8], spans: &[u32], k: usize, j: usize, area: &mut [u8])
+    requires { ⌜ RoomToMake (now scratch) (now area) ⌝ }
+    ensures { λ _. ⌜ Lowered (now (scratch .entry)) (now (spans .entry)) k j (now (area .entry)) (now (area .exit)) ⌝ }
+{
+    if k <= j {
+        return;
+    }
+    langtag::lowercase_into(area, Area::TAG, names::value_of(scratch, spans, j));
+}
+
+// "any expanded name, IRI or base 1,024 bytes"; the tag's own base is at place j.
+fn is_short(
+    scratch: &[u8],
+    spans: &[u32],
+    k: usize,
+    work: &[u8],
+    classes: &[usize],
+    j: usize,
+    iri: Reference,
+    references: References,
+) -> bool
+    ensures { λ r. ⌜ r ≡ shortBy iri (every (shortAt (now (scratch .entry)) (now (spans .entry)) (now (work .entry)) (now (classes .entry))) (places 0 k)) (valueIf (now (scratch .entry)) (now (spans .entry)) k j) references ⌝ }
+{
+    let id = references.id;
+    let others = references.others;
+    if iri.is_long() {
+        return false;
+    }
+    if !attributes::names_short(scratch, spans, k, work, classes) {
+        return false;
+    }
+    if is_long_value(scratch, spans, k, j) {
+        return false;
+    }
+    if id.is_long() {
+        return false;
+    }
+    !others.is_long()
+}
+
+// Is there an attribute j of k, and its value longer than an IRI may be?
+fn is_long_value(scratch: &[u8], spans: &[u32], k: usize, j: usize) -> bool
+    ensures { λ r. ⌜ r ≡ not (shortIf (valueIf (now (scratch .entry)) (now (spans .entry)) k j)) ⌝ }
+{
+    if k <= j {
+        return false;
+    }
+    Resolved::MOST_BYTES < names::value_of(scratch, spans, j).len()
 }
