@@ -91,6 +91,7 @@ module _ {r : Registers} {count used : ℕ} {fs bs is w ia il st e v : List ℕ}
 
       module _ {t : Read} {rs′ b : List ℕ} (rd : Reads r fs bs w count ia il st e v m k ds rs a rs′ b t) where
         pub read-stops : {n : Refusal} → t ≡ read.Stop n → JudgesStart (Stop n) r count used (lent fs bs is w ia il st []) e v m k cs rs a ds rs′ b
+        unfolding docOf
         read-stops {n} q =
             let z : readTag (take m e) (attributesOf e v k) (docOf r fs bs is w (idsOf ia il st count)) ≡ refuse n = rw q at (rd .cases is used (x .lawful .valid) (x .lawful .table)) in
             record { rules = stops (unread (formed .form (idsOf ia il st count)) counts z); classes = ch .same; roles = rd .places; area = rd .same }
@@ -116,7 +117,7 @@ module _ {r : Registers} {count used : ℕ} {fs bs is w ia il st e v : List ℕ}
 
 -- ---- done
 
-module _ {r : Registers} {count used : ℕ} {fs bs is w ia il st out e v : List ℕ} {m k : ℕ} {cs rs a cs′ rs′ a′ : List ℕ} {q : Verdict}
+module _ {r : Registers} {count used : ℕ} {fs bs is w ia il st e v : List ℕ} {m k : ℕ} {cs rs a cs′ rs′ a′ : List ℕ} {q : Verdict} (out : List ℕ)
     (j : JudgesStart q r count used (lent fs bs is w ia il st []) e v m k cs rs a cs′ rs′ a′) where
   pub start-stops : {n : Refusal} → q ≡ Stop n
       → HandlesAll (P.opening (take m e) (attributesOf e v k)) r count (progress.Stop n) (lent fs bs is w ia il st out) (lent fs bs is w ia il st out) × (length a′ ≡ length a)

@@ -1,6 +1,7 @@
 // Start tags outside Literal content: judged rule by rule, and carried out where nothing is wrong.
 ghost use mathlib.Core.Path.{_≡_};
 ghost use mathlib.Core.Bool.{false};
+ghost use mathlib.Core.List.{[]};
 ghost use lib.ListN.{length, take};
 ghost use Rattle.spec.specs.Pyx.{opening};
 ghost use Rattle.names.specs.Tag.{attributesOf};
@@ -39,12 +40,47 @@ pub fn start_outside(
     let mut classes = [0usize; 192];
     let mut roles = [0u8; 64];
     let verdict = judge_start(
-        r, count, used, frames, bindings, inners, work, places, sizes, ids, scratch, spans, m, c, k, &mut classes, &mut roles, area,
+        r,
+        count,
+        used,
+        frames,
+        bindings,
+        inners,
+        work,
+        places,
+        sizes,
+        ids,
+        scratch,
+        spans,
+        m,
+        c,
+        k,
+        &mut classes,
+        &mut roles,
+        area,
     );
     match verdict {
         Verdict::Stop(why) => Progress::Stop(why),
         Verdict::Go(x) => acting::act(
-            x, r, count, used, frames, bindings, inners, work, places, sizes, ids, scratch, spans, m, k, area, &classes, &roles, out,
+            x,
+            r,
+            count,
+            used,
+            frames,
+            bindings,
+            inners,
+            work,
+            places,
+            sizes,
+            ids,
+            scratch,
+            spans,
+            m,
+            k,
+            area,
+            &classes,
+            &roles,
+            out,
         ),
     }
 }
@@ -73,17 +109,54 @@ fn judge_start(
     requires { ⌜ Asks r count used (lent (now frames) (now bindings) (now inners) (now work) (now places) (now sizes) (now ids) []) (now scratch) (now spans) m c k (now area) × Roomy (now classes) (now roles) ⌝ }
     ensures { λ q. ⌜ JudgesStart q r count used (lent (now (frames .entry)) (now (bindings .entry)) (now (inners .entry)) (now (work .entry)) (now (places .entry)) (now (sizes .entry)) (now (ids .entry)) []) (now (scratch .entry)) (now (spans .entry)) m k (now (classes .entry)) (now (roles .entry)) (now (area .entry)) (now (classes .exit)) (now (roles .exit)) (now (area .exit)) ⌝ }
 {
-    let form = opening::check_form(r, frames, bindings, inners, work, scratch, spans, m, c, k, classes);
+    let form = opening::check_form(
+        r,
+        frames,
+        bindings,
+        inners,
+        work,
+        scratch,
+        spans,
+        m,
+        c,
+        k,
+        classes,
+    );
     if let Form::Stop(why) = form {
         return Verdict::Stop(why);
     }
     let read = tag::read_tag(
-        r, frames, bindings, work, count, places, sizes, ids, scratch, spans, m, c, k, classes, roles, area,
+        r,
+        frames,
+        bindings,
+        work,
+        count,
+        places,
+        sizes,
+        ids,
+        scratch,
+        spans,
+        m,
+        c,
+        k,
+        classes,
+        roles,
+        area,
     );
     match read {
         Read::Stop(why) => Verdict::Stop(why),
         Read::Good(t) => judging::judge_tag(
-            t, r, count, used, frames, work, scratch, spans, m, k, area,
+            t,
+            r,
+            count,
+            used,
+            frames,
+            work,
+            scratch,
+            spans,
+            m,
+            k,
+            area,
         ),
     }
 }
