@@ -15,7 +15,7 @@ pub enum Form {
 }
 
 // 6 and the counts (7). `classes` gets what is known of each attribute's name.
-fn check_form(
+pub fn check_form(
     r: Registers,
     frames: &[u32],
     bindings: &[u32],

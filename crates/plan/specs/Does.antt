@@ -41,6 +41,10 @@ lacking Missing (Made x z) u h = absurd (omega arith)
 lacking Missing Missing true h = absurd (omega arith)
 lacking Missing Missing false h = refl
 
+pub lacking-object : (g : Given) (u : Bool) → objectIn g u .what ≡ 0 → objectIn g u .source ≡ Missing
+unfolding objectIn
+lacking-object g u = lacking (g .resource) (g .node) u
+
 -- s: the subject of the node around
 pub record Does (p : Plan) (e a : List ℕ) (s : Subject) (o : Opened) : Type 0 where
   pub kind : kindIs (p .parts .kind) (p .parts) e a s ≡ o .kind

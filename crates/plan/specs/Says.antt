@@ -86,12 +86,6 @@ objectBy none (some n) t l = nodeObject (blank n)
 objectBy none none true l = nodeObject (blank l)
 objectBy none none false l = noObject
 
--- the same as a subject, where there is one
-unfoldable pub objectNode : Option Bytes → Option Bytes → Bytes → Subject
-objectNode (some i) n l = named i
-objectNode none (some n) l = blank n
-objectNode none none l = blank l
-
 module _ (e a : List ℕ) (l : Bytes) (made : part a 6144 12 ≡ l) where
   object-cases : (r n : Source) (t : Bool) → objectOf (objectIn (record { base = Missing; tag = Missing; node = n; id = Missing; about = Missing; resource = r; datatype = Missing }) t .what)
       (textOf (objectIn (record { base = Missing; tag = Missing; node = n; id = Missing; about = Missing; resource = r; datatype = Missing }) t .source) e a)
@@ -109,21 +103,28 @@ module _ (e a : List ℕ) (l : Bytes) (made : part a 6144 12 ≡ l) where
   unfolding objectIn
   object-means g s u = rw (← (s .resource), ← (s .node)) (object-cases (g .resource) (g .node) u)
 
-  node-cases : (r n : Source) → nodeIs (eqb (objectIn (record { base = Missing; tag = Missing; node = n; id = Missing; about = Missing; resource = r; datatype = Missing }) true .what) 2)
-      (textOf (objectIn (record { base = Missing; tag = Missing; node = n; id = Missing; about = Missing; resource = r; datatype = Missing }) true .source) e a)
-      ≡ objectNode (maybe r e a) (maybe n e a) l
-  unfolding objectIn nodeIs textOf maybe objectNode
-  node-cases (Own x y) n = refl
-  node-cases (Made x y) n = refl
-  node-cases Missing (Own x y) = refl
-  node-cases Missing (Made x y) = refl
-  node-cases Missing Missing = rw made
+-- the same as a subject, where there is one; l is the label made, where one is taken
+module _ (e a : List ℕ) (l : Bytes) where
+  node-cases : (r n : Source) (t : Bool) → (isThere r || isThere n || t) ≡ true → (isThere r ≡ false → isThere n ≡ false → part a 6144 12 ≡ l)
+      → nodeIs (eqb (objectIn (record { base = Missing; tag = Missing; node = n; id = Missing; about = Missing; resource = r; datatype = Missing }) t .what) 2)
+      (textOf (objectIn (record { base = Missing; tag = Missing; node = n; id = Missing; about = Missing; resource = r; datatype = Missing }) t .source) e a)
+      ≡ subjectOf (maybe r e a) (maybe n e a) l
+  unfolding objectIn nodeIs textOf maybe subjectOf
+  node-cases (Own x y) n t h m = refl
+  node-cases (Made x y) n t h m = refl
+  node-cases Missing (Own x y) t h m = refl
+  node-cases Missing (Made x y) t h m = refl
+  node-cases Missing Missing true h m = ap blank (m refl refl)
+  node-cases Missing Missing false h m = absurd (false≢true h)
 
-  -- where property attributes are there, and so an object
-  pub object-node : (g : Given) {t : Tag} → Says g e a t
-      → nodeIs (eqb (objectIn g true .what) 2) (textOf (objectIn g true .source) e a) ≡ objectNode (t .resource) (t .nodeID) l
+  pub object-subject : (g : Given) {t : Tag} → Says g e a t → (u : Bool) → (isSome (t .resource) || isSome (t .nodeID) || u) ≡ true
+      → (isSome (t .resource) ≡ false → isSome (t .nodeID) ≡ false → part a 6144 12 ≡ l)
+      → nodeIs (eqb (objectIn g u .what) 2) (textOf (objectIn g u .source) e a) ≡ subjectOf (t .resource) (t .nodeID) l
   unfolding objectIn
-  object-node g s = rw (← (s .resource), ← (s .node)) (node-cases (g .resource) (g .node))
+  object-subject g s u h m =
+      let x = ap isSome (sym (s .resource)) ∙ there-is (g .resource) e a in
+      let y = ap isSome (sym (s .node)) ∙ there-is (g .node) e a in
+      rw (← (s .resource), ← (s .node)) (node-cases (g .resource) (g .node) u (rw (← x, ← y) h) (λ p q. m (x ∙ p) (y ∙ q)))
 
 -- is there one?
 object-there : (r n : Source) (t : Bool) → eqb (objectIn (record { base = Missing; tag = Missing; node = n; id = Missing; about = Missing; resource = r; datatype = Missing }) t .what) 0

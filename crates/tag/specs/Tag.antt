@@ -20,6 +20,7 @@ use Rattle.spec.specs.Document.{Doc, inScope, languageInForce, baseInForce}
 use Rattle.spec.specs.StartTag.{Meaning, meaning, first, xml-base, xml-lang, rdf-nodeID, rdf-parseType, property, propertyAttributes, lowercased, resolved, withHash, isUnused, readTag, allShort, isShort}
 use Rattle.spec.specs.StartTag as S
 use Rattle.copy.specs.Copy.{part}
+use Rattle.frames.specs.Kept.{Kept}
 use Rattle.state.specs.declared.Registers.{Registers}
 use Rattle.state.specs.Meaning.{startOf, elementsOf, docOf}
 use Rattle.state.specs.Valid.{Valid}
@@ -37,7 +38,7 @@ use Rattle.reference.specs.Reference.{given, isLong, Refers, refers-as, refers-
 use Rattle.references.specs.declared.References.{References}
 use Rattle.references.specs.declared.Resolutions.{Resolutions}
 use Rattle.references.specs.declared.Resolutions.the-variants.{Stop as Refused, Good as Came}
-use Rattle.references.specs.Values.{valueIf, first-value, inForce}
+use Rattle.references.specs.Values.{value-most, valueIf, first-value, inForce}
 use Rattle.references.specs.References.{Five, references, others, fiveOf, fiveAt, five-means, freshBy, fresh-means, references-fresh, Resolved, Resolving}
 use Rattle.attributes.specs.Places.{places}
 use Rattle.roles.specs.declared.Judgment.{Judgment}
@@ -94,6 +95,34 @@ pub record Reads (r : Registers) (fs bs v : List ℕ) (count : ℕ) (at len stor
   pub same : length after ≡ length area
   pub cases : (is : List ℕ) (used : ℕ) → Valid r fs bs is v → ValidIds count used at len store
       → Cases t e w m k v cs rs after (docOf r fs bs is v (idsOf at len store count))
+
+-- the same of an area in which a label and a numbered property were made since
+abbrev pub tells-kept : {t : Tag} {e w : List ℕ} {m k : ℕ} {v cs rs area after : List ℕ} {d : Doc} → Tells t e w m k v cs rs area d → length e ≤ 32_768
+    → Kept area after 0 6144 → Kept area after 6224 49_152 → length after ≡ length area → Tells t e w m k v cs rs after d
+tells-kept {t} {e} {w} {m} {k} h l p q s =
+    record {
+      is = h .is;
+      answer = h .answer;
+      roles = h .roles;
+      name = h .name;
+      iri = refers-kept 5120 (good (some (h .is .iri))) (t .iri) (h .iri) p (omega arith) s;
+      bindings = h .bindings;
+      ownBase = h .ownBase;
+      ownTag =
+          h .ownTag
+          ∙ ap (given (ltb (t .language) k)) (sym (q .parts 6224 (length (valueAt e w (t .language))) (omega arith) (omega (arith, value-most e w (t .language)))));
+      language = h .language;
+      nodeID = h .nodeID;
+      parseType = h .parseType;
+      attributes = h .attributes;
+      properties = h .properties;
+      id = refers-kept 0 (good (h .is .id)) (t .id) (h .id) p (omega arith) s;
+      about = refers-kept 1024 (good (h .is .about)) (t .about) (h .about) p (omega arith) s;
+      resource = refers-kept 2048 (good (h .is .resource)) (t .resource) (h .resource) p (omega arith) s;
+      datatype = refers-kept 3072 (good (h .is .datatype)) (t .datatype) (h .datatype) p (omega arith) s;
+      kind = refers-kept 4096 (good (h .is .type)) (t .kind) (h .kind) p (omega arith) s;
+      short = h .short;
+    }
 
 -- ---- `readTag`, the references apart
 
