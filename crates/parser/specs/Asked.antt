@@ -1,5 +1,5 @@
 -- What is asked of all that is lent for an event.
-use Prim.Native.Nat.{ℕ, suc, _*_, _≤_}
+use Prim.Native.Nat.{ℕ, _*_, _≤_}
 use mathlib.Core.Path.{_≡_}
 use mathlib.Core.Bool.{false}
 use mathlib.Core.List.{List}
@@ -14,8 +14,6 @@ use Rattle.opening.specs.Form.{Decoded}
 pub record Asks (r : Registers) (count used : ℕ) (l : Lent) : Type 0 where
   pub lawful : Lawful r count used l
   pub mark : r .closed ≡ false
-  -- in the place of `start_outside`
-  pub missing : (n : ℕ) → n ≡ suc n
 
 -- what the handlers of events that enter no rdf:ID ask
 pub handler-asks : {r : Registers} {count used : ℕ} {l : Lent} → Asks r count used l → handler.Asks r (l .frames) (l .bindings) (l .inners) (l .work)

@@ -14,7 +14,6 @@ ghost use Rattle.parser.specs.Asked.{Asks, Roomy, Areas, Tagged};
 ghost use Rattle.parser.specs.Tags.{isLiteral};
 ghost use Rattle.parser.specs.Dispatch.{withIds};
 
-mod stub;
 
 use event::Advance;
 use event::Outcome;
@@ -148,7 +147,7 @@ fn parse_start_event(
         );
         return with_ids(outcome, count, used);
     }
-    stub::start_outside(
+    starting::start_outside(
         r,
         count,
         used,
