@@ -13,8 +13,6 @@ ghost use Rattle.event.specs.Progress.{lent, docIn, Progresses, HandlesAll};
 ghost use Rattle.parser.specs.Asked.{Asks, Roomy, Areas, Tagged};
 ghost use Rattle.parser.specs.Tags.{isLiteral};
 ghost use Rattle.parser.specs.Dispatch.{withIds};
-
-
 use event::Advance;
 use event::Outcome;
 use event::Place;
