@@ -5,6 +5,7 @@ ghost use Rattle.spec.specs.Bytes.{same};
 ghost use Rattle.copy.specs.Copy.{part};
 ghost use Rattle.ids.specs.Ids.{validIds, roomFor, found};
 ghost use Rattle.ids.specs.Adding.{Fresh, Adds};
+use resolve::Resolved;
 
 // Place `i` holds the ID that lies in the store from `at[i]` on and is `len[i]` bytes long. `count` places are in use, the oldest first;
 // their bytes lie end to end and fill the store up to `used`.
@@ -27,8 +28,8 @@ impl IdTable {
     pub const MOST: usize = 512;
     // All of them together, in bytes: the store is exactly as long.
     pub const BYTES: usize = 32_768;
-    // One of them, in bytes: it is an IRI.
-    pub const LONGEST: usize = 1_024;
+    // One of them, in bytes: it is a resolved IRI.
+    pub const LONGEST: usize = Resolved::MOST_BYTES;
 
     // Every place empty, as a document starts.
     pub fn new() -> Self

@@ -26,12 +26,10 @@ use event::Outcome;
 use frames::Frame;
 use frames::Kind;
 use frames::Row;
+use names::Class;
 use names::Found;
 use spec::Refusal;
 use state::Registers;
-
-// Attributes on one element, xmlns included.
-const MOST_ATTRIBUTES: usize = 64;
 
 // What a start tag comes to, before anything changes.
 enum Judged {
@@ -213,7 +211,7 @@ fn counts_fit(r: Registers, scratch: &[u8], spans: &[u32], k: usize) -> bool
     if r.inner >= Frame::MOST - r.depth {
         return false;
     }
-    if k > MOST_ATTRIBUTES {
+    if k > Class::MOST {
         return false;
     }
     if r.bindings > Row::MOST_BINDINGS {

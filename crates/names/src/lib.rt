@@ -49,6 +49,12 @@ impl Class {
     // Words of a class.
     pub const WORDS: usize = 3;
 
+    // Attributes on one element, xmlns included.
+    pub const MOST: usize = 64;
+
+    // Words of a table for all of them.
+    pub const TABLE: usize = 64 * 3;
+
     // Class j of a table; `Unknown` where the table is too short.
     pub fn load(classes: &[usize], j: usize) -> Self
         ensures { λ r. ⌜ r ≡ classAt (now (classes .entry)) j ⌝ }

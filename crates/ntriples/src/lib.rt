@@ -37,8 +37,8 @@ pub fn iri(out: &mut [u8], at: usize, on: bool, front: &[u8], back: &[u8]) -> us
     ensures { λ r. ⌜ Put on (now (out .entry)) (now (out .exit)) at r (writeIri (now (front .entry) ++ now (back .entry))) ⌝ }
 {
     let to = writer::byte(out, at, on, b'<');
-    let to = writer::iri::write(out, to, on, front);
-    let to = writer::iri::write(out, to, on, back);
+    let to = writer::iriref::write(out, to, on, front);
+    let to = writer::iriref::write(out, to, on, back);
     writer::byte(out, to, on, b'>')
 }
 
@@ -296,8 +296,8 @@ fn text(out: &mut [u8], at: usize, on: bool, front: &[u8], back: &[u8]) -> usize
     ensures { λ r. ⌜ Put on (now (out .entry)) (now (out .exit)) at r (quoted (now (front .entry) ++ now (back .entry))) ⌝ }
 {
     let to = writer::byte(out, at, on, b'"');
-    let to = writer::literal::write(out, to, on, front);
-    let to = writer::literal::write(out, to, on, back);
+    let to = writer::quoted::write(out, to, on, front);
+    let to = writer::quoted::write(out, to, on, back);
     writer::byte(out, to, on, b'"')
 }
 

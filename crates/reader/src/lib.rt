@@ -9,6 +9,7 @@ use event::Advance;
 use frames::Frame;
 use frames::Row;
 use ids::IdTable;
+use resolve::Resolved;
 use spec::Refusal;
 use state::Registers;
 use stream::Taken;
@@ -37,9 +38,6 @@ pub struct Report {
 }
 
 impl State {
-    // The start base, in bytes: it is an IRI.
-    pub const MOST_BASE: usize = IdTable::LONGEST;
-
     // Before any document.
     pub fn none() -> Self
         ensures { λ s. ⌜ Nothing s ⌝ }
@@ -173,7 +171,7 @@ fn may_start(lengths: bool, based: bool, base: &[u8]) -> Answer
     if !iri::is_iri(base) {
         return Answer::Refused(Refusal::BadIri);
     }
-    if base.len() > State::MOST_BASE {
+    if base.len() > Resolved::MOST_BYTES {
         return Answer::Refused(Refusal::OverLimit);
     }
     Answer::Done

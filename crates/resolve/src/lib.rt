@@ -25,8 +25,8 @@ pub enum Resolved {
 }
 
 impl Resolved {
-    // The most bytes of a resolved reference.
-    pub const MOST_BYTES: usize = 1024;
+    // Any expanded name, IRI or base, in bytes.
+    pub const MOST_BYTES: usize = 1_024;
 }
 
 // `reference` on `base`. The area is scratch and result at once; it needs one byte more than the two together.

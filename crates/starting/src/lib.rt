@@ -10,6 +10,7 @@ ghost use Rattle.starting.specs.Starting.{Asks, Roomy, JudgesStart};
 use event::Progress;
 use ids::IdTable;
 use judging::Verdict;
+use names::Class;
 use opening::Form;
 use state::Registers;
 use tag::Read;
@@ -37,8 +38,8 @@ pub fn start_outside(
     requires { ⌜ Asks r count used (lent (now frames) (now bindings) (now inners) (now work) (now places) (now sizes) (now ids) (now out)) (now scratch) (now spans) m c k (now area) × (r .closed ≡ false) ⌝ }
     ensures { λ o. ⌜ HandlesAll (opening (take m (now (scratch .entry))) (attributesOf (now (scratch .entry)) (now (spans .entry)) k)) r count o (lent (now (frames .entry)) (now (bindings .entry)) (now (inners .entry)) (now (work .entry)) (now (places .entry)) (now (sizes .entry)) (now (ids .entry)) (now (out .entry))) (lent (now (frames .exit)) (now (bindings .exit)) (now (inners .entry)) (now (work .exit)) (now (places .exit)) (now (sizes .exit)) (now (ids .exit)) (now (out .exit))) × (length (now (area .exit)) ≡ length (now (area .entry))) ⌝ }
 {
-    let mut classes = [0usize; 192];
-    let mut roles = [0u8; 64];
+    let mut classes = [0usize; Class::TABLE];
+    let mut roles = [0u8; Class::MOST];
     let verdict = judge_start(
         r,
         count,

@@ -7,6 +7,7 @@ use event::Progress;
 use ids::IdTable;
 use pyx::Event;
 use pyx::First;
+use reference::Area;
 use spec::Refusal;
 use state::Registers;
 
@@ -22,7 +23,7 @@ impl Taken {
 
     pub const SPANS: usize = 256;
 
-    pub const AREA: usize = 49_152;
+    pub const AREA: usize = Area::BYTES;
 }
 
 // The first event of the input, in an open document. The last three are scratch.

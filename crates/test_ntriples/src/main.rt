@@ -163,10 +163,10 @@ fn xml() {
 // Room for all, one short, and a count that stays at its largest.
 fn bounds() {
     let mut exact = *b"......";
-    let n = writer::literal::write(&mut exact, 1, true, b"a\"bc");
+    let n = writer::quoted::write(&mut exact, 1, true, b"a\"bc");
     say(&exact);
     let mut short = *b".....";
-    let m = writer::literal::write(&mut short, 1, true, b"a\"bc");
+    let m = writer::quoted::write(&mut short, 1, true, b"a\"bc");
     say(&short);
     if n == m {
         say(b" as counted");

@@ -4,9 +4,9 @@ ghost use mathlib.Core.Path.{_≡_};
 ghost use mathlib.Core.List.{[], _∷_};
 ghost use Rattle.writer.specs.Put.{counted, Put};
 
-pub mod iri;
-pub mod literal;
-pub mod text;
+pub mod content;
+pub mod iriref;
+pub mod quoted;
 pub mod value;
 
 // The largest count.

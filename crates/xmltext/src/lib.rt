@@ -44,5 +44,5 @@ pub fn end_tag(out: &mut [u8], at: usize, on: bool, name: &[u8]) -> usize
 pub fn text(out: &mut [u8], at: usize, on: bool, s: &[u8]) -> usize
     ensures { λ r. ⌜ Put on (now (out .entry)) (now (out .exit)) at r (textXml (now (s .entry))) ⌝ }
 {
-    writer::text::write(out, at, on, s)
+    writer::content::write(out, at, on, s)
 }
