@@ -59,7 +59,7 @@ step-sound last s room (isOpen d) h = go (callStep last s room (isOpen d)) (repo
     go r (gave x) = sound-marked (effect x) d
 
 -- finish leaves the document closed, whatever it answers
-finish-closes : (t : calls.State) → callFinish t .behind ≡ markClosed t
+pub finish-closes : (t : calls.State) → callFinish t .behind ≡ markClosed t
 unfolding callFinish finished finish refusedIn refused markedBy markClosed require_or_
 finish-closes unlawful = refl
 finish-closes (isClosed d) = refl
@@ -148,6 +148,22 @@ pub data Ran (based : Bool) (base : Bytes) : State → List ℕ → List ℕ →
   -- a start that is refused changes nothing
   declined : {s : State} {w i : List ℕ} {o : Bytes} {a : Bool} {b : Bytes} {r : Report} {w′ : List ℕ} (n : Refusal)
       → Ran based base s w i o → Starts a b s w i r w′ → r .answer ≡ Refused n → Ran based base (r .state) w′ i o
+
+-- further calls behind those of h
+pub data Onward {based : Bool} {base : Bytes} {s : State} {w i : List ℕ} {o : Bytes} (h : Ran based base s w i o)
+    : (s′ : State) (w′ i′ : List ℕ) (o′ : Bytes) → Ran based base s′ w′ i′ o′ → Type 0 where
+  now : Onward h s w i o h
+  and-stepped : {s′ : State} {w′ i′ : List ℕ} {o′ : Bytes} {k : Ran based base s′ w′ i′ o′} {last : Bool} {input : Bytes} {out : List ℕ} {r : Report} {w″ i″ out″ : List ℕ}
+      → Onward h s′ w′ i′ o′ k → (x : Steps last input s′ w′ i′ out r w″ i″ out″) → Onward h (r .state) w″ i″ (o′ ++ take (r .written) out″) (stepped k x)
+  and-ended : {s′ : State} {w′ i′ : List ℕ} {o′ : Bytes} {k : Ran based base s′ w′ i′ o′} {r : Report}
+      → Onward h s′ w′ i′ o′ k → (x : Finishes s′ w′ i′ r) → Onward h (r .state) w′ i′ o′ (ended k x)
+  and-declined : {s′ : State} {w′ i′ : List ℕ} {o′ : Bytes} {k : Ran based base s′ w′ i′ o′} {a : Bool} {b : Bytes} {r : Report} {w″ : List ℕ} (n : Refusal)
+      → Onward h s′ w′ i′ o′ k → (x : Starts a b s′ w′ i′ r w″) (q : r .answer ≡ Refused n) → Onward h (r .state) w″ i′ o′ (declined n k x q)
+
+-- the same document at the same state or a later one
+abbrev pub Later : {based : Bool} {base : Bytes} {s : State} {w i : List ℕ} {o : Bytes} {s′ : State} {w′ i′ : List ℕ} {o′ : Bytes}
+    → Ran based base s w i o → Ran based base s′ w′ i′ o′ → Type 0
+Later {s′} {w′} {i′} {o′} h k = Onward h s′ w′ i′ o′ k
 
 -- the steps of `spec`, up to the mark that finish sets
 pub record Follows (b : Option Bytes) (m : calls.State) (o : Bytes) : Type 0 where
