@@ -46,7 +46,7 @@ pub counted-below : (at n : ℕ) → counted at n < most → counted at n ≡ at
 counted-below at n h = omega arith
 
 -- one way or the other
-compare : (a b : ℕ) → (a ≤ b) ⊎ (b < a)
+pub compare : (a b : ℕ) → (a ≤ b) ⊎ (b < a)
 compare a b = go (leb a b) refl
   where
     go : (t : Bool) → leb a b ≡ t → (a ≤ b) ⊎ (b < a)
