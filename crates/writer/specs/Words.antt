@@ -96,13 +96,12 @@ literal-unmarked c h =
 
 -- a mask takes four marks at once
 iriMarked : ℕ → Bool
-iriMarked c = ((leb c 34 || eqb (bitAnd c 157) 28) || eqb c 96) || leb 123 c
+iriMarked c = ((eqb (bitAnd c 157) 28 || eqb c 96) || leb c 34) || leb 123 c
 
-pub iri-unmarked : (c : ℕ) → (((leb c 34 || eqb (bitAnd c 157) 28) || eqb c 96) || leb 123 c) ≡ false → iriByte c ≡ c ∷ []
+pub iri-unmarked : (c : ℕ) → (((eqb (bitAnd c 157) 28 || eqb c 96) || leb c 34) || leb 123 c) ≡ false → iriByte c ≡ c ∷ []
 unfolding iriMarked every
 iri-unmarked c h =
-    let d : ((leb c 34 || eqb (bitAnd c 157) 28) || eqb c 96 ≡ false) × (leb 123 c ≡ false) = neither ((leb c 34 || eqb (bitAnd c 157) 28) || eqb c 96) (leb 123 c) h in
-    let b : (leb c 34 || eqb (bitAnd c 157) 28 ≡ false) × (eqb c 96 ≡ false) = neither (leb c 34 || eqb (bitAnd c 157) 28) (eqb c 96) (d .0) in
-    let low : 34 < c = leb-false c 34 (neither (leb c 34) (eqb (bitAnd c 157) 28) (b .0) .0) in
+    let d : ((eqb (bitAnd c 157) 28 || eqb c 96) || leb c 34 ≡ false) × (leb 123 c ≡ false) = neither ((eqb (bitAnd c 157) 28 || eqb c 96) || leb c 34) (leb 123 c) h in
+    let low : 34 < c = leb-false c 34 (neither (eqb (bitAnd c 157) 28 || eqb c 96) (leb c 34) (d .0) .1) in
     let high : c < 123 = leb-false 123 c (d .1) in
     iri-same (allowed (omega arith) (λ m. false≢true (sym h ∙ one-of iriMarked 34 (60 ∷ 62 ∷ 92 ∷ 94 ∷ 96 ∷ []) c refl m)) (inl high))

@@ -50,11 +50,11 @@ fn has_marked(s: &[u8], from: usize, to: usize) -> bool
     marked
 }
 
-// Coarser than `is_forbidden`: fewer tests. The mask is that of <, >, \ and ^.
+// Coarser than `is_forbidden`: fewer tests, in an order in which sixteen bytes take few instructions. The mask is that of <, >, \ and ^.
 fn is_marked(b: u8) -> bool
     ensures { λ r. ⌜ (r ≡ false → iriByte b ≡ b ∷ []) ⌝ }
 {
-    (b <= b'"') | ((b & 0x9D) == 0x1C) | (b == b'`') | (b'{' <= b)
+    ((b & 0x9D) == 0x1C) | (b == b'`') | (b <= b'"') | (b'{' <= b)
 }
 
 // A run of bytes that are written as they are, one that is not, and so on.
