@@ -12,7 +12,7 @@ use lib.Seq.{take-suc, take-length, take-add}
 use Rattle.spec.specs.Bytes.{Bytes}
 use Rattle.spec.specs.NTriples.{coded}
 use Rattle.copy.specs.Copy.{rest-of}
-use Rattle.writer.specs.Put.{Put, puts, put-as, compare}
+use Rattle.writer.specs.Put.{most, Put, puts, put-as, put-none, compare}
 use Rattle.writer.specs.Words.{neither}
 
 module _ (w : ℕ → Bytes) where
@@ -108,3 +108,9 @@ clean-whole {w} s c n = go s (λ k h. c .eq n k (omega arith) h)
     go : (s : Bytes) → ((k : ℕ) → k < length s → w (getD s k 0) ≡ getD s k 0 ∷ []) → coded w s ≡ s
     go [] h = refl
     go (b ∷ s) h = rw (h 0 (omega arith), go s (λ k l. h (suc k) (omega arith)))
+
+-- nothing to code, nothing written
+pub coded-none : (w : ℕ → Bytes) {on : Bool} {d : List ℕ} (s : Bytes) {at : ℕ} → length s ≡ 0 → at ≤ most → Put on d d at at (coded w s)
+unfolding coded
+coded-none w [] e h = put-none h
+coded-none w (x ∷ s) e h = absurd (omega (arith, e))

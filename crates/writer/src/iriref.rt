@@ -11,6 +11,9 @@ ghost use Rattle.writer.specs.Coded.{Plain, Clean};
 pub fn write(out: &mut [u8], at: usize, on: bool, s: &[u8]) -> usize
     ensures { λ r. ⌜ Put on (now (out .entry)) (now (out .exit)) at r (coded iriByte (now (s .entry))) ⌝ }
 {
+    if s.len() == 0 {
+        return at;
+    }
     if is_plain(s) {
         return crate::bytes(out, at, on, s);
     }
