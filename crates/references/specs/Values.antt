@@ -32,10 +32,10 @@ value-most e w j = part-most e (startAt w j + sizeAt w j) (valueSizeAt w j)
 unfoldable pub valueIf : List ℕ → List ℕ → ℕ → ℕ → Option Bytes
 valueIf e w k j = given (ltb j k) (valueAt e w j)
 
--- as it is read: v is the value
-pub if-value : (e w : List ℕ) (k : ℕ) {j i : ℕ} {v : Bytes} → v ≡ valueAt e w j → j ≡ i → given (ltb j k) v ≡ valueIf e w k i
-unfolding valueIf
-if-value e w k p q = rw (p, q)
+-- as it is read, at the place j: v is the value
+pub some-value : (e w : List ℕ) (k : ℕ) {j i : ℕ} {v : Bytes} → j ≡ i → j < k → v ≡ valueAt e w j → given true v ≡ valueIf e w k i
+unfolding valueIf given
+some-value e w k {j} q h p = rw (← q, lt-ltb j k h, p)
 
 -- that of a role: j is the place of its first attribute
 module _ {e w v cs rs : List ℕ} {k : ℕ} (h : Roles e w v cs rs k) (r : Role) where

@@ -169,8 +169,11 @@ fn resolve_id(
     ensures { λ r. ⌜ Resolves (resolved (given based (now (base .entry))) (withHash (valueIf (now (scratch .entry)) (now (spans .entry)) k (firstIn (now (roles .entry)) k rdf-ID)))) (now (area .entry)) (now (area .exit)) 0 r ⌝ }
 {
     let j = attributes::first_in(roles, k, Role::Id);
+    if k <= j {
+        return Reference::Missing;
+    }
     let value = names::value_of(scratch, spans, j);
-    reference::resolved_id(based, base, j < k, value, area)
+    reference::resolved_id(based, base, true, value, area)
 }
 
 // Had an earlier event this rdf:ID? One that is too long had none.
@@ -272,6 +275,9 @@ fn resolve_in(
     ensures { λ r. ⌜ Resolves (resolved (given based (now (base .entry))) (valueIf (now (scratch .entry)) (now (spans .entry)) k (firstIn (now (roles .entry)) k (roleIs role)))) (now (area .entry)) (now (area .exit)) at r ⌝ }
 {
     let j = attributes::first_in(roles, k, role);
+    if k <= j {
+        return Reference::Missing;
+    }
     let value = names::value_of(scratch, spans, j);
-    reference::resolved(based, base, j < k, value, area, at)
+    reference::resolved(based, base, true, value, area, at)
 }
