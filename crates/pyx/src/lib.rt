@@ -11,7 +11,7 @@ ghost use Rattle.spec.specs.Pyx as escapes;
 ghost use Rattle.copy.specs.Copy.{Put};
 ghost use Rattle.pyx.specs.First.{Cuts, inLine, atLineEnd};
 ghost use Rattle.pyx.specs.Lines.{linesOf, spaced};
-ghost use Rattle.pyx.specs.Names.{Named};
+ghost use Rattle.pyx.specs.Names.{Colons, Named};
 ghost use Rattle.pyx.specs.Escapes.{Nexts, Unescapes, dataOf};
 ghost use Rattle.pyx.specs.Attributes.{Reads, Behind, Lays, Small, row};
 ghost use Rattle.pyx.specs.Decode.{Says, Decodes, Fits};
@@ -371,16 +371,22 @@ fn put_name(name: &[u8], scratch: &mut [u8], at: usize) -> Colon
     requires { ⌜ at + length (now name) ≤ length (now scratch) ⌝ }
     ensures { λ r. ⌜ Named r (now (name .entry)) (now (scratch .entry)) (now (scratch .exit)) at ⌝ }
 {
+    match colon_of(name) {
+        Colon::NotName => Colon::NotName,
+        Colon::At(c) => {
+            copy::put(scratch, at, name);
+            Colon::At(c)
+        }
+    }
+}
+
+fn colon_of(name: &[u8]) -> Colon
+    ensures { λ r. ⌜ Colons r (now (name .entry)) ⌝ }
+{
     match utils::qname(name) {
         utils::Name::NotName => Colon::NotName,
-        utils::Name::Local => {
-            copy::put(scratch, at, name);
-            Colon::At(0)
-        }
-        utils::Name::Prefixed(k) => {
-            copy::put(scratch, at, name);
-            Colon::At(k + 1)
-        }
+        utils::Name::Local => Colon::At(0),
+        utils::Name::Prefixed(k) => Colon::At(k + 1),
     }
 }
 
