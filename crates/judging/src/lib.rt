@@ -8,11 +8,12 @@ ghost use Rattle.element.specs.Sizes.{Short};
 ghost use Rattle.giving.specs.Giving.{isMissing};
 ghost use Rattle.spec.specs.Limits.{mostLabels};
 ghost use Rattle.judging.specs.Names.{iriText};
-ghost use Rattle.judging.specs.Limits.{roomForId, Limited};
-ghost use Rattle.judging.specs.Judges.{Judges, startBy};
+ghost use Rattle.judging.specs.Limits.{roomForId, Fits};
+ghost use Rattle.judging.specs.Judges.{Judges, Drafts, startBy};
 ghost use Rattle.judging.specs.Nodes.{Ready, MakesNode, JudgesNode};
 ghost use Rattle.judging.specs.Properties.{propertyPlan, MakesProperty, JudgesProperty, Labels, Numbers, Left};
-ghost use Rattle.judging.specs.Places.{JudgesRoot, MakesRoot};
+ghost use Rattle.judging.specs.Places.{JudgesRoot, MakesRoot, opensAt};
+use element::Parts;
 use element::Source;
 use event::Place;
 use frames::Kind;
@@ -33,7 +34,14 @@ pub enum Verdict {
     Go(Start),
 }
 
-// A start tag that was read, by what it stands in.
+// What a start tag opens.
+enum Opens {
+    Rdf,
+    Node,
+    Property,
+}
+
+// A start tag that was read: its production's rules, then the limits, in one place for all, as what is planned is long to copy.
 pub fn judge_tag(
     t: Tag,
     r: Registers,
@@ -50,44 +58,73 @@ pub fn judge_tag(
     requires { ⌜ Ready (now scratch) (now spans) k (now area) ⌝ }
     ensures { λ q. ⌜ Judges q t r count used (now (frames .entry)) (now (work .entry)) (now (scratch .entry)) (now (spans .entry)) m k (now (area .entry)) (now (area .exit)) ⌝ }
 {
-    let place = event::place_at(r, frames);
-    match place {
-        Place::Outside => judge_root(t, r, count, used, scratch, spans, m, k, area),
-        Place::Nodes => judge_node(t, r, count, used, scratch, spans, m, k, area),
-        Place::Properties => {
-            judge_property(t, r, count, used, frames, scratch, spans, m, k, area)
+    match draft(t, r, frames, scratch, spans, k, area) {
+        Verdict::Stop(why) => Verdict::Stop(why),
+        Verdict::Go(x) => {
+            let plan = x.plan;
+            let parts = plan.parts;
+            let id = x.id;
+            if !fits(parts, id, r.top, count, used, scratch, spans, m, k, area) {
+                return Verdict::Stop(Refusal::OverLimit);
+            }
+            Verdict::Go(x)
         }
-        Place::NodesOrText => judge_node(t, r, count, used, scratch, spans, m, k, area),
-        Place::Xml => judge_node(t, r, count, used, scratch, spans, m, k, area),
     }
 }
 
-// The root: rdf:RDF, or a node element.
-fn judge_root(
+// By what it stands in.
+fn draft(
     t: Tag,
     r: Registers,
-    count: usize,
-    used: usize,
+    frames: &[u32],
     scratch: &[u8],
     spans: &[u32],
-    m: usize,
     k: usize,
     area: &mut [u8],
 ) -> Verdict
     requires { ⌜ Ready (now scratch) (now spans) k (now area) ⌝ }
-    ensures { λ q. ⌜ JudgesRoot q t r count used (now (scratch .entry)) (now (spans .entry)) m k (now (area .entry)) (now (area .exit)) ⌝ }
+    ensures { λ q. ⌜ Drafts q t r (now (frames .entry)) (now (scratch .entry)) (now (spans .entry)) k (now (area .entry)) (now (area .exit)) ⌝ }
+{
+    let iri = t.iri;
+    let place = event::place_at(r, frames);
+    match opened_at(place, iri_text(iri, area)) {
+        Opens::Rdf => judge_root(t, r, scratch, spans, k, area),
+        Opens::Node => judge_node(t, r, scratch, spans, k, area),
+        Opens::Property => judge_property(t, r, frames, scratch, spans, k, area),
+    }
+}
+
+// The root is rdf:RDF or a node element.
+fn opened_at(place: Place, name: &[u8]) -> Opens
+    ensures { λ o. ⌜ o ≡ opensAt place (now (name .entry)) ⌝ }
+{
+    match place {
+        Place::Outside => {
+            if production::is_rdf(name) {
+                return Opens::Rdf;
+            }
+            Opens::Node
+        }
+        Place::Nodes => Opens::Node,
+        Place::Properties => Opens::Property,
+        Place::NodesOrText => Opens::Node,
+        Place::Xml => Opens::Node,
+    }
+}
+
+// rdf:RDF.
+fn judge_root(t: Tag, r: Registers, scratch: &[u8], spans: &[u32], k: usize, area: &[u8]) -> Verdict
+    requires { ⌜ Ready (now scratch) (now spans) k (now area) ⌝ }
+    ensures { λ q. ⌜ JudgesRoot q t r (now (scratch .entry)) (now (spans .entry)) k (now (area .entry)) ⌝ }
 {
     let iri = t.iri;
     let name = iri_text(iri, area);
     let described = production::is_description(name);
-    if !production::is_rdf(name) {
-        return judge_node(t, r, count, used, scratch, spans, m, k, area);
-    }
     if !t.short {
         return Verdict::Stop(Refusal::OverLimit);
     }
     let x = make_root(t, !described, r.labels, scratch, spans, k);
-    limited(x, r, count, used, scratch, spans, m, k, area)
+    Verdict::Go(x)
 }
 
 // rdf:RDF.
@@ -104,16 +141,13 @@ fn make_root(t: Tag, named: bool, labels: u64, scratch: &[u8], spans: &[u32], k:
 fn judge_node(
     t: Tag,
     r: Registers,
-    count: usize,
-    used: usize,
     scratch: &[u8],
     spans: &[u32],
-    m: usize,
     k: usize,
     area: &mut [u8],
 ) -> Verdict
     requires { ⌜ Ready (now scratch) (now spans) k (now area) ⌝ }
-    ensures { λ q. ⌜ JudgesNode q t r count used (now (scratch .entry)) (now (spans .entry)) m k (now (area .entry)) (now (area .exit)) ⌝ }
+    ensures { λ q. ⌜ JudgesNode q t r (now (scratch .entry)) (now (spans .entry)) k (now (area .entry)) (now (area .exit)) ⌝ }
 {
     let iri = t.iri;
     let id = t.id;
@@ -130,7 +164,7 @@ fn judge_node(
                 return Verdict::Stop(Refusal::OverLimit);
             }
             let x = make_node(t, !described, r.labels, scratch, spans, k, area);
-            limited(x, r, count, used, scratch, spans, m, k, area)
+            Verdict::Go(x)
         }
     }
 }
@@ -139,17 +173,14 @@ fn judge_node(
 fn judge_property(
     t: Tag,
     r: Registers,
-    count: usize,
-    used: usize,
     frames: &[u32],
     scratch: &[u8],
     spans: &[u32],
-    m: usize,
     k: usize,
     area: &mut [u8],
 ) -> Verdict
     requires { ⌜ Ready (now scratch) (now spans) k (now area) ⌝ }
-    ensures { λ q. ⌜ JudgesProperty q t r count used (now (frames .entry)) (now (scratch .entry)) (now (spans .entry)) m k (now (area .entry)) (now (area .exit)) ⌝ }
+    ensures { λ q. ⌜ JudgesProperty q t r (now (frames .entry)) (now (scratch .entry)) (now (spans .entry)) k (now (area .entry)) (now (area .exit)) ⌝ }
 {
     let around = stack::top(r, frames);
     let has = around.has;
@@ -191,7 +222,7 @@ fn judge_property(
                 k,
                 area,
             );
-            limited(x, r, count, used, scratch, spans, m, k, area)
+            Verdict::Go(x)
         }
     }
 }
@@ -332,9 +363,10 @@ fn is_missing(reference: Reference) -> bool
 }
 
 // 7: the rdf:IDs, their bytes, held bytes.
-fn limited(
-    x: Start,
-    r: Registers,
+fn fits(
+    parts: Parts,
+    id: Source,
+    top: usize,
     count: usize,
     used: usize,
     scratch: &[u8],
@@ -342,24 +374,18 @@ fn limited(
     m: usize,
     k: usize,
     area: &[u8],
-) -> Verdict
-    requires { ⌜ (Short (now scratch) (now area)) × (k ≤ 65536) × (Fitting (x .plan .parts)) ⌝ }
-    ensures { λ q. ⌜ Limited q x r count used (now (scratch .entry)) (now (spans .entry)) m k (now (area .entry)) ⌝ }
+) -> bool
+    requires { ⌜ (Short (now scratch) (now area)) × (k ≤ 65536) × (Fitting parts) ⌝ }
+    ensures { λ b. ⌜ Fits b parts id top count used (now (scratch .entry)) (now (spans .entry)) m k (now (area .entry)) ⌝ }
 {
-    let plan = x.plan;
-    let parts = plan.parts;
-    let id = x.id;
     let n = element::size(scratch, spans, m, k, area, parts);
     if !id_fits(id, count, used, scratch, area) {
-        return Verdict::Stop(Refusal::OverLimit);
+        return false;
     }
-    if r.top > Registers::MOST_HELD {
-        return Verdict::Stop(Refusal::OverLimit);
+    if top > Registers::MOST_HELD {
+        return false;
     }
-    if n > Registers::MOST_HELD - r.top {
-        return Verdict::Stop(Refusal::OverLimit);
-    }
-    Verdict::Go(x)
+    n <= Registers::MOST_HELD - top
 }
 
 // Is there room for the rdf:ID, if there is one?

@@ -1,9 +1,8 @@
 -- `judging::judge_property` meets its contract.
-use Rattle.judging.specs.Properties.{property-refused, property-long, property-judged, limit-asks, parse-read, both-left}
-use Rattle.state.specs.Meaning.{count}
 use mathlib.Core.Path.{ap}
+use Rattle.state.specs.Meaning.{count}
+use Rattle.judging.specs.Properties.{property-refused, property-long, property-judged, parse-read, both-left}
 use borrow.Author.Tests.{not-true, not-false}
-use native.Mathlib.Omega.{arith}
 use borrow.Author.Needs.{needs}
 use Rattle.judging.proofs.judge_property.Statement.{statement}
 use Rattle.judging.proofs.judge_property.Tie as tie
@@ -59,9 +58,6 @@ takes-label-requires c κs = search needs
 make-property-requires : tie.Need-make-property-requires
 make-property-requires c κs = ((c .before .before .before .before .before .before .before .before .before .before .before .before .before .before .before .before .before .before .before .before .before .before .before .before .pre), both-left (c .before .before .before .before .before .before .before .judge-property .ensures) (c .before .before .before .before .before .enum-told .given .1) (c .before .takes-label .ensures))
 
-limited-requires : tie.Need-limited-requires
-limited-requires c κs = limit-asks (c .before .before .before .before .before .before .before .before .before .before .before .before .before .before .before .before .before .before .before .before .before .before .before .before .before .before .before .before .pre) (c .before .before .before .make-property .ensures)
-
 same-length-2 : tie.Need-same-length-2
 same-length-2 c = search needs
 
@@ -72,7 +68,7 @@ same-length-3 : tie.Need-same-length-3
 same-length-3 c = search needs
 
 returns-3 : tie.Need-returns-3
-returns-3 c = property-judged (c .before .before .before .before .before .before .before .before .before .before .before .before .before .before .before .before .before .before .before .before .before .iri-text .ensures) (c .before .before .before .before .before .before .before .before .before .before .before .before .before .before .before .before .before .before .before .before .is-reserved-property .ensures) (c .before .before .before .before .before .before .before .before .before .before .before .before .before .before .before .before .before .before .before .is-li .ensures) (c .before .before .before .before .before .before .before .before .before .before .before .before .before .before .before .before .before .before .is-description .ensures) (c .before .before .before .before .before .before .before .before .before .before .before .before .before .before .is-missing .ensures) (parse-read _ _ _ _ (c .before .before .before .before .before .before .before .before .before .before .before .before .before .before .before .parse-type-of .ensures) (c .before .before .before .before .before .before .before .before .before .before .before .before .before .before .before .before .value-of .ensures)) (ap count (c .before .before .before .before .before .before .before .before .before .before .before .before .before .before .before .before .before .before .before .before .before .before .before .before .top .ensures)) (c .before .before .before .before .before .before .before .before .before .before .before .before .judge-property .ensures) (c .before .before .before .before .before .before .before .before .before .before .enum-told .given .1) (c .before .before .before .before .before .before .takes-label .ensures) (not-false _ (c .before .before .before .before .before .before .before .before .if1 .left)) (c .before .before .before .before .before .before .before .before .before .before .before .before .before .before .before .before .before .before .before .before .before .before .before .before .before .before .before .before .before .pre) (c .before .before .before .before .make-property .ensures) (c .limited .ensures)
+returns-3 c = property-judged (c .before .before .before .before .before .before .before .before .before .before .before .before .before .before .before .before .before .before .before .iri-text .ensures) (c .before .before .before .before .before .before .before .before .before .before .before .before .before .before .before .before .before .before .is-reserved-property .ensures) (c .before .before .before .before .before .before .before .before .before .before .before .before .before .before .before .before .before .is-li .ensures) (c .before .before .before .before .before .before .before .before .before .before .before .before .before .before .before .before .is-description .ensures) (c .before .before .before .before .before .before .before .before .before .before .before .before .is-missing .ensures) (parse-read _ _ _ _ (c .before .before .before .before .before .before .before .before .before .before .before .before .before .parse-type-of .ensures) (c .before .before .before .before .before .before .before .before .before .before .before .before .before .before .value-of .ensures)) (ap count (c .before .before .before .before .before .before .before .before .before .before .before .before .before .before .before .before .before .before .before .before .before .before .top .ensures)) (c .before .before .before .before .before .before .before .before .before .before .judge-property .ensures) (c .before .before .before .before .before .before .before .before .enum-told .given .1) (c .before .before .before .before .takes-label .ensures) (not-false _ (c .before .before .before .before .before .before .if1 .left)) (c .before .before .before .before .before .before .before .before .before .before .before .before .before .before .before .before .before .before .before .before .before .before .before .before .before .before .before .pre) (c .before .before .make-property .ensures)
 
 pub judge-property-spec : {M : Type 1} → statement M
 judge-property-spec =
@@ -95,7 +91,6 @@ judge-property-spec =
     returns
     takes-label-requires
     make-property-requires
-    limited-requires
     same-length-2
     returns-2
     same-length-3
