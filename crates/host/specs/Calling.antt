@@ -61,7 +61,7 @@ module _ {last : Bool} {input b w i out : Bytes} where
   step-good h {r = r} x e d =
       record {
         bad = λ z. never z (h .read);
-        good = λ t z. rw (same-state z (h .read)) (record { report = r; call = (x, refl, refl); answer = e; behind = d });
+        good = λ t z. rw (same-state z (h .read)) (record { before = h .written; report = r; call = (x, refl, refl); answer = e; behind = d });
       }
 
 module _ {b w i : Bytes} where
@@ -70,4 +70,4 @@ module _ {b w i : Bytes} where
 
   pub finish-good : {s : State} → Stands b s → {r : Report} → Finishes s w i r → {n : ℕ} → n ≡ numberOf (r .answer) → {b′ : Bytes} → Stands b′ (r .state) → FinishesIn b w i n b′
   finish-good h {r = r} x e d =
-      record { bad = λ z. never z (h .read); good = λ t z. rw (same-state z (h .read)) (record { report = r; call = x; answer = e; behind = d }) }
+      record { bad = λ z. never z (h .read); good = λ t z. rw (same-state z (h .read)) (record { before = h .written; report = r; call = x; answer = e; behind = d }) }

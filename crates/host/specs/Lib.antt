@@ -10,3 +10,7 @@ pub mod Rows
 pub mod Saving
 -- ---- how the calls come to their answers
 pub mod Calling
+-- ---- what a host may rely on
+pub mod Use
+pub mod Unique
+pub mod Runs

@@ -30,8 +30,9 @@ pub record Loads (b : Bytes) (i : Image) : Type 0 where
   pub bad : i .good ≡ false → decode b ≡ none
   pub good : i .good ≡ true → Stands b (i .state)
 
--- a call of `reader` gave this report; the host has its number, and the state behind it in the bytes
-pub record Does (R : Report → Type 0) (n : ℕ) (b′ : Bytes) : Type 0 where
+-- From the bytes of s a call of `reader` gave this report; the host has its number, and the state behind it in the bytes.
+pub record Does (b : Bytes) (s : State) (R : Report → Type 0) (n : ℕ) (b′ : Bytes) : Type 0 where
+  pub before : b ≡ encode s
   pub report : Report
   pub call : R report
   pub answer : n ≡ numberOf (report .answer)
@@ -65,8 +66,8 @@ pub record Still (b w i out b′ w′ i′ out′ : List ℕ) : Type 0 where
 -- c bytes are consumed, k written
 pub record StepsIn (last : Bool) (input : Bytes) (b w i out : List ℕ) (n c k : ℕ) (b′ w′ i′ out′ : List ℕ) : Type 0 where
   pub bad : decode b ≡ none → (n ≡ 3) × (c ≡ 0) × (k ≡ 0) × Still b w i out b′ w′ i′ out′
-  pub good : (s : State) → decode b ≡ some s → Does (λ r. Steps last input s w i out r w′ i′ out′ × (c ≡ r .consumed) × (k ≡ r .written)) n b′
+  pub good : (s : State) → decode b ≡ some s → Does b s (λ r. Steps last input s w i out r w′ i′ out′ × (c ≡ r .consumed) × (k ≡ r .written)) n b′
 
 pub record FinishesIn (b w i : List ℕ) (n : ℕ) (b′ : List ℕ) : Type 0 where
   pub bad : decode b ≡ none → (n ≡ 3) × (b′ ≡ b)
-  pub good : (s : State) → decode b ≡ some s → Does (λ r. Finishes s w i r) n b′
+  pub good : (s : State) → decode b ≡ some s → Does b s (λ r. Finishes s w i r) n b′
