@@ -41,7 +41,7 @@ enum {
     ICESHAFT_INCOMPLETE = 1,       /* no complete event yet; with "no more", the rest is empty */
     ICESHAFT_NO_ROOM = 2,          /* this event's lines exceed the output room */
     ICESHAFT_BAD_STATE = 3,        /* a buffer of wrong length, or bytes that are no state */
-    ICESHAFT_CLOSED = 4,           /* closed by finish or by a refusal, or never started */
+    ICESHAFT_CLOSED = 4,           /* closed by finish or by a refusal */
     ICESHAFT_NOT_PYX = 5,          /* not UTF-8, a forbidden character, not PYX, last line unended */
     ICESHAFT_NOT_WELL_FORMED = 6,  /* end tag without match, second root, repeated attribute, illegal
                                       xmlns; at finish: an open element, or no root */

@@ -41,6 +41,14 @@ impl Image {
     pub const IDS_AT: usize = 7_016;
 
     pub const IDS_LEN: usize = 9_064;
+
+    // Of bytes that stand for no state.
+    fn none() -> Self
+        ensures { λ i. ⌜ i .good ≡ false ⌝ }
+    {
+        let state = State::none();
+        Image { good: false, state }
+    }
 }
 
 // Bytes of the state's buffer.
@@ -124,17 +132,17 @@ pub extern "C" fn iceshaft_finish(state: &mut [u8], work: &[u8], ids: &[u8]) -> 
     answer.number()
 }
 
-// The state that the bytes stand for.
+// The state that the bytes stand for, if there is one.
 fn load(b: &[u8]) -> Image
     ensures { λ i. ⌜ Loads (now (b .entry)) i ⌝ }
 {
     if b.len() != Image::BYTES {
-        return none();
+        return Image::none();
     }
     let mut numbers = [0; Image::NUMBERS];
     get_numbers(b, 0, &mut numbers);
     if !flags_ok(numbers) {
-        return none();
+        return Image::none();
     }
     let mut frames = [0; Frame::TABLE];
     let mut bindings = [0; Row::BINDINGS];
@@ -163,15 +171,7 @@ fn load(b: &[u8]) -> Image
     Image { good: true, state }
 }
 
-// Where the bytes stand for none.
-fn none() -> Image
-    ensures { λ i. ⌜ i .good ≡ false ⌝ }
-{
-    let state = State::none();
-    Image { good: false, state }
-}
-
-// The state into the buffer.
+// The bytes of a state.
 fn save(b: &mut [u8], s: State)
     requires { ⌜ length (now b) ≡ stateBytes ⌝ }
     ensures { λ _. ⌜ Stands (now (b .exit)) s ⌝ }
@@ -188,6 +188,7 @@ fn save(b: &mut [u8], s: State)
     put_ids(b, ids);
 }
 
+// The table of rdf:IDs, at the end.
 fn put_ids(b: &mut [u8], ids: IdTable)
     requires { ⌜ length (now b) ≡ stateBytes ⌝ }
     ensures { λ _. ⌜ PutIds (now (b .entry)) ids (now (b .exit)) ⌝ }
@@ -227,6 +228,7 @@ fn flag(f: bool) -> usize
     if f { 1 } else { 0 }
 }
 
+// Is each flag 0 or 1?
 fn flags_ok(ns: [usize; Image::NUMBERS]) -> bool
     ensures { λ r. ⌜ r ≡ flagsOk ns ⌝ }
 {
@@ -251,6 +253,7 @@ fn registers_of(ns: [usize; Image::NUMBERS]) -> Registers
     }
 }
 
+// Numbers end to end, from a place on; words likewise.
 fn put_numbers(b: &mut [u8], at: usize, ns: &[usize])
     requires { ⌜ at + length (now ns) * 8 ≤ length (now b) ⌝ }
     ensures { λ _. ⌜ PutRows 8 (now (b .entry)) at (now (ns .entry)) (now (b .exit)) ⌝ }
@@ -291,6 +294,7 @@ fn put_word(b: &mut [u8], at: usize, w: u32)
     b[at + 3] = (w / 256 / 256 / 256 % 256) as u8;
 }
 
+// And back: as many as `ns` has places.
 fn get_numbers(b: &[u8], at: usize, ns: &mut [usize])
     requires { ⌜ at + length (now ns) * 8 ≤ length (now b) ⌝ }
     ensures { λ _. ⌜ now (ns .exit) ≡ rowsAt 8 (now (b .entry)) at (length (now (ns .entry))) ⌝ }
