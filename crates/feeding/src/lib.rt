@@ -1,7 +1,9 @@
 // Events one after another, over what is lent: the heart of a program that reads its input in pieces.
+ghost use mathlib.Core.Path.{_≡_};
+ghost use Rattle.event.specs.Progress.{lent};
+ghost use Rattle.parser.specs.Asked.{Asks, Roomy, Areas};
+ghost use Rattle.feeding.specs.Goes.{nothing, further, Counts, stopped, Goes};
 use event::Advance;
-use frames::Frame;
-use frames::Row;
 use ids::IdTable;
 use spec::Refusal;
 use state::Registers;
@@ -27,6 +29,57 @@ pub struct Fed {
 impl Fed {
     // The output room that an event is given.
     pub const ROOM: usize = 65_536;
+
+    // No event yet.
+    fn none(registers: Registers, count: usize, used: usize) -> Self
+        ensures { λ f. ⌜ f ≡ nothing registers count used ⌝ }
+    {
+        let pause = Pause::Full;
+        Fed {
+            registers,
+            count,
+            used,
+            events: 0,
+            consumed: 0,
+            written: 0,
+            pause,
+        }
+    }
+
+    // One event more, of `n` bytes.
+    fn further(self, n: usize, a: Advance) -> Self
+        requires { ⌜ Counts self n a ⌝ }
+        ensures { λ f. ⌜ f ≡ further self n a ⌝ }
+    {
+        let registers = a.registers;
+        let pause = Pause::Full;
+        Fed {
+            registers,
+            count: a.count,
+            used: a.used,
+            events: self.events + 1,
+            consumed: self.consumed + n,
+            written: self.written + a.written,
+            pause,
+        }
+    }
+
+    // The next event is refused.
+    fn stopped(self, why: Refusal) -> Self
+        ensures { λ f. ⌜ f ≡ stopped self why ⌝ }
+    {
+        let registers = self.registers;
+        let pause = Pause::Stop(why);
+        Fed {
+            registers,
+            count: self.count,
+            used: self.used,
+            events: self.events,
+            consumed: self.consumed,
+            written: self.written,
+            pause,
+        }
+    }
 }
 
 // Events from the front of the input, in an open document, as long as the output has room for one more. The last three are scratch.
@@ -47,19 +100,23 @@ pub fn feed(
     scratch: &mut [u8],
     spans: &mut [u32],
     area: &mut [u8],
-) -> Fed {
-    let mut registers = registers;
-    let mut count = count;
-    let mut used = used;
-    let mut events = 0;
-    let mut consumed = 0;
-    let mut written = 0;
-    while Fed::ROOM <= out.len() - written {
-        let end = written + Fed::ROOM;
+) -> Fed
+    requires { ⌜ Asks registers count used (lent (now frames) (now bindings) (now inners) (now work) (now places) (now sizes) (now ids) (now out)) × Roomy (now scratch) (now spans) (now area) ⌝ }
+    ensures { λ f. ⌜ Goes last (now (input .entry)) registers count f
+        (lent (now (frames .entry)) (now (bindings .entry)) (now (inners .entry)) (now (work .entry)) (now (places .entry)) (now (sizes .entry)) (now (ids .entry)) (now (out .entry)))
+        (lent (now (frames .exit)) (now (bindings .exit)) (now (inners .exit)) (now (work .exit)) (now (places .exit)) (now (sizes .exit)) (now (ids .exit)) (now (out .exit)))
+        × Areas (now (scratch .entry)) (now (spans .entry)) (now (area .entry)) (now (scratch .exit)) (now (spans .exit)) (now (area .exit)) ⌝ }
+{
+    let mut fed = Fed::none(registers, count, used);
+    while Fed::ROOM <= out.len() - fed.written {
+        let registers = fed.registers;
+        let from = fed.consumed;
+        let at = fed.written;
+        let end = at + Fed::ROOM;
         let taken = stream::core(
             registers,
-            count,
-            used,
+            fed.count,
+            fed.used,
             frames,
             bindings,
             inners,
@@ -67,44 +124,17 @@ pub fn feed(
             places,
             sizes,
             ids,
-            &input[consumed..],
+            &input[from..],
             last,
-            &mut out[written..end],
+            &mut out[at..end],
             scratch,
             spans,
             area,
         );
         match taken {
-            Taken::Stop(why) => {
-                let pause = Pause::Stop(why);
-                return Fed {
-                    registers,
-                    count,
-                    used,
-                    events,
-                    consumed,
-                    written,
-                    pause,
-                };
-            }
-            Taken::Did(n, a) => {
-                registers = a.registers;
-                count = a.count;
-                used = a.used;
-                events += 1;
-                consumed += n;
-                written += a.written;
-            }
+            Taken::Stop(why) => return fed.stopped(why),
+            Taken::Did(n, a) => fed = fed.further(n, a),
         }
     }
-    let pause = Pause::Full;
-    Fed {
-        registers,
-        count,
-        used,
-        events,
-        consumed,
-        written,
-        pause,
-    }
+    fed
 }
