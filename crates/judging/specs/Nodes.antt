@@ -102,7 +102,7 @@ node-no-li i h = go (same i (rdf "li")) refl
     go true q = absurd (false≢true (sym (ap mayBeNode (same-true i (rdf "li") q)) ∙ h))
     go false q = q
 
-refused-good : {A : Type 0} (n : Refusal) (o : A) → _≡_ {A = Answer A} (refuse n) (good o) → ⊥
+pub refused-good : {A : Type 0} (n : Refusal) (o : A) → _≡_ {A = Answer A} (refuse n) (good o) → ⊥
 refused-good n o h = let z : _≡_ {A = ℕ} 0 1 = cc in omega arith
 
 -- a name that opens a node may do so

@@ -39,13 +39,13 @@ use Rattle.plan.specs.Plan.{rootPlan}
 use Rattle.plan.specs.Does.{does-root}
 use Rattle.plan.specs.Goes.{told}
 use Rattle.tag.specs.declared.Tag.{Tag}
-use Rattle.giving.specs.Giving.{Gives, Keeps}
+use Rattle.giving.specs.Giving.{Gives}
 use Rattle.opening.specs.Order.{productionIn}
 use Rattle.judging.specs.declared.Opens.{Opens}
 use Rattle.judging.specs.declared.Opens.the-variants as what
 use Rattle.judging.specs.declared.Verdict.{Verdict}
 use Rattle.judging.specs.declared.Verdict.the-variants.{Stop, Go}
-use Rattle.judging.specs.Names.{iriText, rdf-name, description-name}
+use Rattle.judging.specs.Names.{iriText, rdf-name}
 use Rattle.judging.specs.Limits.{Fits}
 use Rattle.judging.specs.Judges.{Known, Judges, Waits, Drafted, Measurable, Drafts, startBy, long-stops, waits}
 use Rattle.judging.specs.Nodes.{Ready, JudgesNode}
@@ -53,53 +53,46 @@ use Rattle.judging.specs.Properties.{JudgesProperty}
 
 -- ---- the root
 
--- rdf:RDF
-pub record JudgesRoot (q : Verdict) (t : Tag) (r : Registers) (e v : List ℕ) (k : ℕ) (a : List ℕ) : Type 0 where
-  pub cases : (ids used m : ℕ) (fs bs is w ia il st cs rs : List ℕ) (y : Known t r ids used fs bs is w ia il st e v m k cs rs a)
+-- rdf:RDF, whatever area it was read with
+pub record JudgesRoot (q : Verdict) (t : Tag) (labels : ℕ) (e v : List ℕ) (k : ℕ) : Type 0 where
+  pub cases : (r : Registers) (ids used m : ℕ) (fs bs is w ia il st cs rs a : List ℕ) → r .labels ≡ labels → Ready e v k a → (y : Known t r ids used fs bs is w ia il st e v m k cs rs a)
       → productionIn (D.placeIn (elementsOf r fs bs is w)) (y .tells .is) (r .labels) ≡ openRoot (y .tells .is) (r .labels) → same (y .tells .is .iri) (rdf "RDF") ≡ true
       → Drafted q r ids used fs bs is w ia il st e v m k cs rs a
   pub measurable : Measurable q
 
--- what is made of rdf:RDF
-pub record MakesRoot (x : Start) (t : Tag) (named : Bool) (labels : ℕ) (e v : List ℕ) (k : ℕ) : Type 0 where
-  pub parts : Given
-  pub gives : Gives t e v k parts
-  pub is : x ≡ startBy (rootPlan parts labels) t false named Missing
-
-pub root-made : {x : Start} {t : Tag} {named : Bool} {labels : ℕ} {e v : List ℕ} {k : ℕ} {g : Given} {p : Plan} → Gives t e v k g → p ≡ rootPlan g labels → x ≡ startBy p t false named Missing → MakesRoot x t named labels e v k
-root-made {t = t} {named = named} {g = g} gv q h = record { parts = g; gives = gv; is = h ∙ ap (λ (y : Plan). startBy y t false named Missing) q }
-
--- rdf:RDF is no rdf:li
+-- rdf:RDF is no rdf:li and no rdf:Description
 rdf-no-li : (i : Bytes) → same i (rdf "RDF") ≡ true → isLi i ≡ false
 unfolding F.all isLi
 rdf-no-li i h = ap isLi (same-true i (rdf "RDF") h)
 
-module _ {t : Tag} {r : Registers} {e v : List ℕ} {k : ℕ} {a : List ℕ} where
-  opens : {ids used m : ℕ} {fs bs is w ia il st cs rs : List ℕ} (y : Known t r ids used fs bs is w ia il st e v m k cs rs a)
+rdf-no-description : (i : Bytes) → same i (rdf "RDF") ≡ true → same i (rdf "Description") ≡ false
+unfolding F.all
+rdf-no-description i h = ap (λ (x : Bytes). same x (rdf "Description")) (same-true i (rdf "RDF") h)
+
+module _ {t : Tag} {e v : List ℕ} {k : ℕ} where
+  opens : {r : Registers} {ids used m : ℕ} {fs bs is w ia il st cs rs a : List ℕ} (y : Known t r ids used fs bs is w ia il st e v m k cs rs a)
       → productionIn (D.placeIn (elementsOf r fs bs is w)) (y .tells .is) (r .labels) ≡ openRoot (y .tells .is) (r .labels) → same (y .tells .is .iri) (rdf "RDF") ≡ true
       → productionIn (D.placeIn (elementsOf r fs bs is w)) (y .tells .is) (r .labels) ≡ good (record { lines = []; kind = D.rdfRDF; labels = r .labels })
-  opens y at z = at ∙ root-rdf (y .tells .is) (r .labels) z
+  opens {r = r} y at z = at ∙ root-rdf (y .tells .is) (r .labels) z
 
-  pub root-long : t .short ≡ false → JudgesRoot (Stop OverLimit) t r e v k a
-  root-long s = record { cases = λ ids used m fs bs is w ia il st cs rs y at z. long-stops y (opens y at z) s; measurable = tt }
+  pub root-long : {labels : ℕ} → t .short ≡ false → JudgesRoot (Stop OverLimit) t labels e v k
+  root-long s = record { cases = λ r ids used m fs bs is w ia il st cs rs a l rd y at z. long-stops y (opens y at z) s; measurable = tt }
 
-  -- i: its name as it was read
-  module _ {i : Bytes} {x : Start} {named : Bool} (ip : i ≡ iriText (t .iri) a) (s : t .short ≡ true) (rd : Ready e v k a) (nm : named ≡ same i (rdf "Description")) (mk : MakesRoot x t (not named) (r .labels) e v k) where
-    module _ {ids used m : ℕ} {fs bs is w ia il st cs rs : List ℕ} (y : Known t r ids used fs bs is w ia il st e v m k cs rs a)
-        (at : productionIn (D.placeIn (elementsOf r fs bs is w)) (y .tells .is) (r .labels) ≡ openRoot (y .tells .is) (r .labels)) (z : same (y .tells .is .iri) (rdf "RDF") ≡ true) where
-      keeps : Keeps a a
-      keeps = record { before = kept-all; behind = kept-all; same = refl; room = rd .room }
+  module _ {labels : ℕ} {g : Given} {p : Plan} {x : Start} (s : t .short ≡ true) (gv : Gives t e v k g) (pl : p ≡ rootPlan g labels) (is-so : x ≡ startBy p t false true Missing) where
+    made : x ≡ startBy (rootPlan g labels) t false true Missing
+    made = is-so ∙ ap (λ (y : Plan). startBy y t false true Missing) pl
 
-      drafted : Waits x r ids used fs bs is w ia il st e v m k cs rs a
-      unfolding stands told
-      drafted =
-          rw (mk .is)
-          (waits y (opens y at z) s keeps (rd .event) (mk .gives) refl refl (does-root (mk .parts) e a (subjectBelow fs w (r .depth)) (r .labels)) false (not named) Missing
-          (ap not (nm ∙ (ap (λ (o : Bytes). same o (rdf "Description")) ip ∙ description-name a (y .tells .is .iri) (t .iri) (y .tells .iri))))
-          (rdf-no-li (y .tells .is .iri) z) (λ u. absurd (false≢true u)) (y .lawful .valid .labels) refl refl)
+    drafted : {r : Registers} {ids used m : ℕ} {fs bs is w ia il st cs rs a : List ℕ} → r .labels ≡ labels → Ready e v k a → (y : Known t r ids used fs bs is w ia il st e v m k cs rs a)
+        → productionIn (D.placeIn (elementsOf r fs bs is w)) (y .tells .is) (r .labels) ≡ openRoot (y .tells .is) (r .labels) → same (y .tells .is .iri) (rdf "RDF") ≡ true
+        → Waits x r ids used fs bs is w ia il st e v m k cs rs a
+    unfolding stands told
+    drafted {r = r} {fs = fs} {w = w} {a = a} l rd y at z =
+        rw (made, ← l)
+        (waits y (opens y at z) s (record { before = kept-all; behind = kept-all; same = refl; room = rd .room }) (rd .event) gv refl refl (does-root g e a (subjectBelow fs w (r .depth)) (r .labels)) false true Missing
+        (sym (ap not (rdf-no-description (y .tells .is .iri) z))) (rdf-no-li (y .tells .is .iri) z) (λ u. absurd (false≢true u)) (y .lawful .valid .labels) refl refl)
 
-    pub root-judged : JudgesRoot (Go x) t r e v k a
-    root-judged = record { cases = λ ids used m fs bs is w ia il st cs rs y at z. drafted y at z; measurable = rw (mk .is) (record { lacks = (refl, refl, refl, refl) }) }
+    pub root-judged : JudgesRoot (Go x) t labels e v k
+    root-judged = record { cases = λ r ids used m fs bs is w ia il st cs rs a l rd y at z. drafted l rd y at z; measurable = rw made (record { lacks = (refl, refl, refl, refl) }) }
 
 -- ---- by place
 
@@ -194,12 +187,12 @@ named-rdf {t = t} {a = a} ip y = ap (λ (x : Bytes). same x (rdf "RDF")) ip ∙ 
 
 -- the arms of `draft`: o is what is opened
 module _ {q : Verdict} {t : Tag} {r : Registers} {fs e v : List ℕ} {k : ℕ} {a : List ℕ} {p : Place} {i : Bytes} {o : Opens} (at : p ≡ placeAt r fs) (ip : i ≡ iriText (t .iri) a) (op : o ≡ opensAt p i) where
-  pub as-rdf : o ≡ what.Rdf → JudgesRoot q t r e v k a → Drafts q t r fs e v k a a
+  pub as-rdf : o ≡ what.Rdf → Ready e v k a → JudgesRoot q t (r .labels) e v k → Drafts q t r fs e v k a a
   unfolding placeIs productionIn
-  as-rdf h j =
+  as-rdf h rd j =
       let f = rdf-at p i (sym op ∙ h) in
       record {
-        cases = λ ids used m bs is w ia il st cs rs y. j .cases ids used m fs bs is w ia il st cs rs y (rw (standing at y, f .0)) (sym (named-rdf ip y) ∙ f .1);
+        cases = λ ids used m bs is w ia il st cs rs y. j .cases r ids used m fs bs is w ia il st cs rs a refl rd y (rw (standing at y, f .0)) (sym (named-rdf ip y) ∙ f .1);
         measurable = j .measurable;
         same = refl;
       }

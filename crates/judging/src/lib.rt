@@ -12,7 +12,7 @@ ghost use Rattle.judging.specs.Limits.{roomForId, Fits};
 ghost use Rattle.judging.specs.Judges.{Judges, Drafts, startBy};
 ghost use Rattle.judging.specs.Nodes.{Ready, MakesNode, JudgesNode};
 ghost use Rattle.judging.specs.Properties.{propertyPlan, MakesProperty, JudgesProperty, Labels, Numbers, Left};
-ghost use Rattle.judging.specs.Places.{JudgesRoot, MakesRoot, opensAt};
+ghost use Rattle.judging.specs.Places.{JudgesRoot, opensAt};
 use element::Parts;
 use element::Source;
 use event::Place;
@@ -88,7 +88,7 @@ fn draft(
     let iri = t.iri;
     let place = event::place_at(r, frames);
     match opened_at(place, iri_text(iri, area)) {
-        Opens::Rdf => judge_root(t, r, scratch, spans, k, area),
+        Opens::Rdf => judge_root(t, r.labels, scratch, spans, k),
         Opens::Node => judge_node(t, r, scratch, spans, k, area),
         Opens::Property => judge_property(t, r, frames, scratch, spans, k, area),
     }
@@ -113,28 +113,17 @@ fn opened_at(place: Place, name: &[u8]) -> Opens
 }
 
 // rdf:RDF.
-fn judge_root(t: Tag, r: Registers, scratch: &[u8], spans: &[u32], k: usize, area: &[u8]) -> Verdict
-    requires { ⌜ Ready (now scratch) (now spans) k (now area) ⌝ }
-    ensures { λ q. ⌜ JudgesRoot q t r (now (scratch .entry)) (now (spans .entry)) k (now (area .entry)) ⌝ }
+fn judge_root(t: Tag, labels: u64, scratch: &[u8], spans: &[u32], k: usize) -> Verdict
+    requires { ⌜ k * 4 ≤ length (now spans) ⌝ }
+    ensures { λ q. ⌜ JudgesRoot q t labels (now (scratch .entry)) (now (spans .entry)) k ⌝ }
 {
-    let iri = t.iri;
-    let name = iri_text(iri, area);
-    let described = production::is_description(name);
     if !t.short {
         return Verdict::Stop(Refusal::OverLimit);
     }
-    let x = make_root(t, !described, r.labels, scratch, spans, k);
-    Verdict::Go(x)
-}
-
-// rdf:RDF.
-fn make_root(t: Tag, named: bool, labels: u64, scratch: &[u8], spans: &[u32], k: usize) -> Start
-    requires { ⌜ k * 4 ≤ length (now spans) ⌝ }
-    ensures { λ x. ⌜ MakesRoot x t named labels (now (scratch .entry)) (now (spans .entry)) k ⌝ }
-{
     let g = giving::given(t, scratch, spans, k);
     let p = plan::root(g, labels);
-    start_by(p, t, false, named, Source::Missing)
+    let x = start_by(p, t, false, true, Source::Missing);
+    Verdict::Go(x)
 }
 
 // A node element. Its label is made in the area.
@@ -190,7 +179,6 @@ fn judge_property(
     let name = iri_text(iri, area);
     let reserved = production::is_reserved_property(name);
     let li = production::is_li(name);
-    let described = production::is_description(name);
     let parse = production::parse_type_of(t.parse < k, names::value_of(scratch, spans, t.parse));
     let resource = !is_missing(object);
     match production::judge_property(
@@ -214,7 +202,6 @@ fn judge_property(
                 parse,
                 takes,
                 li,
-                !described,
                 numbers,
                 r.labels,
                 scratch,
@@ -233,7 +220,6 @@ fn make_property(
     parse: ParseType,
     takes: bool,
     li: bool,
-    named: bool,
     numbers: u64,
     labels: u64,
     scratch: &[u8],
@@ -242,14 +228,14 @@ fn make_property(
     area: &mut [u8],
 ) -> Start
     requires { ⌜ Ready (now scratch) (now spans) k (now area) × Left takes li labels numbers ⌝ }
-    ensures { λ x. ⌜ MakesProperty x t parse takes li named numbers labels (now (scratch .entry)) (now (spans .entry)) k (now (area .entry)) (now (area .exit)) ⌝ }
+    ensures { λ x. ⌜ MakesProperty x t parse takes li numbers labels (now (scratch .entry)) (now (spans .entry)) k (now (area .entry)) (now (area .exit)) ⌝ }
 {
     let iri = t.iri;
     let behind = label_if(takes, labels, area);
     let property = numbered(li, numbers, iri, area);
     let g = giving::given(t, scratch, spans, k);
     let p = property_plan(parse, g, property, t.properties, behind);
-    start_by(p, t, li, named, property)
+    start_by(p, t, li, true, property)
 }
 
 // By its rdf:parseType.
@@ -318,7 +304,7 @@ fn make_node(
     start_by(p, t, false, named, Source::Missing)
 }
 
-// What is carried out by a plan.
+// What is carried out by a plan; `named` but for rdf:Description, which only a node element has as its name.
 fn start_by(p: Plan, t: Tag, li: bool, named: bool, property: Source) -> Start
     ensures { λ x. ⌜ x ≡ startBy p t li named property ⌝ }
 {

@@ -35,7 +35,7 @@ same-length : tie.Need-same-length
 same-length c = search needs
 
 returns : tie.Need-returns
-returns c = as-rdf (c .before .before .before .before .before .before .before .place-at .ensures) (c .before .before .before .before .before .iri-text .ensures) (c .before .before .before .before .opened-at .ensures) (c .before .before .enum-told .given .1) (c .judge-root .ensures)
+returns c = as-rdf (c .before .before .before .before .before .before .place-at .ensures) (c .before .before .before .before .iri-text .ensures) (c .before .before .before .opened-at .ensures) (c .before .enum-told .given .1) (c .before .before .before .before .before .before .before .before .before .before .before .pre) (c .judge-root .ensures)
 
 same-length-2 : tie.Need-same-length-2
 same-length-2 c = search needs
