@@ -8,7 +8,7 @@ use lib.ListN.{length, replicate, length-replicate}
 use Rattle.spec.specs.Limits.{idStoreBytes, mostIds}
 use Rattle.copy.specs.Copy.{part}
 use Rattle.ids.specs.Ids.{idsOf, endToEnd, ValidIds}
-use Rattle.state.specs.Live.{startedWith, started, started-means}
+use Rattle.state.specs.Live.{started, started-means}
 use Rattle.event.specs.Progress.{Lent, lent, docIn}
 use Rattle.parser.specs.Asked.{Asks}
 use Rattle.pyx2nt.specs.declared.Place.{Place}

@@ -1,19 +1,18 @@
 -- How a turn leads on: the events that were done, and what follows.
-use Prim.Native.Nat.{ℕ, _+_, _*_, _-_, _≤_, _<_}
+use Prim.Native.Nat.{ℕ, _+_, _-_, _≤_}
 use mathlib.Core.Path.{_≡_, refl, sym, ap, _∙_}
 use mathlib.Core.Bool.{Bool, true, false, _&&_}
-use mathlib.Core.List.{List, [], _++_}
+use mathlib.Core.List.{List, _++_}
 use native.Mathlib.Nat.{zero-add}
 use native.Mathlib.Omega.{arith}
 use lib.Dec.{eqb}
 use lib.ListN.{length, take, drop, length-drop}
 use lib.Seq.{length-take-le, drop-at}
 use Rattle.spec.specs.Limits.{mostEventBytes, programRoom}
-use Rattle.spec.specs.Bytes.{Bytes, isEmpty, require_or_}
-use Rattle.spec.specs.Numbers.{number, refuse}
+use Rattle.spec.specs.Bytes.{isEmpty, require_or_}
+use Rattle.spec.specs.Numbers.{number}
 use Rattle.spec.specs.declared.Refusal.{Refusal}
-use Rattle.spec.specs.declared.Refusal.the-variants.{Incomplete, NotWellFormed}
-use Rattle.spec.specs.Document.{Doc}
+use Rattle.spec.specs.declared.Refusal.the-variants.{Incomplete}
 use Rattle.spec.specs.RdfXml as rdfxml
 use Rattle.spec.specs.Calls.{isOpen, finished, callFinish}
 use Rattle.spec.specs.Calls as calls
@@ -23,7 +22,6 @@ use Rattle.frames.specs.Words.{pick}
 use Rattle.state.specs.declared.Registers.{Registers}
 use Rattle.event.specs.Progress.{Lent, docIn}
 use Rattle.parser.specs.Asked.{Asks}
-use Rattle.stream.specs.Core.{firstAccepted}
 use Rattle.feeding.specs.declared.Pause.{Pause}
 use Rattle.feeding.specs.declared.Pause.the-variants.{Full, Stop}
 use Rattle.feeding.specs.declared.Fed.{Fed}
@@ -35,8 +33,8 @@ use Rattle.reader.specs.Starting.{overIn, over-read}
 use Rattle.pyx2nt.specs.declared.Place.{Place}
 use Rattle.pyx2nt.specs.declared.Next.{Next}
 use Rattle.pyx2nt.specs.declared.Next.the-variants.{On, Over}
-use Rattle.pyx2nt.specs.Way.{Leads, Ended, leads-then, leads-end, leads-on, leads-read, ends-refused, ends-over}
-use Rattle.pyx2nt.specs.Places.{behindOf, Sums, withMore, sizeAt, restAt, spotAt, finishing, Within, Reads, Paused, Follows, on, more, over, refused, Stands, Lengths, Cases, Turns}
+use Rattle.pyx2nt.specs.Way.{Leads, leads-then, leads-end, leads-on, leads-read, ends-refused, ends-over}
+use Rattle.pyx2nt.specs.Places.{behindOf, Sums, withMore, sizeAt, restAt, spotAt, finishing, Within, Reads, Paused, Follows, on, more, over, refused, Stands, Cases, Turns}
 
 -- ---- the end of a document
 
@@ -147,9 +145,12 @@ module _ {p : Place} {l l′ : Lent} {input : List ℕ} {f : Fed} (h : Stands p 
   more-leads {p′} {input′} e r =
       let q : Place = behindOf p f in
       let joined : restAt (withMore q (sizeAt q) (r .got)) input′ ≡ restAt q input ++ part input′ (sizeAt q) (r .got) = whole-rest q input input′ (r .got) (r .rest) in
-      rw (r .place)
-      (behind-asks, record { upto = omega arith; within = omega (arith, r .fits, r .room) }, omega (arith, g .went .fewer, within, h .rest .within, h .size),
-      leads-then behind-leads (rw joined (leads-read (q .event) (eqb (r .got) 0) (restAt q input) (part input′ (sizeAt q) (r .got)) (docIn (f .registers) (f .count) l′) e)))
+      rw (r .place) (
+        behind-asks,
+        record { upto = omega arith; within = omega (arith, r .fits, r .room) },
+        omega (arith, g .went .fewer, within, h .rest .within, h .size),
+        leads-then behind-leads (rw joined (leads-read (q .event) (eqb (r .got) 0) (restAt q input) (part input′ (sizeAt q) (r .got)) (docIn (f .registers) (f .count) l′) e)),
+      )
 
   turn-cases : (pause : Pause) → f .pause ≡ pause → {n : Next} {input′ : List ℕ} → Follows (behindOf p f) input pause n input′ → Cases p l input n l′ input′
   unfolding part

@@ -1,5 +1,5 @@
 // PYX from standard input, N-Triples to standard output, as they come; after a refusal one last line, which says its number and event.
-ghost use Prim.Native.Nat.{_+_, _*_, _≤_, _<_};
+ghost use Prim.Native.Nat.{_+_, _≤_, _<_};
 ghost use mathlib.Core.Path.{_≡_};
 ghost use mathlib.Core.List.{_++_};
 ghost use lib.ListN.{length};
@@ -46,7 +46,7 @@ impl Place {
 
     const OUTPUT: usize = 131_072;
 
-    // A proved loop has to end, and nothing says that the input does: more turns than any run takes, each of which reads a block or fills the output.
+    // A proved loop has to end, and nothing says that the input does: more turns than any run takes, and so few that a word counts their events.
     const TURNS: usize = 17_592_186_044_416;
 
     // Before the first event.

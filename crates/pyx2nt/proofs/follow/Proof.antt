@@ -1,51 +1,36 @@
-use Rattle.pyx2nt.specs.Turning.{follow-on, follow-refused, waiting, follow-over, follow-more}
-use native.Mathlib.Omega.{arith}
+-- `pyx2nt::follow` meets its contract: a way on, or the end, for each pause.
 use borrow.Author.Needs.{needs}
+use Rattle.pyx2nt.specs.Turning.{follow-on, follow-refused, waiting, follow-over, follow-more}
 use Rattle.pyx2nt.proofs.follow.Statement.{statement}
 use Rattle.pyx2nt.proofs.follow.Tie as tie
-use Rattle.pyx2nt.proofs.follow.Reads as reads
-use Rattle.pyx2nt.proofs.follow.Lts as lts
-use Rattle.pyx2nt.proofs.finish.Reads as finish-reads
-use Rattle.pyx2nt.proofs.read.Reads as read-reads
-use Rattle.reader.proofs.number_of.Reads as number-of-reads
 
--- src/main.rt:234:24
 enum-told : tie.Need-enum-told
 enum-told c = search needs
 
--- src/main.rt:235:21
 enum-known-pause : tie.Need-enum-known-pause
 enum-known-pause c = search needs
 
--- src/main.rt:236:17
 number-of-requires : tie.Need-number-of-requires
 number-of-requires c κs = search needs
 
--- src/main.rt:238:17
 returns : tie.Need-returns
 returns c = follow-refused (c .before .before .before .pause .given .1) (c .before .number-of .ensures) (c .if1 .taken)
 
--- src/main.rt:241:35
 finish-requires : tie.Need-finish-requires
 finish-requires c κs = search needs
 
--- src/main.rt:241:17
 returns-2 : tie.Need-returns-2
 returns-2 c = follow-over (c .before .before .before .before .before .pause .given .1) (c .before .before .before .number-of .ensures) (c .before .before .if1 .left) (c .before .if2 .taken) (c .finish .ensures)
 
--- src/main.rt:243:22
 read-requires : tie.Need-read-requires
 read-requires c κs = record { rest = c .before .before .before .before .before .before .before .before .pre .rest; block = c .before .before .before .before .before .before .before .before .pre .block (waiting (c .before .before .before .before .before .pause .given .1) (c .before .before .before .number-of .ensures) (c .before .before .if1 .left)) }
 
--- src/main.rt:229:1
 returns-3 : tie.Need-returns-3
 returns-3 c = follow-on (c .enum-told .given .1)
 
--- src/main.rt:229:1
 same-length : tie.Need-same-length
 same-length c = c .before .before .read .ensures .room
 
--- src/main.rt:229:1
 returns-4 : tie.Need-returns-4
 returns-4 c = follow-more (c .before .before .before .before .before .before .before .before .pause .given .1) (c .before .before .before .before .before .before .number-of .ensures) (c .before .before .before .before .before .if1 .left) (c .before .before .before .before .if2 .left) (c .before .before .read .ensures)
 

@@ -1,53 +1,39 @@
+-- `pyx2nt::last_line` meets its contract: two texts with their numbers, and a line end.
 use mathlib.Core.Path.{refl}
+use borrow.Author.Needs.{needs}
 use Rattle.spec.specs.Bytes.{ascii}
 use Rattle.pyx2nt.specs.LastLine.{no-line, line-goes-on, line-made}
-use native.Mathlib.Omega.{arith}
-use borrow.Author.Needs.{needs}
 use Rattle.pyx2nt.proofs.last_line.Statement.{statement}
 use Rattle.pyx2nt.proofs.last_line.Tie as tie
-use Rattle.pyx2nt.proofs.last_line.Reads as reads
-use Rattle.pyx2nt.proofs.last_line.Lts as lts
-use Rattle.copy.proofs.put.Reads as put-reads
-use Rattle.pyx2nt.proofs.put_number.Reads as put-number-reads
 
--- src/main.rt:296:9
 returns : tie.Need-returns
 returns c = no-line _ _ _ (c .if1 .taken)
 
--- src/main.rt:298:33
 slice-aggregate-put-number : tie.Need-slice-aggregate-put-number
 slice-aggregate-put-number c = search needs
 
--- src/main.rt:298:9
 put-number-requires : tie.Need-put-number-requires
 put-number-requires c κs = search needs
 
--- src/main.rt:299:33
 slice-aggregate-put-number-2 : tie.Need-slice-aggregate-put-number-2
 slice-aggregate-put-number-2 c = search needs
 
--- src/main.rt:299:9
 put-number-requires-2 : tie.Need-put-number-requires-2
 unfolding ascii
 put-number-requires-2 c κs = line-goes-on (ascii "# refused ") _ (c .before .before .before .before .before .before .before .before .before .pre) refl (c .before .before .before .before .put-number .ensures)
 
--- src/main.rt:300:24
 slice-aggregate-put : tie.Need-slice-aggregate-put
 slice-aggregate-put c = search needs
 
--- src/main.rt:300:5
 put-requires : tie.Need-put-requires
 put-requires c κs = search needs
 
--- src/main.rt:301:5
 add-result : tie.Need-add-result
 add-result c = search needs
 
--- src/main.rt:291:1
 same-length : tie.Need-same-length
 same-length c = search needs
 
--- src/main.rt:291:1
 returns-2 : tie.Need-returns-2
 unfolding ascii
 returns-2 c = line-made _ _ (c .before .before .before .before .before .before .before .before .before .before .before .before .before .before .before .before .before .pre) (c .before .before .before .before .before .before .before .before .before .before .before .before .before .before .before .if1 .left) (c .before .before .before .before .before .before .before .before .before .before .before .before .put-number .ensures) (c .before .before .before .before .before .before .before .put-number2 .ensures) (c .before .before .put .ensures)

@@ -1,58 +1,42 @@
-use Rattle.pyx2nt.specs.LastLine.{number-put}
-use native.Mathlib.Omega.{arith}
+-- `pyx2nt::put_number` meets its contract: the text, the digits.
 use borrow.Author.Needs.{needs}
+use Rattle.pyx2nt.specs.LastLine.{number-put}
 use Rattle.pyx2nt.proofs.put_number.Statement.{statement}
 use Rattle.pyx2nt.proofs.put_number.Tie as tie
-use Rattle.pyx2nt.proofs.put_number.Reads as reads
-use Rattle.pyx2nt.proofs.put_number.Lts as lts
-use Rattle.copy.proofs.put.Reads as put-reads
-use Rattle.label.proofs.Decimal.of.Reads as of-reads
 
--- src/main.rt:309:9
 of-requires : tie.Need-of-requires
 of-requires c κs = search needs
 
--- src/main.rt:312:5
 put-requires : tie.Need-put-requires
 put-requires c κs = search needs
 
--- src/main.rt:313:21
 add-put : tie.Need-add-put
 add-put c = search needs
 
--- src/main.rt:313:38
 sub-put : tie.Need-sub-put
 sub-put c = search needs
 
--- src/main.rt:313:38
 part-put-start : tie.Need-part-put-start
 part-put-start c = search needs
 
--- src/main.rt:313:38
 part-put-end : tie.Need-part-put-end
 part-put-end c = search needs
 
--- src/main.rt:313:5
 put-requires-2 : tie.Need-put-requires-2
 put-requires-2 c κs = search needs
 
--- src/main.rt:314:5
 add-result : tie.Need-add-result
 add-result c = search needs
 
--- src/main.rt:314:24
 sub-result : tie.Need-sub-result
 sub-result c = search needs
 
--- src/main.rt:314:5
 add-result-2 : tie.Need-add-result-2
 add-result-2 c = search needs
 
--- src/main.rt:305:1
 same-length : tie.Need-same-length
 same-length c = search needs
 
--- src/main.rt:305:1
 returns : tie.Need-returns
 returns c = number-put (c .before .before .before .before .before .before .before .before .before .before .before .before .before .before .pre) (c .before .before .before .before .before .before .before .before .before .before .before .of .ensures) (c .before .before .before .before .before .before .before .before .put .ensures) (c .before .before .put2 .ensures)
 

@@ -1,62 +1,46 @@
+-- `pyx2nt::read` meets its contract: what was moved stays, and what was read stands behind it.
 use Prim.Native.Nat.{_-_}
+use native.Mathlib.Omega.{arith}
 use lib.ListN.{length}
 use borrow.Rule.Slice.PartMut.{take-put}
-use Rattle.pyx2nt.specs.Reading.{reads}
-use native.Mathlib.Omega.{arith}
 use borrow.Author.Needs.{needs}
+use Rattle.pyx2nt.specs.Reading.{reads}
 use Rattle.pyx2nt.proofs.read.Statement.{statement}
 use Rattle.pyx2nt.proofs.read.Tie as tie
-use Rattle.pyx2nt.proofs.read.Lts as lts
-use Rattle.io.proofs.count.Reads as count-reads
-use Rattle.libc.proofs.read.Reads as read-reads
-use Rattle.pyx2nt.proofs.Place.with.Reads as with-reads
-use Rattle.pyx2nt.proofs.to_front.Reads as to-front-reads
 
--- src/main.rt:263:9
 to-front-requires : tie.Need-to-front-requires
 to-front-requires c κs = search needs
 
--- src/main.rt:264:40
 sub-read : tie.Need-sub-read
 sub-read c = search needs
 
--- src/main.rt:264:40
 part-read-start : tie.Need-part-read-start
 part-read-start c = search needs
 
--- src/main.rt:264:40
 part-read-end : tie.Need-part-read-end
 part-read-end c = search needs
 
--- src/main.rt:264:9
 read-requires : tie.Need-read-requires
 read-requires c κs = search needs
 
--- src/main.rt:265:28
 sub-count : tie.Need-sub-count
 sub-count c = search needs
 
--- src/main.rt:265:28
 part-count-start : tie.Need-part-count-start
 part-count-start c = search needs
 
--- src/main.rt:265:28
 part-count-end : tie.Need-part-count-end
 part-count-end c = search needs
 
--- src/main.rt:265:9
 count-requires : tie.Need-count-requires
 count-requires c κs = search needs
 
--- src/main.rt:266:5
 with-requires : tie.Need-with-requires
 with-requires c κs = search needs
 
--- src/main.rt:259:1
 same-length : tie.Need-same-length
 same-length c = search needs
 
--- src/main.rt:259:1
 returns : tie.Need-returns
 returns c = reads (c .before .before .before .before .before .before .before .before .before .before .before .before .before .pre .rest) (c .before .before .before .before .before .before .before .before .before .before .to-front .ensures) (search needs) (take-put (c .before .before .before .before .before .before .before .before .before .before .to-front .result) (length (c .before .before .before .before .before .before .before .before .before .before .to-front .last .0) - c .before .before .before .before .before .before .before .before .before .before .to-front .result) (c .before .before .before .before .before .before .before .before .before .before .to-front .last .0) (c .before .before .before .before .before .before .read .last .1 .0) (omega (arith, c .before .before .before .before .before .before .before .before .before .before .to-front .ensures .size, c .before .before .before .before .before .before .before .before .before .before .to-front .ensures .room, c .before .before .before .before .before .before .before .before .before .before .before .before .before .pre .rest .within))) (c .before .count .ensures .0 .0) (c .with .ensures)
 

@@ -1,18 +1,15 @@
+-- `pyx2nt::run` is safe and ends. The loop's invariant: the program is on its way from the start, and all that is lent has its lengths. The measure
+-- is the number of turns that are left.
 use mathlib.Core.Path.{refl, _∙_}
+use native.Mathlib.Omega.{arith}
+use borrow.Author.Needs.{needs}
 use Rattle.event.specs.Progress.{lent}
 use Rattle.parser.specs.Asked.{Areas}
 use Rattle.feeding.specs.Goes.{areas-then, still-roomy}
 use Rattle.pyx2nt.specs.Places.{Lengths}
 use Rattle.pyx2nt.specs.Running.{Running, lengths-here, lengths-then, running-begins, running-stands, running-on, running-ends}
-use native.Mathlib.Omega.{arith}
-use borrow.Author.Needs.{needs}
 use Rattle.pyx2nt.proofs.run.Statement.{statement}
 use Rattle.pyx2nt.proofs.run.Tie as tie
-use Rattle.pyx2nt.proofs.run.Reads as reads
-use Rattle.pyx2nt.proofs.run.Lts as lts
-use Rattle.pyx2nt.proofs.Place.first.Reads as first-reads
-use Rattle.pyx2nt.proofs.end.Reads as end-reads
-use Rattle.pyx2nt.proofs.turn.Reads as turn-reads
 
 abbrev Inv-loop : tie.InvT-loop
 Inv-loop frames₀ bindings₀ inners₀ work₀ places₀ sizes₀ ids₀ input₀ output₀ scratch₀ spans₀ area₀ place₀ turns₀ frames bindings inners work places sizes ids input output scratch spans area place turns =
@@ -24,127 +21,96 @@ abbrev μ-loop : tie.MeasureT-loop
 μ-loop frames₀ bindings₀ inners₀ work₀ places₀ sizes₀ ids₀ input₀ output₀ scratch₀ spans₀ area₀ place₀ turns₀ frames bindings inners work places sizes ids input output scratch spans area place turns =
     turns
 
--- src/main.rt:148:9
 first-requires : tie.Need-first-requires Inv-loop μ-loop
 first-requires c κs = search needs
 
--- src/main.rt:150:5
 loop-holds : tie.Need-loop-holds Inv-loop μ-loop
 loop-holds c = (running-begins (c .first .ensures) (c .before .before .before .before .before .before .before .before .before .before .before .pre .0), lengths-here, record { scratch = refl; spans = refl; area = refl })
 
--- src/main.rt:151:9
 sub-turns : tie.Need-sub-turns Inv-loop μ-loop
 sub-turns c = search needs
 
--- src/main.rt:152:13
 turn-requires : tie.Need-turn-requires Inv-loop μ-loop
 turn-requires c κs = (running-stands (c .before .before .before .before .before .before .before .before .before .before .before .before .before .loop .inv .0) (omega (arith, c .before .before .before .before .before .before .before .before .before .before .before .before .loop-test)), still-roomy (c .before .before .before .before .before .before .before .before .before .before .before .before .before .loop .inv .2) (c .before .before .before .before .before .before .before .before .before .before .before .before .before .before .before .before .before .before .before .before .before .before .before .before .before .pre .1))
 
--- src/main.rt:168:22
 enum-known-next : tie.Need-enum-known-next Inv-loop μ-loop
 enum-known-next c = search needs
 
--- src/main.rt:150:5
 loop-less : tie.Need-loop-less Inv-loop μ-loop
 loop-less c = omega (arith, c .before .before .before .before .before .before .before .before .before .before .before .before .before .before .before .before .before .before .before .before .before .before .before .before .before .before .before .before .before .before .before .before .before .before .before .before .loop-test)
 
--- src/main.rt:150:5
 loop-again : tie.Need-loop-again Inv-loop μ-loop
 loop-again c = (running-on (c .before .before .before .before .before .before .before .before .before .before .before .before .before .before .before .before .before .before .before .before .before .before .before .before .before .before .before .before .before .before .before .before .before .before .before .before .before .loop .inv .0) (c .before .before .before .before .before .before .before .before .before .before .before .before .before .before .before .before .before .before .before .before .before .before .before .turn .ensures .0) (omega (arith, c .before .before .before .before .before .before .before .before .before .before .before .before .before .before .before .before .before .before .before .before .before .before .before .before .before .before .before .before .before .before .before .before .before .before .before .before .loop-test)) (c .before .next .given .1), lengths-then (c .before .before .before .before .before .before .before .before .before .before .before .before .before .before .before .before .before .before .before .before .before .before .before .before .before .before .before .before .before .before .before .before .before .before .before .before .before .loop .inv .1) (c .before .before .before .before .before .before .before .before .before .before .before .before .before .before .before .before .before .before .before .before .before .before .before .turn .ensures .0 .lengths), areas-then (c .before .before .before .before .before .before .before .before .before .before .before .before .before .before .before .before .before .before .before .before .before .before .before .before .before .before .before .before .before .before .before .before .before .before .before .before .before .loop .inv .2) (c .before .before .before .before .before .before .before .before .before .before .before .before .before .before .before .before .before .before .before .before .before .before .before .turn .ensures .1))
 
--- src/main.rt:169:24
 enum-known-next-2 : tie.Need-enum-known-next-2 Inv-loop μ-loop
 enum-known-next-2 c = search needs
 
--- src/main.rt:170:17
 end-requires : tie.Need-end-requires Inv-loop μ-loop
 end-requires c κs = running-ends (c .before .before .before .before .before .before .before .before .before .before .before .before .before .before .before .before .before .before .before .before .before .before .before .before .before .before .before .before .before .before .before .before .before .before .before .before .before .loop .inv .0) (c .before .before .before .before .before .before .before .before .before .before .before .before .before .before .before .before .before .before .before .before .before .before .before .turn .ensures .0) (c .before .next2 .given .1)
 
--- src/main.rt:171:17
 same-length : tie.Need-same-length Inv-loop μ-loop
 same-length c = c .before .before .before .before .before .before .before .before .before .before .before .before .before .before .before .before .before .before .before .before .before .before .before .before .turn .ensures .0 .lengths .frames ∙ c .before .before .before .before .before .before .before .before .before .before .before .before .before .before .before .before .before .before .before .before .before .before .before .before .before .before .before .before .before .before .before .before .before .before .before .before .before .before .loop .inv .1 .frames
 
--- src/main.rt:171:17
 same-length-2 : tie.Need-same-length-2 Inv-loop μ-loop
 same-length-2 c = c .before .before .before .before .before .before .before .before .before .before .before .before .before .before .before .before .before .before .before .before .before .before .before .before .turn .ensures .0 .lengths .bindings ∙ c .before .before .before .before .before .before .before .before .before .before .before .before .before .before .before .before .before .before .before .before .before .before .before .before .before .before .before .before .before .before .before .before .before .before .before .before .before .before .loop .inv .1 .bindings
 
--- src/main.rt:171:17
 same-length-3 : tie.Need-same-length-3 Inv-loop μ-loop
 same-length-3 c = c .before .before .before .before .before .before .before .before .before .before .before .before .before .before .before .before .before .before .before .before .before .before .before .before .turn .ensures .0 .lengths .inners ∙ c .before .before .before .before .before .before .before .before .before .before .before .before .before .before .before .before .before .before .before .before .before .before .before .before .before .before .before .before .before .before .before .before .before .before .before .before .before .before .loop .inv .1 .inners
 
--- src/main.rt:171:17
 same-length-4 : tie.Need-same-length-4 Inv-loop μ-loop
 same-length-4 c = c .before .before .before .before .before .before .before .before .before .before .before .before .before .before .before .before .before .before .before .before .before .before .before .before .turn .ensures .0 .lengths .work ∙ c .before .before .before .before .before .before .before .before .before .before .before .before .before .before .before .before .before .before .before .before .before .before .before .before .before .before .before .before .before .before .before .before .before .before .before .before .before .before .loop .inv .1 .work
 
--- src/main.rt:171:17
 same-length-5 : tie.Need-same-length-5 Inv-loop μ-loop
 same-length-5 c = c .before .before .before .before .before .before .before .before .before .before .before .before .before .before .before .before .before .before .before .before .before .before .before .before .turn .ensures .0 .lengths .ids ∙ c .before .before .before .before .before .before .before .before .before .before .before .before .before .before .before .before .before .before .before .before .before .before .before .before .before .before .before .before .before .before .before .before .before .before .before .before .before .before .loop .inv .1 .ids
 
--- src/main.rt:171:17
 same-length-6 : tie.Need-same-length-6 Inv-loop μ-loop
 same-length-6 c = c .before .before .before .before .before .before .before .before .before .before .before .before .before .before .before .before .before .before .before .before .before .before .before .before .turn .ensures .0 .lengths .buffer ∙ c .before .before .before .before .before .before .before .before .before .before .before .before .before .before .before .before .before .before .before .before .before .before .before .before .before .before .before .before .before .before .before .before .before .before .before .before .before .before .loop .inv .1 .buffer
 
--- src/main.rt:171:17
 same-length-7 : tie.Need-same-length-7 Inv-loop μ-loop
 same-length-7 c = c .before .before .before .before .before .before .before .before .before .before .before .before .before .before .before .before .before .before .before .before .before .before .before .before .turn .ensures .0 .lengths .out ∙ c .before .before .before .before .before .before .before .before .before .before .before .before .before .before .before .before .before .before .before .before .before .before .before .before .before .before .before .before .before .before .before .before .before .before .before .before .before .before .loop .inv .1 .out
 
--- src/main.rt:171:17
 same-length-8 : tie.Need-same-length-8 Inv-loop μ-loop
 same-length-8 c = c .before .before .before .before .before .before .before .before .before .before .before .before .before .before .before .before .before .before .before .before .before .before .before .before .turn .ensures .1 .scratch ∙ c .before .before .before .before .before .before .before .before .before .before .before .before .before .before .before .before .before .before .before .before .before .before .before .before .before .before .before .before .before .before .before .before .before .before .before .before .before .before .loop .inv .2 .scratch
 
--- src/main.rt:171:17
 same-length-9 : tie.Need-same-length-9 Inv-loop μ-loop
 same-length-9 c = c .before .before .before .before .before .before .before .before .before .before .before .before .before .before .before .before .before .before .before .before .before .before .before .before .turn .ensures .1 .spans ∙ c .before .before .before .before .before .before .before .before .before .before .before .before .before .before .before .before .before .before .before .before .before .before .before .before .before .before .before .before .before .before .before .before .before .before .before .before .before .before .loop .inv .2 .spans
 
--- src/main.rt:171:17
 same-length-10 : tie.Need-same-length-10 Inv-loop μ-loop
 same-length-10 c = c .before .before .before .before .before .before .before .before .before .before .before .before .before .before .before .before .before .before .before .before .before .before .before .before .turn .ensures .1 .area ∙ c .before .before .before .before .before .before .before .before .before .before .before .before .before .before .before .before .before .before .before .before .before .before .before .before .before .before .before .before .before .before .before .before .before .before .before .before .before .before .loop .inv .2 .area
 
--- src/main.rt:171:17
 returns : tie.Need-returns Inv-loop μ-loop
 returns c = search needs
 
--- src/main.rt:132:1
 same-length-11 : tie.Need-same-length-11 Inv-loop μ-loop
 same-length-11 c = c .before .loop .inv .1 .frames
 
--- src/main.rt:132:1
 same-length-12 : tie.Need-same-length-12 Inv-loop μ-loop
 same-length-12 c = c .before .loop .inv .1 .bindings
 
--- src/main.rt:132:1
 same-length-13 : tie.Need-same-length-13 Inv-loop μ-loop
 same-length-13 c = c .before .loop .inv .1 .inners
 
--- src/main.rt:132:1
 same-length-14 : tie.Need-same-length-14 Inv-loop μ-loop
 same-length-14 c = c .before .loop .inv .1 .work
 
--- src/main.rt:132:1
 same-length-15 : tie.Need-same-length-15 Inv-loop μ-loop
 same-length-15 c = c .before .loop .inv .1 .ids
 
--- src/main.rt:132:1
 same-length-16 : tie.Need-same-length-16 Inv-loop μ-loop
 same-length-16 c = c .before .loop .inv .1 .buffer
 
--- src/main.rt:132:1
 same-length-17 : tie.Need-same-length-17 Inv-loop μ-loop
 same-length-17 c = c .before .loop .inv .1 .out
 
--- src/main.rt:132:1
 same-length-18 : tie.Need-same-length-18 Inv-loop μ-loop
 same-length-18 c = c .before .loop .inv .2 .scratch
 
--- src/main.rt:132:1
 same-length-19 : tie.Need-same-length-19 Inv-loop μ-loop
 same-length-19 c = c .before .loop .inv .2 .spans
 
--- src/main.rt:132:1
 same-length-20 : tie.Need-same-length-20 Inv-loop μ-loop
 same-length-20 c = c .before .loop .inv .2 .area
 
--- src/main.rt:132:1
 returns-2 : tie.Need-returns-2 Inv-loop μ-loop
 returns-2 c = search needs
 
