@@ -1,9 +1,10 @@
 #!/usr/bin/env python3
 """documents.py ORACLE CONVERTER GENERATOR > crates/test_documents/data/documents
 
-The documents of test_documents: those of document 01, refusals that the Rust does not have, and generated ones, good and
+The documents of test_documents: the sample, those of document 01, refusals that the Rust does not have, and generated ones, good and
 damaged. Lines are the Rust's, the numbers of damaged documents the generator's. README.md says what the three commands are.
 """
+import pathlib
 import subprocess
 import sys
 
@@ -13,6 +14,8 @@ from vectors import Judges, entry
 GOOD = [(seed, 12) for seed in range(1, 121)] + [(seed, 30) for seed in range(121, 151)]
 DAMAGED_SEEDS = range(1, 6)
 DAMAGED_SIZE = 10
+
+SAMPLE = pathlib.Path(__file__).parent.parent / 'samples'
 
 RDF = 'xmlns:rdf="http://www.w3.org/1999/02/22-rdf-syntax-ns#"'
 E = 'xmlns:e="http://e/"'
@@ -84,6 +87,10 @@ def main(oracle, converter, generator):
         assert pyx is not None, (name, why)
         sys.stdout.write(entry(name, base, pyx, number, lines))
 
+    sample = (SAMPLE / 'picture.xml').read_bytes()
+    assert judges.pyx(sample)[0] == (SAMPLE / 'picture.pyx').read_text()
+    assert judges.lines(sample)[0] == (SAMPLE / 'picture.nt').read_text()
+    add('sample-picture', None, sample, 0)
     for name, base, xml, number in EXAMPLES:
         # a nodeID of this form is the one number of the examples that the Rust does not know
         add(name, base, xml.encode(), number, b'' if number == 13 else None)

@@ -9,20 +9,20 @@ use reader::Report;
 use reader::State;
 use state::Registers;
 
-// How a document ended: the number of its last call, and whether its lines were the expected ones.
+// How a document ended: its state, the number of its last call, and whether its lines were the expected ones.
 pub struct Ended {
+    pub state: State,
     pub number: u8,
     pub same: bool,
 }
 
-// How far a document is: its state, the last number, whether no further call is due; bytes of the input that were consumed, and that are
-// at hand; bytes of the expected lines that were seen, and whether all lines were those so far.
+// How far a document is: its state, the last number, whether no further call is due; how many bytes of the input were consumed and of
+// the expected lines seen, and whether all lines were those so far.
 struct Way {
     state: State,
     number: u8,
     over: bool,
     at: usize,
-    to: usize,
     seen: usize,
     same: bool,
 }
@@ -38,6 +38,29 @@ impl Ended {
     pub const ROOM: usize = 65_536;
     // The longest file of vectors.
     pub const FILE: usize = 1_048_576;
+}
+
+impl Way {
+    fn of(state: State) -> Self {
+        Way {
+            state,
+            number: 0,
+            over: false,
+            at: 0,
+            seen: 0,
+            same: true,
+        }
+    }
+
+    // With as many bytes of expected lines, which must all have been seen.
+    fn ended(self, expected: usize) -> Ended {
+        let state = self.state;
+        Ended {
+            state,
+            number: self.number,
+            same: self.same & (self.seen == expected),
+        }
+    }
 }
 
 // All documents of a file, a verdict on each to a line, and how many there were.
@@ -56,33 +79,50 @@ pub fn replay_file(path: &[u8]) {
     replay_all(&text[..n]);
 }
 
-// A document from start to finish, or to its refusal; `piece` more bytes of the input come to hand each time that an event is not complete.
+// A document from start to finish, or to its refusal.
 pub fn run(
     based: bool,
     base: &[u8],
     input: &[u8],
-    piece: usize,
     expected: &[u8],
     work: &mut [u8],
     ids: &mut [u8],
     out: &mut [u8],
 ) -> Ended {
-    let mut way = begin(based, base, work, ids, ahead(0, piece, input.len()));
+    let before = State::none();
+    let report = reader::start(before, based, base, work, ids);
+    let state = report.state;
+    let answer = report.answer;
+    let number = answer.number();
+    if number > 0 {
+        return Ended {
+            state,
+            number,
+            same: expected.len() == 0,
+        };
+    }
+    go_on(state, input, expected, work, ids, out)
+}
+
+// A document from a state that it is in.
+pub fn go_on(
+    state: State,
+    input: &[u8],
+    expected: &[u8],
+    work: &mut [u8],
+    ids: &mut [u8],
+    out: &mut [u8],
+) -> Ended {
+    let mut way = Way::of(state);
     let mut turns = u64::MAX;
     while turns > 0 {
         turns -= 1;
         if way.over {
-            return Ended {
-                number: way.number,
-                same: way.same & (way.seen == expected.len()),
-            };
+            return way.ended(expected.len());
         }
-        way = turn(way, input, piece, expected, work, ids, out);
+        way = turn(way, input, expected, work, ids, out);
     }
-    Ended {
-        number: way.number,
-        same: false,
-    }
+    way.ended(expected.len())
 }
 
 // Room for a file.
@@ -164,7 +204,6 @@ fn replay_document(doc: &[u8], work: &mut [u8], ids: &mut [u8], out: &mut [u8]) 
         base < body,
         part(doc, base, word_end(doc, base)),
         part(doc, body, wanted),
-        usize::MAX,
         part(doc, lines, doc.len()),
         work,
         ids,
@@ -206,61 +245,32 @@ fn is_written(number: u8, text: &[u8]) -> bool {
     copy::equal(&digits[..n], text)
 }
 
-fn begin(based: bool, base: &[u8], work: &mut [u8], ids: &mut [u8], to: usize) -> Way {
-    let before = State::none();
-    let report = reader::start(before, based, base, work, ids);
-    let state = report.state;
-    let answer = report.answer;
-    let number = answer.number();
-    Way {
-        state,
-        number,
-        over: number > 0,
-        at: 0,
-        to,
-        seen: 0,
-        same: true,
-    }
-}
-
-// One step; where its event is not complete, more of the input, or finish.
+// One step with all that is left of the input; behind the last event, finish.
 fn turn(
     way: Way,
     input: &[u8],
-    piece: usize,
     expected: &[u8],
     work: &mut [u8],
     ids: &mut [u8],
     out: &mut [u8],
 ) -> Way {
     let before = way.state;
-    let last = way.to == input.len();
-    let report = reader::step(before, work, ids, part(input, way.at, way.to), last, out);
+    let left = part(input, way.at, input.len());
+    let report = reader::step(before, work, ids, left, true, out);
     let answer = report.answer;
     let number = answer.number();
     if number == 0 {
-        return advance(way, report, expected, out);
+        return advance(way, report, input.len(), expected, out);
     }
     let state = report.state;
     if number > 1 {
         return stop(way, state, number);
     }
-    if last {
-        return end(way, state, work, ids);
-    }
-    Way {
-        state,
-        number,
-        over: false,
-        at: way.at,
-        to: ahead(way.to, piece, input.len()),
-        seen: way.seen,
-        same: way.same,
-    }
+    end(way, state, work, ids)
 }
 
 // Behind an event that is done: its lines must be the next ones.
-fn advance(way: Way, report: Report, expected: &[u8], out: &[u8]) -> Way {
+fn advance(way: Way, report: Report, most: usize, expected: &[u8], out: &[u8]) -> Way {
     let state = report.state;
     let seen = ahead(way.seen, report.written, expected.len());
     let same = copy::equal(part(out, 0, report.written), part(expected, way.seen, seen));
@@ -268,8 +278,7 @@ fn advance(way: Way, report: Report, expected: &[u8], out: &[u8]) -> Way {
         state,
         number: 0,
         over: false,
-        at: ahead(way.at, report.consumed, way.to),
-        to: way.to,
+        at: ahead(way.at, report.consumed, most),
         seen,
         same: way.same & same,
     }
@@ -288,7 +297,6 @@ fn stop(way: Way, state: State, number: u8) -> Way {
         number,
         over: true,
         at: way.at,
-        to: way.to,
         seen: way.seen,
         same: way.same,
     }

@@ -10,6 +10,46 @@ use replay::print;
 use replay::print_number;
 use state::Registers;
 
+// What is made of a state by hand: nothing; another number of open elements, end of what is held, number of labels; another word of the
+// table of elements; another number of rdf:IDs.
+enum Change {
+    Nothing,
+    Depth(usize),
+    Top(usize),
+    Labels(u64),
+    Word(usize, u32),
+    Ids(usize),
+}
+
+impl Change {
+    fn of(self, state: State) -> State {
+        let mut registers = state.registers;
+        let mut frames = state.frames;
+        let bindings = state.bindings;
+        let inners = state.inners;
+        let mut ids = state.ids;
+        match self {
+            Change::Nothing => {}
+            Change::Depth(n) => registers.depth = n,
+            Change::Top(n) => registers.top = n,
+            Change::Labels(n) => registers.labels = n,
+            Change::Word(i, word) => {
+                if i < Frame::TABLE {
+                    frames[i] = word;
+                }
+            }
+            Change::Ids(n) => ids.count = n,
+        }
+        State {
+            registers,
+            frames,
+            bindings,
+            inners,
+            ids,
+        }
+    }
+}
+
 fn main() {
     elements();
     ids();
@@ -20,7 +60,9 @@ fn main() {
     held();
     rooms();
     numbers();
+    stores();
     states();
+    counters();
 }
 
 fn numbers() {
@@ -32,13 +74,6 @@ fn numbers() {
     twice();
     reserved();
     texts();
-}
-
-fn states() {
-    lengths();
-    damaged();
-    closed();
-    labels();
 }
 
 // ---- limits
@@ -203,6 +238,13 @@ fn rooms() {
         &mut exact,
         b"_:riog00000001",
     );
+    room_of_id();
+}
+
+// The rdf:ID must not have been entered where the event is to be repeated.
+fn room_of_id() {
+    let mut text = [0u8; 256];
+    let at = root(&mut text);
     let at = add(&mut text, at, b"Axml:base http://e/\nAr:ID i\n");
     let mut short = [b'?'; 78];
     let mut exact = [b'?'; 79];
@@ -386,155 +428,60 @@ fn texts() {
 
 // ---- what is lent, and the state
 
-fn lengths() {
+fn stores() {
     let mut work = [0u8; Registers::STORE];
     let mut short = [0u8; Registers::STORE - 1];
     let mut ids = [0u8; IdTable::BYTES];
     let mut few = [0u8; IdTable::BYTES - 1];
-    begins(b"start with a short work store", &mut short, &ids);
-    begins(b"start with a short ID store", &mut work, &few);
-    let state = opened(&mut work, &mut ids);
-    goes_on(b"with a short work store", state, &mut short, &mut ids);
-    goes_on(b"with a short ID store", state, &mut work, &mut few);
+    begins(b"a short work store", &mut short, &mut ids);
+    begins(b"a short ID store", &mut work, &mut few);
+    begins(b"no document", &mut work, &mut ids);
 }
 
-// A state with the root open, and one rule of docs/STATE.md broken.
-fn damaged() {
-    let mut work = [0u8; Registers::STORE];
-    let mut ids = [0u8; IdTable::BYTES];
-    let state = opened(&mut work, &mut ids);
-    let mut registers = state.registers;
-    registers.depth = 65;
-    goes_on(
-        b"with 65 open elements in the state",
-        with_registers(state, registers),
-        &mut work,
-        &mut ids,
-    );
-    let mut registers = state.registers;
-    registers.top = Registers::STORE + 1;
-    goes_on(
-        b"with a work store that is used beyond its end",
-        with_registers(state, registers),
-        &mut work,
-        &mut ids,
-    );
-    let mut frames = state.frames;
-    frames[1] = 1;
-    goes_on(
-        b"with a root that starts at 1",
-        with_frames(state, frames),
-        &mut work,
-        &mut ids,
-    );
-    let mut table = state.ids;
-    table.count = 513;
-    goes_on(
-        b"with 513 rdf:IDs in the table",
-        with_table(state, table),
-        &mut work,
-        &mut ids,
-    );
+// Start with the stores, and step and finish of no document.
+fn begins(what: &[u8], work: &mut [u8], ids: &mut [u8]) {
+    let before = State::none();
+    let started = reader::start(before, false, b"", work, ids);
+    print(b"start, ");
+    report(what, started);
+    behind(what, before, work, ids);
 }
 
-// Before any document, behind finish and behind a refusal.
-fn closed() {
-    let mut work = [0u8; Registers::STORE];
-    let mut ids = [0u8; IdTable::BYTES];
-    let state = State::none();
-    goes_on(b"before a start", state, &mut work, &mut ids);
-    let state = opened(&mut work, &mut ids);
-    let state = stepped(b"the root's end", state, &mut work, &mut ids, b")e:a\n");
-    let over = reader::finish(state, &work, &ids);
-    let state = over.state;
-    goes_on(b"behind finish", state, &mut work, &mut ids);
-    let state = opened(&mut work, &mut ids);
-    let state = stepped(b"a refused event", state, &mut work, &mut ids, b")e:b\n");
-    goes_on(b"behind a refusal", state, &mut work, &mut ids);
+fn states() {
+    state(b"the root's end", Change::Nothing, b")e:a\n");
+    state(b"a wrong end", Change::Nothing, b")e:b\n");
+    state(b"65 open elements in a state", Change::Depth(65), b"?x\n");
+    state(
+        b"a work store used beyond its end",
+        Change::Top(65_537),
+        b"?x\n",
+    );
+    state(b"a root that starts at 1", Change::Word(1, 1), b"?x\n");
+    state(b"513 rdf:IDs in a state", Change::Ids(513), b"?x\n");
 }
 
 // 99,999,999 is the last label, and the last rdf:li of a node.
-fn labels() {
+fn counters() {
+    let last = Change::Labels(99_999_998);
+    state(b"label 99,999,999", last, b"(e:a\n(e:a\n)e:a\n)e:a\n)e:a\n");
+    state(b"label 100,000,000", last, b"(e:a\n(e:a\n)e:a\n(e:a\n");
+    let last = Change::Word(16, 99_999_998);
+    state(b"rdf:li 99,999,999", last, b"(r:li\n)r:li\n)e:a\n");
+    state(b"rdf:li 100,000,000", last, b"(r:li\n)r:li\n(r:li\n");
+}
+
+// A document whose root is open, its state changed, and what follows; then a step and finish behind it.
+fn state(what: &[u8], change: Change, input: &[u8]) {
     let mut work = [0u8; Registers::STORE];
     let mut ids = [0u8; IdTable::BYTES];
-    let state = opened(&mut work, &mut ids);
-    let mut registers = state.registers;
-    registers.labels = 99_999_998;
-    let state = with_registers(state, registers);
-    let state = stepped(b"a property", state, &mut work, &mut ids, b"(e:a\n");
-    let state = stepped(
-        b"the node of label 99,999,999",
-        state,
-        &mut work,
-        &mut ids,
-        b"(e:a\n)e:a\n",
-    );
-    let state = stepped(b"its end", state, &mut work, &mut ids, b")e:a\n");
-    stepped(b"a further node", state, &mut work, &mut ids, b"(e:a\n");
-    counted_lis();
+    let mut out = [0u8; Ended::ROOM];
+    let state = change.of(opened(&mut work, &mut ids));
+    let ended = replay::go_on(state, input, b"", &mut work, &mut ids, &mut out);
+    line(what, ended.number);
+    behind(what, ended.state, &mut work, &mut ids);
 }
 
-fn counted_lis() {
-    let mut work = [0u8; Registers::STORE];
-    let mut ids = [0u8; IdTable::BYTES];
-    let state = opened(&mut work, &mut ids);
-    let mut frames = state.frames;
-    frames[16] = 99_999_998;
-    let state = with_frames(state, frames);
-    let state = stepped(
-        b"rdf:li 99,999,999 of a node",
-        state,
-        &mut work,
-        &mut ids,
-        b"(r:li\n)r:li\n",
-    );
-    let state = stepped(b"its end", state, &mut work, &mut ids, b")r:li\n");
-    stepped(b"a further rdf:li", state, &mut work, &mut ids, b"(r:li\n");
-}
-
-fn with_registers(state: State, registers: Registers) -> State {
-    let frames = state.frames;
-    let bindings = state.bindings;
-    let inners = state.inners;
-    let ids = state.ids;
-    State {
-        registers,
-        frames,
-        bindings,
-        inners,
-        ids,
-    }
-}
-
-fn with_frames(state: State, frames: [u32; Frame::TABLE]) -> State {
-    let registers = state.registers;
-    let bindings = state.bindings;
-    let inners = state.inners;
-    let ids = state.ids;
-    State {
-        registers,
-        frames,
-        bindings,
-        inners,
-        ids,
-    }
-}
-
-fn with_table(state: State, ids: IdTable) -> State {
-    let registers = state.registers;
-    let frames = state.frames;
-    let bindings = state.bindings;
-    let inners = state.inners;
-    State {
-        registers,
-        frames,
-        bindings,
-        inners,
-        ids,
-    }
-}
-
-// A document whose root has been opened.
+// A document whose root is open.
 fn opened(work: &mut [u8], ids: &mut [u8]) -> State {
     let before = State::none();
     let started = reader::start(before, false, b"", work, ids);
@@ -546,27 +493,14 @@ fn opened(work: &mut [u8], ids: &mut [u8]) -> State {
     done.state
 }
 
-// One event more: the state behind it.
-fn stepped(what: &[u8], state: State, work: &mut [u8], ids: &mut [u8], input: &[u8]) -> State {
+fn behind(what: &[u8], state: State, work: &mut [u8], ids: &mut [u8]) {
     let mut out = [0u8; 256];
-    let done = reader::step(state, work, ids, input, true, &mut out);
-    report(what, done);
-    done.state
-}
-
-// Step and finish.
-fn goes_on(what: &[u8], state: State, work: &mut [u8], ids: &mut [u8]) {
-    print(b"step ");
-    stepped(what, state, work, ids, b"?x\n");
     let over = reader::finish(state, work, ids);
-    print(b"finish ");
+    let more = reader::step(state, work, ids, b"?x\n", true, &mut out);
+    print(b"step behind ");
+    report(what, more);
+    print(b"finish behind ");
     report(what, over);
-}
-
-fn begins(what: &[u8], work: &mut [u8], ids: &[u8]) {
-    let before = State::none();
-    let started = reader::start(before, false, b"", work, ids);
-    report(what, started);
 }
 
 // The first step of a document.
@@ -647,16 +581,7 @@ fn ends(what: &[u8], based: bool, base: &[u8], input: &[u8]) {
     let mut work = [0u8; Registers::STORE];
     let mut ids = [0u8; IdTable::BYTES];
     let mut out = [0u8; Ended::ROOM];
-    let ended = replay::run(
-        based,
-        base,
-        input,
-        usize::MAX,
-        b"",
-        &mut work,
-        &mut ids,
-        &mut out,
-    );
+    let ended = replay::run(based, base, input, b"", &mut work, &mut ids, &mut out);
     line(what, ended.number);
 }
 

@@ -1,27 +1,27 @@
--- `replay::run` ends. The invariant: what is lent keeps its length. The measure is the count of turns.
+-- `replay::go_on` ends. The invariant: what is lent keeps its length. The measure is the count of turns.
 use mathlib.Core.Path.{_≡_}
 use lib.ListN.{length}
 use borrow.Author.Needs.{needs}
-use Rattle.replay.proofs.run.Statement.{statement}
-use Rattle.replay.proofs.run.Tie as tie
+use Rattle.replay.proofs.go_on.Statement.{statement}
+use Rattle.replay.proofs.go_on.Tie as tie
 
 abbrev Inv-loop : tie.InvT-loop
-Inv-loop based base input piece expected work₀ ids₀ out₀ way₀ turns₀ work ids out way turns = (length work ≡ length work₀) × (length ids ≡ length ids₀) × (length out ≡ length out₀)
+Inv-loop input expected work₀ ids₀ out₀ way₀ turns₀ work ids out way turns = (length work ≡ length work₀) × (length ids ≡ length ids₀) × (length out ≡ length out₀)
 
 abbrev μ-loop : tie.MeasureT-loop
-μ-loop based base input piece expected work₀ ids₀ out₀ way₀ turns₀ work ids out way turns = turns
+μ-loop input expected work₀ ids₀ out₀ way₀ turns₀ work ids out way turns = turns
 
-ahead-requires : tie.Need-ahead-requires Inv-loop μ-loop
-ahead-requires c κs = search needs
-
-begin-requires : tie.Need-begin-requires Inv-loop μ-loop
-begin-requires c κs = search needs
+of-requires : tie.Need-of-requires Inv-loop μ-loop
+of-requires c κs = search needs
 
 loop-holds : tie.Need-loop-holds Inv-loop μ-loop
 loop-holds c = search needs
 
 sub-turns : tie.Need-sub-turns Inv-loop μ-loop
 sub-turns c = search needs
+
+ended-requires : tie.Need-ended-requires Inv-loop μ-loop
+ended-requires c κs = search needs
 
 same-length : tie.Need-same-length Inv-loop μ-loop
 same-length c = search needs
@@ -44,6 +44,9 @@ loop-less c = search needs
 loop-again : tie.Need-loop-again Inv-loop μ-loop
 loop-again c = search needs
 
+ended-requires-2 : tie.Need-ended-requires-2 Inv-loop μ-loop
+ended-requires-2 c κs = search needs
+
 same-length-4 : tie.Need-same-length-4 Inv-loop μ-loop
 same-length-4 c = search needs
 
@@ -56,16 +59,16 @@ same-length-6 c = search needs
 returns-2 : tie.Need-returns-2 Inv-loop μ-loop
 returns-2 c = search needs
 
-pub run-spec : {M : Type 1} → statement M
-run-spec =
+pub go-on-spec : {M : Type 1} → statement M
+go-on-spec =
     tie.close
     (tie.spec
     Inv-loop
     μ-loop
-    ahead-requires
-    begin-requires
+    of-requires
     loop-holds
     sub-turns
+    ended-requires
     same-length
     same-length-2
     same-length-3
@@ -73,6 +76,7 @@ run-spec =
     turn-requires
     loop-less
     loop-again
+    ended-requires-2
     same-length-4
     same-length-5
     same-length-6
