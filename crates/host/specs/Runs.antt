@@ -13,9 +13,9 @@ use Rattle.spec.specs.NTriplesGrammar.{isNTriples}
 use Rattle.reader.specs.declared.State.{State}
 use Rattle.reader.specs.declared.Answer.the-variants.{Done}
 use Rattle.reader.specs.Unique.{number-tells}
-use Rattle.reader.specs.Runs.{Ran, step-never-three, finish-never-three}
-use Rattle.reader.specs.Runs as reader
-use Rattle.reader.specs.Whole.{run-n-triples}
+use Rattle.runs.specs.Runs.{Ran, step-never-three, finish-never-three}
+use Rattle.runs.specs.Runs as reader
+use Rattle.runs.specs.Whole.{run-n-triples}
 use Rattle.host.specs.Image.{decode}
 use Rattle.host.specs.Meets.{StartsIn, StepsIn, FinishesIn}
 use Rattle.host.specs.Use.{start-leaves}

@@ -8,10 +8,3 @@ pub mod Starting
 pub mod Stepping
 -- ---- what the contracts determine
 pub mod Unique
--- ---- documents that are run through the calls
-pub mod Runs
-pub mod Events
-pub mod Whole
-pub mod Elements
-pub mod Collections
-pub mod Lists

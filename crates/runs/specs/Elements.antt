@@ -18,7 +18,7 @@ use Rattle.spec.specs.Lists.{After, here, event}
 use Rattle.spec.specs.Inside.{Begun, Element, linesIn}
 use Rattle.spec.proofs.Always.{always-good}
 use Rattle.spec.proofs.Frames.{value-length, left-length, Move, instructs, leaves, adds, closes, Moved, moves, on-top}
-use Rattle.reader.specs.Events.{eventsOf, eventsIn}
+use Rattle.runs.specs.Events.{eventsOf, eventsIn}
 
 -- ---- how many elements are open
 

@@ -20,7 +20,7 @@ use Rattle.spec.specs.Inside.{StaysOpen, Element, innermost}
 use Rattle.spec.proofs.Always.{always-good}
 use Rattle.spec.proofs.Frames.{Gentle, by-text, by-xml, left, Move, instructs, leaves, adds, opens, copies, closes, Moved, moves}
 use Rattle.spec.proofs.Inside.{a-collection, holds}
-use Rattle.reader.specs.Elements as elements
+use Rattle.runs.specs.Elements as elements
 
 -- the innermost open element is a Collection of this property
 abbrev pub InCollection : Property → List Frame → Type 0

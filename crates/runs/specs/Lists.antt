@@ -15,16 +15,16 @@ use Rattle.spec.specs.RdfXml.{next}
 use Rattle.spec.specs.Lists.{Cell, Reads}
 use Rattle.spec.specs.Inside.{innermost, children}
 use Rattle.spec.proofs.Children.{collections-read-back, no-cell-in-two-collections}
 use Rattle.reader.specs.declared.State.{State}
 use Rattle.reader.specs.declared.Answer.the-variants.{Done}
 use Rattle.reader.specs.declared.Report.{Report}
 use Rattle.reader.specs.Meaning.{baseOf}
 use Rattle.reader.specs.Meets.{Steps}
-use Rattle.reader.specs.Runs.{Ran, stepped, now, Later}
-use Rattle.reader.specs.Events.{firstOf, taken, runEvents, last-same}
-use Rattle.reader.specs.Whole.{run-lines, more-lines, more-bytes, run-further}
-use Rattle.reader.specs.Elements.{Closed, closed}
-use Rattle.reader.specs.Collections.{InCollection, began, stayed}
+use Rattle.runs.specs.Runs.{Ran, stepped, now, Later}
+use Rattle.runs.specs.Events.{firstOf, taken, runEvents, last-same}
+use Rattle.runs.specs.Whole.{run-lines, more-lines, more-bytes, run-further}
+use Rattle.runs.specs.Elements.{Closed, closed}
+use Rattle.runs.specs.Collections.{InCollection, began, stayed}
 
 -- an element of a run's own events, which the last of them closed
 abbrev pub ClosedIn : {based : Bool} {base : Bytes} {s : State} {w i : List ℕ} {o : Bytes} → Ran based base s w i o → Type 0
