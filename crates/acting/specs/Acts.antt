@@ -35,9 +35,9 @@ use Rattle.element.specs.Laws.{held-with, Commits}
 use Rattle.plan.specs.declared.Start.{Start}
 use Rattle.plan.specs.Plan.{isThere}
 use Rattle.plan.specs.Goes.{Goes}
-use Rattle.acting.specs.declared.Said.{Said}
+use Rattle.writer.specs.declared.Said.{Said}
+use Rattle.writer.specs.Said.{Says}
 use Rattle.acting.specs.Told.{linesOf, lines-are}
-use Rattle.acting.specs.Said.{Says}
 use Rattle.acting.specs.Entered.{Enters}
 
 -- the rdf:IDs behind it keep their limits

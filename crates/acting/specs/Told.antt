@@ -165,12 +165,15 @@ resource-told x r w e a {s = s} {o = o} b c j q u t m y =
 
 -- ---- by the plan
 
-module _ {on : Bool} {d : List ℕ} (x : Start) (r : Frame) (l : Found) (w e v : List ℕ) (k : ℕ) (a cs rs : List ℕ) where
-  pub told-nothing : x .plan .lines ≡ Nothing → Put on d d 0 0 (write (linesOf x r l w e v k a cs rs))
+module _ (x : Start) (r : Frame) (l : Found) (w e v : List ℕ) (k : ℕ) (a cs rs : List ℕ) where
+  pub no-lines : x .plan .lines ≡ Nothing → write (linesOf x r l w e v k a cs rs) ≡ []
   unfolding linesOf told write
-  told-nothing h = rw h (put-none (omega arith))
+  no-lines h = rw h
 
-  module _ {f : List ℕ} {from to : ℕ} where
+  pub told-nothing : {on : Bool} {d : List ℕ} → x .plan .lines ≡ Nothing → Put on d d 0 0 (write (linesOf x r l w e v k a cs rs))
+  told-nothing h = put-as (put-none (omega arith)) (sym (no-lines h))
+
+  module _ {on : Bool} {d f : List ℕ} {from to : ℕ} where
     pub told-node : x .plan .lines ≡ lines-kind.Node → Put on d f from to (write (nodeLines x l w e v k a cs rs)) → Put on d f from to (write (linesOf x r l w e v k a cs rs))
     unfolding linesOf told
     told-node h p = rw h p

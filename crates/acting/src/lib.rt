@@ -8,6 +8,7 @@ ghost use Rattle.ids.specs.Ids.{ValidIds, roomFor};
 ghost use Rattle.state.specs.Meaning.{at, span, subjectOf};
 ghost use Rattle.names.specs.Tag.{attributesOf};
 ghost use Rattle.writer.specs.Put.{Put};
+ghost use Rattle.writer.specs.Said.{Says};
 ghost use Rattle.stack.specs.Calls.{topFrame};
 ghost use Rattle.inside.specs.Calls.{languageIn};
 ghost use Rattle.event.specs.Progress.{Lawful, HandlesAll, docIn, lent};
@@ -15,7 +16,6 @@ ghost use Rattle.element.specs.Element.{textOf, maybe};
 ghost use Rattle.plan.specs.Plan.{isThere};
 ghost use Rattle.plan.specs.Goes.{Goes};
 ghost use Rattle.acting.specs.Told.{NodeFor, TermFor, LanguageFor, linesOf, nodeLines, objectLines, resourceLines};
-ghost use Rattle.acting.specs.Said.{Says};
 ghost use Rattle.acting.specs.Entered.{Enters};
 use element::Source;
 use event::Advance;
@@ -31,12 +31,7 @@ use plan::Start;
 use spec::Refusal;
 use stack::Found;
 use state::Registers;
-
-// Whether lines have room, and how many bytes were written.
-struct Said {
-    fits: bool,
-    written: usize,
-}
+use writer::Said;
 
 // 2 where the lines have no room; else they are written, and all is kept.
 pub fn act<'a>(
@@ -121,11 +116,20 @@ fn say<'a>(
 ) -> Said
     ensures { λ s. ⌜ Says (now (out .entry)) (now (out .exit)) (write (linesOf x (topFrame r (now (frames .entry))) (languageIn r (now (frames .entry))) (now (work .entry)) (now (scratch .entry)) (now (spans .entry)) k (now (area .entry)) (now (classes .entry)) (now (roles .entry)))) s ⌝ }
 {
+    let plan = x.plan;
+    let lines = plan.lines;
+    if let Lines::Nothing = lines {
+        return Said {
+            fits: true,
+            written: 0,
+        };
+    }
     let around = stack::top(r, frames);
     let language = inside::language_in_force(r, frames);
+    let mut draft = [0u8; writer::DRAFT];
     let size = tell(
-        out,
-        false,
+        &mut draft,
+        true,
         x,
         around,
         language,
@@ -141,6 +145,13 @@ fn say<'a>(
         return Said {
             fits: false,
             written: 0,
+        };
+    }
+    if size <= writer::DRAFT {
+        copy::put(out, 0, &draft[..size]);
+        return Said {
+            fits: true,
+            written: size,
         };
     }
     let written = tell(

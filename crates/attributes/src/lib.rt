@@ -53,7 +53,16 @@ pub fn read_attributes(
 pub fn first_in(roles: &[u8], k: usize, role: Role) -> usize
     ensures { λ r. ⌜ r ≡ firstIn (now (roles .entry)) k (roleIs role) ⌝ }
 {
-    copy::find(names::piece(roles, 0, k), role.word())
+    let word = role.word();
+    let within = names::piece(roles, 0, k);
+    let mut i: usize = 0;
+    while i < within.len() {
+        if within[i] == word {
+            return i;
+        }
+        i += 1;
+    }
+    i
 }
 
 // The namespace of a name of this class, which its local part follows in the expanded name; `xml` is that of the prefix `xml`.

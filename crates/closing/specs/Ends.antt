@@ -1,12 +1,12 @@
 -- An end tag that matches: what the definitions answer, and what a handler has to show of it.
-use Prim.Native.Nat.{ℕ, _+_, _-_, _<_, _≤_}
+use Prim.Native.Nat.{ℕ, _-_, _<_}
 use mathlib.Core.Path.{_≡_, refl, sym, ap, _∙_}
-use mathlib.Core.Bool.{Bool, true, false}
+use mathlib.Core.Bool.{true, false}
 use mathlib.Core.List.{List, [], _∷_}
 use native.Mathlib.Omega.{arith}
 use lib.Dec.{leb}
 use lib.ListN.{length}
-use borrow.Author.Tests.{lt-leb, le-leb}
+use borrow.Author.Tests.{le-leb}
 use Rattle.spec.specs.Bytes.{Bytes, _>>_, require_or_}
 use Rattle.spec.specs.Numbers.{Answer, refuse, good}
 use Rattle.spec.specs.declared.Refusal.{Refusal}
@@ -30,7 +30,8 @@ use Rattle.stack.specs.Calls.{topFrame}
 use Rattle.stack.specs.Laws.{topmost}
 use Rattle.inside.specs.Calls.{heldIn}
 use Rattle.inside.specs.Laws.{held-read}
-use Rattle.writer.specs.Put.{Put, most, put-measures, put-decides, put-both}
+use Rattle.writer.specs.declared.Said.{Said}
+use Rattle.writer.specs.Said.{Says}
 use Rattle.event.specs.declared.Outcome.{Outcome}
 use Rattle.event.specs.declared.Outcome.the-variants.{Stop, Did}
 use Rattle.event.specs.Result.{IdsFit, Handles, handled, handled-by, concluded, refused-on, over-limit, no-room, all-fits, fits-held, stopped, done}
@@ -143,28 +144,26 @@ module _ {q : Kind} {r : Registers} {fs bs is w out : List ℕ} (c : Closing q r
                 });
           }
 
--- ---- measured, and then written
+-- ---- lines, if all of them have room
 
 module _ {q : Kind} {r p : Registers} {fs w : List ℕ} {lines : List Triple} (t : Tells q r p fs w lines) where
   pub tells-over : {out : List ℕ} → leb (heldIn p) mostHeldBytes ≡ false → Ends q r (Stop OverLimit) fs w out fs w out
   tells-over h =
       record { handles = λ bs is c. let l = t .tells bs is c in refused-held c (l .answer) (λ ids i. held-decides (l .valid) ids i ∙ h) }
 
-  module _ {off : Bool} {out c : List ℕ} {n : ℕ} (h : leb (heldIn p) mostHeldBytes ≡ true) (a : Put off out c 0 n (write lines)) (f : off ≡ false) (s : length out < most) where
-    pub tells-full : length out < n → Ends q r (Stop NoRoom) fs w out fs w c
-    tells-full b =
-        let y : 0 + length (write lines) ≡ length (write lines) = omega arith in
-        let z : leb (length (write lines)) (length out) ≡ false = sym (rw y at (put-decides a (length out) s)) ∙ lt-leb n (length out) b in
-        rw (put-measures a f)
-        (record { handles = λ bs is x. let l = t .tells bs is x in refused-room x (l .answer) (λ ids i. held-decides (l .valid) ids i ∙ h) z })
+  module _ {out out′ : List ℕ} {s : Said} (h : leb (heldIn p) mostHeldBytes ≡ true) (a : Says out out′ (write lines) s) where
+    pub tells-full : s .fits ≡ false → Ends q r (Stop NoRoom) fs w out fs w out′
+    tells-full n =
+        rw (a .kept n)
+        (record { handles = λ bs is x. let l = t .tells bs is x in refused-room x (l .answer) (λ ids i. held-decides (l .valid) ids i ∙ h) (sym (a .answer) ∙ n) })
 
-    pub tells-done : {on : Bool} {e : List ℕ} {to : ℕ} → Put on c e 0 to (write lines) → on ≡ true → n ≤ length out → Ends q r (Did (record { written = to; registers = p })) fs w out fs w e
-    tells-done b y g =
+    pub tells-done : s .fits ≡ true → Ends q r (Did (record { written = s .written; registers = p })) fs w out fs w out′
+    tells-done y =
         record {
           handles =
               λ bs is x.
               let l = t .tells bs is x in
-              accepted x (l .answer) (λ ids i. held-decides (l .valid) ids i ∙ h) (put-both a b f y g s) (l .valid) (l .mark) (λ ids. refl);
+              accepted x (l .answer) (λ ids i. held-decides (l .valid) ids i ∙ h) (a .wrote y) (l .valid) (l .mark) (λ ids. refl);
         }
 
 -- ---- no lines

@@ -13,7 +13,7 @@ use Rattle.spec.specs.Numbers.{refuse, good}
 use Rattle.spec.specs.declared.Refusal.the-variants.{EmptyLiteral, LabelsSpent}
 use Rattle.spec.specs.Limits.{mostLabels}
 use Rattle.spec.specs.Rdf.{rdf}
-use Rattle.spec.specs.NTriples.{Subject, node, typed}
+use Rattle.spec.specs.NTriples.{Subject, node, typed, Triple}
 use Rattle.spec.specs.Document.{collection, Property, Doc, withFrames, withLabels, languageInForce}
 use Rattle.spec.specs.Productions.{statement}
 use Rattle.spec.specs.EndTag.{objectTerm, cells, headCell, endValue, endKind}
@@ -107,6 +107,11 @@ same-top : (u : Registers) (n : ℕ) (fs : List ℕ) → topFrame (labelledTo u 
 unfolding topFrame
 same-top u n fs = refl
 
+-- the statement of a default property of frame f, in the node of frame n, where language l is in force
+abbrev pub propertyLines : Frame → Frame → Found → List ℕ → List Triple
+propertyLines n f l w =
+    statement (propertyOf f w (subjectOf n w)) (objectTerm (optional (has f 4) (span w (at f 6) (at f 7))) (found l w) (objectOf (has f 5) (span w (at f 7) (at f 8))))
+
 -- ---- no lines
 
 -- an element of kind q leaves nothing but the document without it
@@ -138,8 +143,7 @@ module _ {r : Registers} {fs w : List ℕ} {p : Changed} (o : Pops r fs p) where
   -- ---- a default property
 
   pub property-tells : {n f : Frame} {l : Found} → f ≡ topFrame r fs → n ≡ topFrame (p .registers) fs → l ≡ languageIn r fs
-      → Tells PropertyElt r (p .registers) fs w
-      (statement (propertyOf f w (subjectOf n w)) (objectTerm (optional (has f 4) (span w (at f 6) (at f 7))) (found l w) (objectOf (has f 5) (span w (at f 7) (at f 8)))))
+      → Tells PropertyElt r (p .registers) fs w (propertyLines n f l w)
   unfolding whatOf endKind endValue stands
   property-tells x y z =
       record {

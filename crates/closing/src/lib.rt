@@ -2,12 +2,14 @@
 ghost use mathlib.Core.Path.{_≡_};
 ghost use mathlib.Core.List.{List};
 ghost use Prim.Native.Nat.{ℕ, _+_, _-_, _≤_, _<_};
+ghost use Rattle.spec.specs.NTriples.{write};
 ghost use Rattle.spec.specs.Pyx.{closing};
 ghost use Rattle.stack.specs.Calls.{topFrame};
 ghost use Rattle.nodes.specs.Take.{mainSize};
+ghost use Rattle.writer.specs.Said.{Says};
 ghost use Rattle.event.specs.Result.{Asks, Handles};
 ghost use Rattle.closing.specs.Ends.{Ends};
-ghost use Rattle.closing.specs.Kinds.{Silent, Whole};
+ghost use Rattle.closing.specs.Kinds.{Silent, Whole, propertyLines};
 ghost use Rattle.closing.specs.Node.{HeldAfter};
 use event::Done;
 use event::Outcome;
@@ -16,7 +18,9 @@ use frames::Kind;
 use frames::wide;
 use label::BlankNodeIdGenerator;
 use spec::Refusal;
+use stack::Found;
 use state::Registers;
+use writer::Said;
 
 // An end tag. Where no element is open, or the name as written is another, it is refused.
 pub fn end_outside(
@@ -101,14 +105,40 @@ fn end_property(r: Registers, frames: &[u32], work: &[u8], out: &mut [u8]) -> Ou
     if !inside::holds_no_more(behind) {
         return Outcome::Stop(Refusal::OverLimit);
     }
-    if out.len() < statements::property_lines(out, false, n, f, language, work) {
+    let said = say_property(out, n, f, language, work);
+    if !said.fits {
         return Outcome::Stop(Refusal::NoRoom);
     }
-    let written = statements::property_lines(out, true, n, f, language, work);
     Outcome::Did(Done {
-        written,
+        written: said.written,
         registers: behind,
     })
+}
+
+// Its statement, if all of it has room.
+fn say_property(out: &mut [u8], n: Frame, f: Frame, language: Found, work: &[u8]) -> Said
+    ensures { λ s. ⌜ Says (now (out .entry)) (now (out .exit)) (write (propertyLines n f language (now (work .entry)))) s ⌝ }
+{
+    let mut draft = [0u8; writer::DRAFT];
+    let size = statements::property_lines(&mut draft, true, n, f, language, work);
+    if out.len() < size {
+        return Said {
+            fits: false,
+            written: 0,
+        };
+    }
+    if size <= writer::DRAFT {
+        copy::put(out, 0, &draft[..size]);
+        return Said {
+            fits: true,
+            written: size,
+        };
+    }
+    let written = statements::property_lines(out, true, n, f, language, work);
+    Said {
+        fits: true,
+        written,
+    }
 }
 
 // An XML literal has some text.

@@ -1,15 +1,26 @@
 -- The loops that read: what a test of a whole text says from the position that a loop has come to.
-use mathlib.Core.Path.{_≡_, refl, sym, _∙_}
-use mathlib.Core.Bool.{Bool, true, false}
+use mathlib.Core.Path.{_≡_, refl, sym, ap, _∙_}
+use mathlib.Core.Bool.{Bool, true, false, _||_}
 use mathlib.Core.List.{List}
 use Prim.Native.Nat.{ℕ, suc, _+_, _<_, _≤_}
 use native.Mathlib.Omega.{arith}
 use native.Mathlib.Numerals.{add-one}
 use borrow.Author.Tests.{eq-eqb, ne-eqb}
-use lib.ListN.{length, drop, getD, drop-of-length-le}
-use lib.Seq.{drop-cons}
-use Rattle.spec.specs.Bytes.{if_then_else_, same, begins, upTo, every}
-use Rattle.copy.specs.Texts.{same-lengths, begins-short}
+use lib.Dec.{eqb}
+use lib.ListN.{length, take, drop, getD, length-take, length-drop, take-append-drop, drop-of-length-le}
+use lib.Seq.{drop-cons, drop-drop}
+use Rattle.spec.specs.Bytes.{if_then_else_, same, begins, upTo, among, every}
+use Rattle.copy.specs.Texts.{same-lengths, begins-short, upTo-past}
+
+-- ---- laws of `||`
+
+pub or-assoc : (a b c : Bool) → ((a || b) || c) ≡ (a || (b || c))
+or-assoc true b c = refl
+or-assoc false b c = refl
+
+pub or-false : (a : Bool) → (a || false) ≡ a
+or-false true = refl
+or-false false = refl
 
 -- ---- a search: `i` bytes passed, none of the set among them
 
@@ -37,6 +48,32 @@ unfolding upTo
 sought-done {p} {s} {i} h b =
     let z : length (upTo p (drop i s)) ≡ 0 = rw (drop-of-length-le s b) in
     omega arith
+
+-- a block of `n` bytes passed at once
+pub sought-block : (b n : ℕ) {s : List ℕ} {i : ℕ} → Sought (λ c. eqb c b) s i → i + n ≤ length s → among (take n (drop i s)) b ≡ false → Sought (λ c. eqb c b) s (i + n)
+sought-block b n {s} {i} h l e =
+    let w : length (take n (drop i s)) ≡ n = simp (length-take, length-drop) (omega arith) in
+    let r : length (upTo (λ c. eqb c b) (drop i s)) ≡ length (take n (drop i s)) + length (upTo (λ c. eqb c b) (drop n (drop i s))) =
+    ap (λ (t : List ℕ). length (upTo (λ c. eqb c b) t)) (sym (take-append-drop n (drop i s))) ∙ upTo-past b (take n (drop i s)) (drop n (drop i s)) e in
+    record { upto = l; rest = rw (← drop-drop n i s) (omega arith) }
+
+-- ---- a byte looked for with no branch: `found` is the answer for the first `j` bytes
+
+pub record Gathered (b : ℕ) (s : List ℕ) (j : ℕ) (found : Bool) : Type 0 where
+  pub upto : j ≤ length s
+  pub rest : among s b ≡ (found || among (drop j s) b)
+
+pub gathered-begins : {b : ℕ} {s : List ℕ} → Gathered b s 0 false
+gathered-begins = record { upto = omega arith; rest = refl }
+
+pub gathered-more : {b : ℕ} {s : List ℕ} {j : ℕ} {found : Bool} → Gathered b s j found → j < length s → Gathered b s (j + 1) (found || eqb (getD s j 0) b)
+unfolding among
+gathered-more {b} {s} {j} {found} h l =
+    record { upto = omega arith; rest = h .rest ∙ rw (drop-cons s j 0 l, add-one) (sym (or-assoc found (eqb (getD s j 0) b) (among (drop (suc j) s) b))) }
+
+pub gathered-done : {b : ℕ} {s : List ℕ} {j : ℕ} {found : Bool} → Gathered b s j found → length s ≤ j → found ≡ among s b
+unfolding among
+gathered-done {b} {s} {j} {found} h l = sym (h .rest ∙ rw (drop-of-length-le s l) (or-false found))
 
 -- ---- a test of every byte: `i` bytes passed it
 

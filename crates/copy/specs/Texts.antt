@@ -1,13 +1,13 @@
 -- Laws of the texts of `spec`: when two are the same, what one begins with, and where it is cut.
-use mathlib.Core.Path.{_≡_, refl, ap}
-use mathlib.Core.Bool.{Bool, true, false, false≢true}
+use mathlib.Core.Path.{_≡_, refl, sym, ap}
+use mathlib.Core.Bool.{Bool, true, false, _||_, false≢true}
 use mathlib.Core.List.{[], _∷_, _++_}
-use Prim.Native.Nat.{ℕ, suc, _<_, _≤_}
+use Prim.Native.Nat.{ℕ, suc, _+_, _<_, _≤_}
 use native.Mathlib.Omega.{arith}
 use lib.Dec.{eqb}
 use lib.ListN.{length, take, drop, getD}
 use borrow.Author.Tests.{eq-eqb, eqb-true}
-use Rattle.spec.specs.Bytes.{Bytes, if_then_else_, begins, after, upTo, from}
+use Rattle.spec.specs.Bytes.{Bytes, if_then_else_, begins, after, upTo, from, among}
 use Rattle.spec.proofs.Booleans.{and-left, and-right, and-both, no-true}
 pub use Rattle.spec.proofs.Bytes.{same-true, same-refl, same-false, same-lengths}
 
@@ -85,3 +85,14 @@ module _ (p : ℕ → Bool) where
           → p (getD (a ∷ s) (length (if t then [] else (a ∷ upTo p s))) 0) ≡ true
       go true e f h = e
       go false e f h = f (omega arith)
+
+-- a text that does not have the byte is passed over
+pub upTo-past : (b : ℕ) (s t : Bytes) → among s b ≡ false → length (upTo (λ c. eqb c b) (s ++ t)) ≡ length s + length (upTo (λ c. eqb c b) t)
+unfolding upTo among if_then_else_
+upTo-past b [] t h = omega arith
+upTo-past b (a ∷ s) t h = go (eqb a b) h (upTo-past b s t)
+  where
+    go : (x : Bool) → (x || among s b) ≡ false → (among s b ≡ false → length (upTo (λ c. eqb c b) (s ++ t)) ≡ length s + length (upTo (λ c. eqb c b) t))
+        → length (if x then [] else (a ∷ upTo (λ c. eqb c b) (s ++ t))) ≡ suc (length s) + length (upTo (λ c. eqb c b) t)
+    go true h f = absurd (false≢true (sym h))
+    go false h f = omega (arith, f h)

@@ -2,8 +2,9 @@
 ghost use mathlib.Core.Path.{_≡_};
 ghost use lib.ListN.{length};
 ghost use lib.Dec.{eqb};
-ghost use Rattle.spec.specs.Bytes.{same, begins, upTo};
+ghost use Rattle.spec.specs.Bytes.{same, begins, upTo, among};
 ghost use Rattle.copy.specs.Copy.{Put};
+ghost use Rattle.copy.specs.Scan.{Sought};
 
 // All of `src` into `dst`, from `at` on. Where it does not fit, nothing changes and the answer is false.
 pub fn put(dst: &mut [u8], at: usize, src: &[u8]) -> bool
@@ -61,7 +62,7 @@ pub fn begins(s: &[u8], front: &[u8]) -> bool
 pub fn find(s: &[u8], b: u8) -> usize
     ensures { λ r. ⌜ r ≡ length (upTo (λ c. eqb c b) (now (s .entry))) ⌝ }
 {
-    let mut i: usize = 0;
+    let mut i: usize = skip_blocks(s, b);
     while i < s.len() {
         if s[i] == b {
             return i;
@@ -69,4 +70,33 @@ pub fn find(s: &[u8], b: u8) -> usize
         i += 1;
     }
     i
+}
+
+// How many bytes stand at the front in blocks of eight that have no `b`.
+fn skip_blocks(s: &[u8], b: u8) -> usize
+    ensures { λ r. ⌜ Sought (λ c. eqb c b) (now (s .entry)) r ⌝ }
+{
+    let mut i = 0;
+    while 8 <= s.len() - i {
+        let end = i + 8;
+        if block_has(&s[i..end], b) {
+            return i;
+        }
+        i = end;
+    }
+    i
+}
+
+// Is `b` among eight bytes? No branch inside the loop, so that the eight are compared at once.
+fn block_has(block: &[u8], b: u8) -> bool
+    requires { ⌜ length (now block) ≡ 8 ⌝ }
+    ensures { λ r. ⌜ r ≡ among (now (block .entry)) b ⌝ }
+{
+    let mut found = false;
+    let mut j = 0;
+    while j < 8 {
+        found = found | (block[j] == b);
+        j += 1;
+    }
+    found
 }

@@ -28,8 +28,6 @@ impl IdTable {
     pub const MOST: usize = 512;
     // All of them together, in bytes: the store is exactly as long.
     pub const BYTES: usize = 32_768;
-    // One of them, in bytes: it is a resolved IRI.
-    pub const LONGEST: usize = Resolved::MOST_BYTES;
 
     // Every place empty, as a document starts.
     pub fn new() -> Self
@@ -69,7 +67,7 @@ pub fn valid(
         i -= 1;
         let start = wide(at[i]);
         let size = wide(len[i]);
-        if IdTable::LONGEST < size {
+        if Resolved::MOST_BYTES < size {
             return false;
         }
         if start + size != end {
@@ -112,7 +110,7 @@ pub fn room(count: usize, used: usize, n: usize) -> bool
     if IdTable::MOST <= count {
         return false;
     }
-    if IdTable::LONGEST < n {
+    if Resolved::MOST_BYTES < n {
         return false;
     }
     if IdTable::BYTES < used {

@@ -7,7 +7,7 @@ use mathlib.Core.List.{List, [], _∷_, _++_, head-eq-of-cons-eq, tail-eq-of-con
 use Prim.Native.Nat.{ℕ, _+_, _<_}
 use native.Mathlib.Omega.{arith}
 use lib.Dec.{eqb, leb}
-use lib.ListN.{length, drop}
+use lib.ListN.{length, drop, getD}
 use borrow.Author.Tests.{eqb-true, leb-true}
 use Rattle.spec.specs.Bytes.{Bytes, between, byte, if_then_else_}
 use Rattle.spec.specs.Bytes as B
@@ -21,7 +21,7 @@ use Rattle.utils.proofs.Front.{front-characters, front-some, stuck-fails}
 use Rattle.utils.proofs.Decoding.{front-one}
 use Rattle.iri.specs.declared.Part.{Part}
 use Rattle.iri.specs.declared.Part.the-variants.{Scheme, Port, Hex, Later, UserInfo, Name, Path, Query, Fragment}
-use Rattle.iri.specs.Parts.{of, Class, set, letter, escape, _either_, grammar, allowed, escapes, isHex, isDigit, isAlpha, classOf, row, escaped, Taken}
+use Rattle.iri.specs.Parts.{of, Class, set, letter, escape, _either_, grammar, allowed, escapes, isHex, isDigit, isAlpha, isAlphanum, unreserved, pchar, classOf, lettered, row, escaped, Taken}
 use Rattle.iri.specs.Parts as P
 use Rattle.iri.proofs.Characters.{Reads, in-parts, reads-characters, characters-reads, reads-front, front-reads}
 use Rattle.iri.proofs.Languages.{In, of-same, of-in, same-test, letters-mark, of-one, of-nil}
@@ -209,6 +209,35 @@ taken-escape p (c ∷ a ∷ b ∷ s) h e =
     let x = and-right (eqb c 37) (isHex a && isHex b) e in
     rw (eqb-true c 37 (and-left (eqb c 37) (isHex a && isHex b) e)) (taken-triple p a b s h (and-left (isHex a) (isHex b) x) (and-right (isHex a) (isHex b) x))
 
+-- ---- a letter or digit, where the part has them
+
+lettered-allows : (p : Part) (c : ℕ) → lettered p ≡ true → isAlphanum c ≡ true → allowed (classOf p) c ≡ true
+unfolding lettered allowed classOf pchar unreserved
+lettered-allows Scheme c l h = rw h
+lettered-allows Port c l h = absurd (false≢true l)
+lettered-allows Hex c l h = absurd (false≢true l)
+lettered-allows Later c l h = rw h
+lettered-allows UserInfo c l h = rw h
+lettered-allows Name c l h = rw h
+lettered-allows Path c l h = rw h
+lettered-allows Query c l h = rw h
+lettered-allows Fragment c l h = rw h
+
+alpha-low : (c : ℕ) → isAlpha c ≡ true → c < 128
+unfolding P.all
+alpha-low c h = by (leb 65 c && leb c 90) h
+  where
+    by : (t : Bool) → between 97 122 (if t then 32 + c else c) ≡ true → c < 128
+    by true y = omega (arith, leb-true (32 + c) 122 (and-right (leb 97 (32 + c)) (leb (32 + c) 122) y))
+    by false y = omega (arith, leb-true c 122 (and-right (leb 97 c) (leb c 122) y))
+
+alphanum-low : (c : ℕ) → isAlphanum c ≡ true → c < 128
+unfolding isAlphanum isDigit between byte
+alphanum-low c h = elim (or-cases (isAlpha c) (between 48 57 c) h) [ inl x ↦ alpha-low c x | inr y ↦ omega (arith, leb-true c 57 (and-right (leb 48 c) (leb c 57) y)) ]
+
+pub taken-letter : (p : Part) (s : Bytes) → lettered p ≡ true → 0 < length s → isAlphanum (getD s 0 0) ≡ true → Taken p s 1
+taken-letter p s l z h = taken-plain p s (front-one s z (alphanum-low (getD s 0 0) h)) (lettered-allows p (getD s 0 0) l h)
+
 -- ---- the parts are those of RFC 3987
 
 pub row-port : row Port ≡ R.port
@@ -244,14 +273,6 @@ unfolding row grammar P.all R.all
 row-fragment = refl
 
 -- ALPHA *( ALPHA / DIGIT / "+" / "-" / "." )
-alpha-low : (c : ℕ) → isAlpha c ≡ true → c < 128
-unfolding P.all
-alpha-low c h = by (leb 65 c && leb c 90) h
-  where
-    by : (t : Bool) → between 97 122 (if t then 32 + c else c) ≡ true → c < 128
-    by true y = omega (arith, leb-true (32 + c) 122 (and-right (leb 97 (32 + c)) (leb (32 + c) 122) y))
-    by false y = omega (arith, leb-true c 122 (and-right (leb 97 c) (leb c 122) y))
-
 pub scheme-cons : (c : ℕ) (s : Bytes) → of R.scheme (c ∷ s) ≡ (isAlpha c && of (row Scheme) s)
 unfolding row grammar P.all R.all
 scheme-cons c s = of-one isAlpha alpha-low (row Scheme) c s

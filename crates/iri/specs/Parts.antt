@@ -96,6 +96,18 @@ classOf Path = pchar either letter (byte "/")
 classOf Query = pchar either set isIprivate either set (among (ascii "/?"))
 classOf Fragment = pchar either set (among (ascii "/?"))
 
+-- does it allow every letter and digit of ASCII?
+unfoldable pub lettered : Part → Bool
+lettered Scheme = true
+lettered Port = false
+lettered Hex = false
+lettered Later = true
+lettered UserInfo = true
+lettered Name = true
+lettered Path = true
+lettered Query = true
+lettered Fragment = true
+
 -- such a part
 unfoldable pub row : Part → Grammar ℕ
 row p = many (grammar (classOf p))

@@ -7,7 +7,7 @@ ghost use lib.ListN.{length};
 ghost use Rattle.spec.specs.Bytes.{among, between, inRanges};
 ghost use Rattle.spec.specs.Abnf.{lower, some};
 ghost use Rattle.spec.specs.Rfc3987.{isIri, isIriReference, scheme, iauthority, IPv6address, IPvFuture, IPv4address, h16, dec-octet};
-ghost use Rattle.iri.specs.Parts.{of, grammar, classOf, allowed, escapes, unreserved, delims, pchar, row, escaped, isAlpha, isDigit, isAlphanum, isHex, isUcschar, isIprivate, pairs, Taken};
+ghost use Rattle.iri.specs.Parts.{of, grammar, classOf, allowed, escapes, unreserved, delims, pchar, row, escaped, isAlpha, isDigit, isAlphanum, isHex, isUcschar, isIprivate, pairs, lettered, Taken};
 ghost use Rattle.iri.specs.Forms.{optionally, isMark, restOf, partOf, network, server, bracketed, literal, version, colonless};
 ghost use Rattle.iri.specs.Addresses.{Counted, upToGap, octet};
 use utils::Decoded;
@@ -382,8 +382,13 @@ fn is_filled(part: Part, s: &[u8]) -> bool
 fn is_row(part: Part, s: &[u8]) -> bool
     ensures { λ r. ⌜ r ≡ of (row part) (now (s .entry)) ⌝ }
 {
+    let lettered = has_letters(part);
     let mut at: usize = 0;
     while at < s.len() {
+        if lettered & is_alphanum(wide(s[at])) {
+            at += 1;
+            continue;
+        }
         let n = take_one(part, &s[at..]);
         if n == 0 {
             return false;
@@ -391,6 +396,23 @@ fn is_row(part: Part, s: &[u8]) -> bool
         at += n;
     }
     true
+}
+
+// Do all letters and digits stand in a part as they are? They are most of what IRIs are made of.
+fn has_letters(part: Part) -> bool
+    ensures { λ r. ⌜ r ≡ lettered part ⌝ }
+{
+    match part {
+        Part::Scheme => true,
+        Part::Port => false,
+        Part::Hex => false,
+        Part::Later => true,
+        Part::UserInfo => true,
+        Part::Name => true,
+        Part::Path => true,
+        Part::Query => true,
+        Part::Fragment => true,
+    }
 }
 
 // How many bytes the first character of a part takes, 0 where there is none.
@@ -552,7 +574,13 @@ fn is_delim(c: u32) -> bool
 fn is_alphanum(c: u32) -> bool
     ensures { λ r. ⌜ r ≡ isAlphanum c ⌝ }
 {
-    is_alpha(c) | is_digit(c)
+    if is_within(c, 97, 122) {
+        return true;
+    }
+    if is_within(c, 65, 90) {
+        return true;
+    }
+    is_digit(c)
 }
 
 fn is_alpha(c: u32) -> bool

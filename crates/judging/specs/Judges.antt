@@ -1,46 +1,41 @@
 -- What is judged of a start tag that was read, and what comes of it.
-use Prim.Native.Nat.{ℕ, suc, _+_, _*_, _<_, _≤_}
-use mathlib.Core.Path.{_≡_, refl, sym, ap, _∙_}
+use Prim.Native.Nat.{ℕ, _+_, _≤_}
+use mathlib.Core.Path.{_≡_, sym, ap, _∙_}
 use mathlib.Core.Bool.{Bool, true, false, _&&_, not}
-use mathlib.Core.Option.{Option, none, some}
-use mathlib.Core.List.{List, [], _∷_}
+use mathlib.Core.Option.{Option, some}
+use mathlib.Core.List.{List, []}
 use native.Mathlib.Omega.{arith}
-use lib.Dec.{eqb, leb}
+use lib.Dec.{leb}
 use lib.ListN.{length, take}
-use borrow.Author.Tests.{le-leb, lt-leb, leb-true, leb-false}
+use borrow.Author.Tests.{leb-true}
 use Rattle.spec.specs.Bytes.{Bytes, same}
 use Rattle.spec.specs.Rdf.{rdf}
 use Rattle.spec.proofs.Booleans.{and-left, and-right}
-use Rattle.spec.specs.Numbers.{Answer, refuse, good}
+use Rattle.spec.specs.Numbers.{refuse, good}
 use Rattle.spec.specs.declared.Refusal.{Refusal}
 use Rattle.spec.specs.declared.Refusal.the-variants.{OverLimit}
 use Rattle.spec.specs.Limits.{mostHeldBytes, mostNameBytes}
-use Rattle.spec.specs.Limits as L
-use Rattle.spec.specs.NTriples.{Subject}
-use Rattle.spec.specs.Namespaces.{Binding, declared}
+use Rattle.spec.specs.Namespaces.{Binding}
 use Rattle.spec.specs.Pyx as P
-use Rattle.spec.specs.Document.{Frame as Element, Kind as What, Doc, frameBytes, placeIn}
+use Rattle.spec.specs.Document.{Frame as Element, Kind as What, frameBytes, placeIn}
 use Rattle.spec.specs.StartTag as S
 use Rattle.spec.specs.Productions.{Opened, elementType, isLi}
 use Rattle.spec.specs.Opening.{opened, onOpening}
 use Rattle.spec.specs.RdfXml.{onEvent}
-use Rattle.copy.specs.Copy.{part}
 use Rattle.ids.specs.Ids.{idsOf, roomFor}
-use Rattle.frames.specs.Kept.{Kept}
-use Rattle.frames.specs.Words.{pick}
 use Rattle.state.specs.declared.Registers.{Registers}
 use Rattle.state.specs.Meaning.{subjectBelow, elementsOf, docOf}
-use Rattle.state.specs.Valid.{Valid, stands}
+use Rattle.state.specs.Valid.{stands}
 use Rattle.names.specs.Tag.{attributesOf}
 use Rattle.ntriples.specs.Terms.{idOf as given}
-use Rattle.attributes.specs.Properties.{propertiesFrom, properties}
-use Rattle.event.specs.Result.{handled, concluded, handled-by, refused-on, over-limit}
-use Rattle.event.specs.Progress.{Lent, lent, docIn, Lawful}
+use Rattle.attributes.specs.Properties.{properties}
+use Rattle.event.specs.Result.{handled, handled-by, refused-on, over-limit}
+use Rattle.event.specs.Progress.{lent, Lawful}
 use Rattle.element.specs.declared.Source.{Source}
 use Rattle.element.specs.declared.Source.the-variants as source
-use Rattle.element.specs.Element.{textOf, maybe, newElement}
+use Rattle.element.specs.Element.{textOf, maybe, newElement, Fitting}
 use Rattle.element.specs.Sizes.{Measures}
-use Rattle.element.specs.Laws.{Granted, ready-valid}
+use Rattle.element.specs.Laws.{ready-valid}
 use Rattle.stack.specs.Laws.{Numbered}
 use Rattle.stack.specs.Change.{flat}
 use Rattle.plan.specs.declared.Start.{Start}
@@ -55,7 +50,7 @@ use Rattle.tag.specs.Tag.{Tells}
 use Rattle.tag.specs.Made.{shortIf}
 use Rattle.lines.specs.Lines.{element-type}
 use Rattle.giving.specs.Giving.{madeAt, Gives, Shorts, shorts, Keeps, given-says, kind-says, iri-says}
-use Rattle.opening.specs.Order.{WellFormed, productionIn, no-production, too-long, opens-good}
+use Rattle.opening.specs.Order.{productionIn, no-production, too-long, opens-good}
 use Rattle.opening.specs.Form.{Formed}
 use Rattle.judging.specs.declared.Verdict.{Verdict}
 use Rattle.judging.specs.declared.Verdict.the-variants.{Stop, Go}
@@ -77,6 +72,29 @@ Rules (Go x) r count used fs bs is w ia il st e v m k cs rs b = Goes x (docOf r 
 -- b: the area behind it
 pub record Judges (q : Verdict) (t : Tag) (r : Registers) (count used : ℕ) (fs w e v : List ℕ) (m k : ℕ) (a b : List ℕ) : Type 0 where
   pub cases : (bs is ia il st cs rs : List ℕ) → Known t r count used fs bs is w ia il st e v m k cs rs a → Rules q r count used fs bs is w ia il st e v m k cs rs b
+  pub same : length b ≡ length a
+
+-- ---- what is known before the limits on what is kept are tested
+
+-- not refused so far: n, the bytes that the element holds, decides
+pub record Waits (x : Start) (r : Registers) (count used : ℕ) (fs bs is w ia il st e v : List ℕ) (m k : ℕ) (cs rs b : List ℕ) : Type 0 where
+  pub full : {n : ℕ} → Measures e v m k b (x .plan .parts) n → (roomForId count used (x .id) e b && leb (r .top + n) mostHeldBytes) ≡ false
+      → (room : ℕ) → handled (P.opening (take m e) (attributesOf e v k)) room (docOf r fs bs is w (idsOf ia il st count)) ≡ refuse OverLimit
+  pub fits : {n : ℕ} → Measures e v m k b (x .plan .parts) n → (roomForId count used (x .id) e b && leb (r .top + n) mostHeldBytes) ≡ true
+      → Goes x (docOf r fs bs is w (idsOf ia il st count)) r fs bs w e v m k b cs rs count used
+
+abbrev pub Drafted : Verdict → Registers → ℕ → ℕ → List ℕ → List ℕ → List ℕ → List ℕ → List ℕ → List ℕ → List ℕ → List ℕ → List ℕ → ℕ → ℕ → List ℕ → List ℕ → List ℕ → Type 0
+Drafted (Stop n) r count used fs bs is w ia il st e v m k cs rs b = Rules (Stop n) r count used fs bs is w ia il st e v m k cs rs b
+Drafted (Go x) r count used fs bs is w ia il st e v m k cs rs b = Waits x r count used fs bs is w ia il st e v m k cs rs b
+
+-- the bytes of what is planned can be counted
+abbrev pub Measurable : Verdict → Type 0
+Measurable (Stop n) = Unit
+Measurable (Go x) = Fitting (x .plan .parts)
+
+pub record Drafts (q : Verdict) (t : Tag) (r : Registers) (fs e v : List ℕ) (k : ℕ) (a b : List ℕ) : Type 0 where
+  pub cases : (count used m : ℕ) (bs is w ia il st cs rs : List ℕ) → Known t r count used fs bs is w ia il st e v m k cs rs a → Drafted q r count used fs bs is w ia il st e v m k cs rs b
+  pub measurable : Measurable q
   pub same : length b ≡ length a
 
 -- ---- how it comes to that
@@ -139,7 +157,7 @@ short-id {s} z i q = leb-true (length i) mostNameBytes (sym (ap shortIf q) ∙ z
 module _ {t : Tag} {r : Registers} {count used : ℕ} {fs bs is w ia il st e v : List ℕ} {m k : ℕ} {cs rs a : List ℕ} (y : Known t r count used fs bs is w ia il st e v m k cs rs a)
     {o : Opened} (pr : productionIn (placeIn (elementsOf r fs bs is w)) (y .tells .is) (r .labels) ≡ good o) (short : t .short ≡ true)
     {b : List ℕ} (kp : Keeps a b) (ev : length e ≤ 32_768) {g : Given} (gv : Gives t e v k g) {p : Plan} (pb : p .parts .base ≡ g .base) (pt : p .parts .tag ≡ g .tag)
-    (d : Does p e b (subjectBelow fs w (r .depth)) o) {n : ℕ} (me : Measures e v m k b (p .parts) n) where
+    (d : Does p e b (subjectBelow fs w (r .depth)) o) where
   says : Says g e b (y .tells .is)
   says = given-says (y .tells) short kp ev gv
 
@@ -160,47 +178,54 @@ module _ {t : Tag} {r : Registers} {count used : ℕ} {fs bs is w ia il st e v :
           → _≡_ {A = Element} (record { name = n₁; bindings = b₁; ownBase = x₁; ownTag = z₁; kind = k₁ }) (record { name = n₂; bindings = b₂; ownBase = x₂; ownTag = z₂; kind = k₂ })
       made p₁ p₂ p₃ p₄ p₅ = rw (p₁, p₂, p₃, p₄, p₅)
 
-  bytes-are : frameBytes (elementOf (y .tells .is) o) ≡ n
-  bytes-are = ap frameBytes element-is ∙ me .bytes (subjectBelow fs w (r .depth))
-
   id-short : (i : Bytes) → y .tells .is .id ≡ some i → length i ≤ mostNameBytes
   id-short = short-id (shorts (y .tells .is) (sym (y .tells .short) ∙ short))
 
-  -- 7
-  pub limit-stops : (roomForId count used (madeAt 0 (t .id)) e b && leb (r .top + n) mostHeldBytes) ≡ false
-      → (room : ℕ) → handled (P.opening (take m e) (attributesOf e v k)) room (docOf r fs bs is w (idsOf ia il st count)) ≡ refuse OverLimit
-  limit-stops z = full-stops y pr short (madeAt 0 (t .id)) b n id-says id-short bytes-are z
+  module _ {n : ℕ} (me : Measures e v m k b (p .parts) n) where
+    bytes-are : frameBytes (elementOf (y .tells .is) o) ≡ n
+    bytes-are = ap frameBytes element-is ∙ me .bytes (subjectBelow fs w (r .depth))
 
-  pub goes : (li named : Bool) (property : Source) → (roomForId count used (madeAt 0 (t .id)) e b && leb (r .top + n) mostHeldBytes) ≡ true
-      → named ≡ not (same (y .tells .is .iri) (rdf "Description")) → isLi (y .tells .is .iri) ≡ li → (li ≡ true → Numbered r fs) → p .labels ≤ 99_999_999 → stands (p .parts .kind) fs (r .depth) ≡ true
+    -- 7
+    limit-stops : (roomForId count used (madeAt 0 (t .id)) e b && leb (r .top + n) mostHeldBytes) ≡ false
+        → (room : ℕ) → handled (P.opening (take m e) (attributesOf e v k)) room (docOf r fs bs is w (idsOf ia il st count)) ≡ refuse OverLimit
+    limit-stops z = full-stops y pr short (madeAt 0 (t .id)) b n id-says id-short bytes-are z
+
+    goes : (li named : Bool) (property : Source) → (roomForId count used (madeAt 0 (t .id)) e b && leb (r .top + n) mostHeldBytes) ≡ true
+        → named ≡ not (same (y .tells .is .iri) (rdf "Description")) → isLi (y .tells .is .iri) ≡ li → (li ≡ true → Numbered r fs) → p .labels ≤ 99_999_999 → stands (p .parts .kind) fs (r .depth) ≡ true
+        → o .lines ≡ told (p .lines) (mainOf (startBy p t li named property) e b) (objectOf (startBy p t li named property) e b) (y .tells .is .language) (y .tells .is .attributes) (y .tells .is .type) (elementType (y .tells .is .iri)) (propertyOf (startBy p t li named property) e b (subjectBelow fs w (r .depth)))
+        → Goes (startBy p t li named property) (docOf r fs bs is w (idsOf ia il st count)) r fs bs w e v m k b cs rs count used
+    unfolding mostHeldBytes
+    goes li named property z nm il′ nb few sd ln =
+        let ro = and-left (roomForId count used (madeAt 0 (t .id)) e b) _ z in
+        let hd = leb-true (r .top + n) 49_152 (and-right (roomForId count used (madeAt 0 (t .id)) e b) _ z) in
+        let fl = flat (y .lawful .valid) (y .level) in
+        record {
+          tag = y .tells .is;
+          what = o;
+          steps = steps y pr short;
+          name = y .tells .name;
+          bindings = y .tells .bindings;
+          base = base-says;
+          ownTag = tag-says-own;
+          language = y .tells .language;
+          attributes = y .tells .attributes ∙ properties (y .tells .roles);
+          kind = kind-says (y .tells) short kp ev;
+          type = ap (given named) (text-of (madeAt 5120 (t .iri)) e b (iri-says (y .tells) short kp ev)) ∙ element-type (y .tells .is .iri) nm;
+          id = id-says;
+          li = il′;
+          does = d;
+          lines = ln;
+          granted =
+              record {
+                ready = ready-valid (y .lawful .valid) (y .level) (y .formed .deep) (omega (arith, y .formed .bound, fl .bindings)) me hd (d .fitting) sd;
+                numbered = nb;
+                few = few;
+              };
+          room = λ q. there-room count used (madeAt 0 (t .id)) e b q ro;
+        }
+
+  pub waits : (li named : Bool) (property : Source) → named ≡ not (same (y .tells .is .iri) (rdf "Description")) → isLi (y .tells .is .iri) ≡ li → (li ≡ true → Numbered r fs) → p .labels ≤ 99_999_999
+      → stands (p .parts .kind) fs (r .depth) ≡ true
       → o .lines ≡ told (p .lines) (mainOf (startBy p t li named property) e b) (objectOf (startBy p t li named property) e b) (y .tells .is .language) (y .tells .is .attributes) (y .tells .is .type) (elementType (y .tells .is .iri)) (propertyOf (startBy p t li named property) e b (subjectBelow fs w (r .depth)))
-      → Goes (startBy p t li named property) (docOf r fs bs is w (idsOf ia il st count)) r fs bs w e v m k b cs rs count used
-  unfolding mostHeldBytes
-  goes li named property z nm il′ nb few sd ln =
-      let ro = and-left (roomForId count used (madeAt 0 (t .id)) e b) _ z in
-      let hd = leb-true (r .top + n) 49_152 (and-right (roomForId count used (madeAt 0 (t .id)) e b) _ z) in
-      let fl = flat (y .lawful .valid) (y .level) in
-      record {
-        tag = y .tells .is;
-        what = o;
-        steps = steps y pr short;
-        name = y .tells .name;
-        bindings = y .tells .bindings;
-        base = base-says;
-        ownTag = tag-says-own;
-        language = y .tells .language;
-        attributes = y .tells .attributes ∙ properties (y .tells .roles);
-        kind = kind-says (y .tells) short kp ev;
-        type = ap (given named) (text-of (madeAt 5120 (t .iri)) e b (iri-says (y .tells) short kp ev)) ∙ element-type (y .tells .is .iri) nm;
-        id = id-says;
-        li = il′;
-        does = d;
-        lines = ln;
-        granted =
-            record {
-              ready = ready-valid (y .lawful .valid) (y .level) (y .formed .deep) (omega (arith, y .formed .bound, fl .bindings)) me hd (d .fitting) sd;
-              numbered = nb;
-              few = few;
-            };
-        room = λ q. there-room count used (madeAt 0 (t .id)) e b q ro;
-      }
+      → Waits (startBy p t li named property) r count used fs bs is w ia il st e v m k cs rs b
+  waits li named property nm il′ nb few sd ln = record { full = λ me z. limit-stops me z; fits = λ me z. goes me li named property z nm il′ nb few sd ln }

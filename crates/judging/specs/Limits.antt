@@ -1,37 +1,31 @@
 -- The limits on what is kept behind a start tag: rdf:IDs, their bytes, held bytes.
-use Prim.Native.Nat.{ℕ, _+_, _<_, _≤_}
+use Prim.Native.Nat.{ℕ, _+_, _-_, _<_, _≤_}
 use mathlib.Core.Path.{_≡_, refl, sym, ap, _∙_}
 use mathlib.Core.Bool.{Bool, true, false, _&&_}
-use mathlib.Core.Option.{Option, none, some}
-use mathlib.Core.List.{List, [], _∷_}
+use mathlib.Core.Option.{Option, some}
+use mathlib.Core.List.{List}
 use native.Mathlib.Omega.{arith}
 use lib.Dec.{leb}
-use lib.ListN.{length, take}
+use lib.ListN.{length}
 use borrow.Author.Tests.{le-leb, lt-leb, leb-true, leb-false}
-use Rattle.spec.specs.Bytes.{Bytes, sizeOf, total}
+use Rattle.spec.specs.Bytes.{Bytes, total}
 use Rattle.spec.specs.Limits.{mostIds, mostIdBytes, mostHeldBytes, mostNameBytes}
-use Rattle.spec.specs.Namespaces.{declared}
-use Rattle.spec.specs.Document.{Frame as Element, Doc, frameBytes, heldBytes, fits}
+use Rattle.spec.specs.Document.{Frame as Element, frameBytes, heldBytes, fits}
 use Rattle.spec.specs.StartTag.{Tag}
 use Rattle.spec.specs.Productions.{Opened}
-use Rattle.spec.specs.Opening.{enter, countLi, opened}
+use Rattle.spec.specs.Opening.{enter, opened}
 use Rattle.ids.specs.Ids.{idsOf, roomFor, ValidIds, room-fits, valid-fits}
 use Rattle.frames.specs.Words.{pick}
 use Rattle.state.specs.declared.Registers.{Registers}
-use Rattle.state.specs.Meaning.{subjectBelow, startOf, elementsOf, docOf}
+use Rattle.state.specs.Meaning.{docOf}
 use Rattle.state.specs.Valid.{Valid}
-use Rattle.names.specs.Tag.{attributesOf}
 use Rattle.element.specs.declared.Source.{Source}
 use Rattle.element.specs.declared.Source.the-variants.{Missing, Own, Made}
 use Rattle.element.specs.declared.Parts.{Parts}
-use Rattle.element.specs.Element.{textOf, maybe, kindIs, newElement}
+use Rattle.element.specs.Element.{textOf, maybe}
 use Rattle.element.specs.Sizes.{Measures}
 use Rattle.element.specs.Laws.{held-with}
-use Rattle.plan.specs.declared.Start.{Start}
 use Rattle.plan.specs.Plan.{isThere}
-use Rattle.spec.specs.declared.Refusal.the-variants.{OverLimit}
-use Rattle.judging.specs.declared.Verdict.{Verdict}
-use Rattle.judging.specs.declared.Verdict.the-variants.{Stop, Go}
 
 -- is there room for the rdf:ID, if there is one?
 unfoldable pub roomForId : ℕ → ℕ → Source → List ℕ → List ℕ → Bool
@@ -61,25 +55,34 @@ module _ {r : Registers} {count used : ℕ} {fs bs is w ia il st : List ℕ} (v 
       (and-assoc (leb (length (enter (t .id) (idsOf ia il st count))) mostIds) (leb (total length (enter (t .id) (idsOf ia il st count))) mostIdBytes) (leb (r .top + n) mostHeldBytes)
       ∙ ap (λ (b : Bool). b && leb (r .top + n) mostHeldBytes) (ids-room x s e a (t .id) q h))
 
--- ---- what `limited` answers
+-- ---- what `fits` answers
 
--- the element would hold so many bytes
-pub record Limited (q : Verdict) (x : Start) (r : Registers) (count used : ℕ) (e v : List ℕ) (m k : ℕ) (a : List ℕ) : Type 0 where
+-- is there room for the rdf:ID, and for the bytes that an element of these parts would hold beside those that are held?
+pub record Fits (b : Bool) (p : Parts) (s : Source) (top count used : ℕ) (e v : List ℕ) (m k : ℕ) (a : List ℕ) : Type 0 where
   pub size : ℕ
-  pub measures : Measures e v m k a (x .plan .parts) size
-  pub decides : q ≡ pick (roomForId count used (x .id) e a && leb (r .top + size) mostHeldBytes) (Go x) (Stop OverLimit)
+  pub measures : Measures e v m k a p size
+  pub is : b ≡ (roomForId count used s e a && leb (top + size) mostHeldBytes)
 
-module _ {x : Start} {r : Registers} {count used : ℕ} {e v : List ℕ} {m k : ℕ} {a : List ℕ} {n : ℕ} (me : Measures e v m k a (x .plan .parts) n) where
-  pub limited-id : {t : Bool} → t ≡ roomForId count used (x .id) e a → t ≡ false → Limited (Stop OverLimit) x r count used e v m k a
-  limited-id p h = record { size = n; measures = me; decides = rw (← p, h) }
+-- the test by what is left
+left-over : (n top most : ℕ) → top ≤ most → leb n (most - top) ≡ leb (top + n) most
+left-over n top most l = go (leb (top + n) most) refl
+  where
+    go : (t : Bool) → leb (top + n) most ≡ t → leb n (most - top) ≡ t
+    go true h = le-leb n (most - top) (omega (arith, leb-true (top + n) most h))
+    go false h = lt-leb n (most - top) (omega (arith, leb-false (top + n) most h))
 
-  pub limited-held : {t : Bool} → t ≡ roomForId count used (x .id) e a → t ≡ true → 49_152 < r .top + n → Limited (Stop OverLimit) x r count used e v m k a
-  unfolding mostHeldBytes
-  limited-held p h l = record { size = n; measures = me; decides = rw (← p, h, lt-leb (r .top + n) 49_152 l) }
+module _ {p : Parts} {s : Source} {top count used : ℕ} {e v : List ℕ} {m k : ℕ} {a : List ℕ} {n : ℕ} (me : Measures e v m k a p n) {t : Bool} (i : t ≡ roomForId count used s e a) where
+  pub id-full : t ≡ false → Fits false p s top count used e v m k a
+  id-full h = record { size = n; measures = me; is = rw (← i, h) }
 
-  pub limited-not : {t : Bool} → t ≡ roomForId count used (x .id) e a → t ≡ true → r .top + n ≤ 49_152 → Limited (Go x) x r count used e v m k a
-  unfolding mostHeldBytes
-  limited-not p h l = record { size = n; measures = me; decides = rw (← p, h, le-leb (r .top + n) 49_152 l) }
+  module _ (h : t ≡ true) where
+    pub held-full : 49_152 < top → Fits false p s top count used e v m k a
+    unfolding mostHeldBytes
+    held-full l = record { size = n; measures = me; is = rw (← i, h, lt-leb (top + n) 49_152 (omega arith)) }
+
+    pub held-fits : top ≤ 49_152 → Fits (leb n (49_152 - top)) p s top count used e v m k a
+    unfolding mostHeldBytes
+    held-fits l = record { size = n; measures = me; is = rw (← i, h) (left-over n top 49_152 l) }
 
 -- the arms of `id_fits`
 module _ (count used : ℕ) (e a : List ℕ) {s : Source} where

@@ -1,35 +1,33 @@
 -- Node elements: judged, and what is made of one.
 use Prim.Native.Nat.{ℕ, suc, _+_, _*_, _<_, _≤_}
 use mathlib.Core.Path.{_≡_, refl, sym, ap, _∙_}
-use mathlib.Core.Bool.{Bool, true, false, _&&_, not, false≢true}
-use mathlib.Core.Option.{Option, none, some}
-use mathlib.Core.List.{List, [], _∷_, _++_}
+use mathlib.Core.Bool.{Bool, true, false, not, false≢true}
+use mathlib.Core.Option.{none, some}
+use mathlib.Core.List.{List}
 use native.Mathlib.Omega.{arith}
 use native.Mathlib.Numerals.{add-one}
-use lib.Dec.{eqb, leb, ltb}
-use lib.ListN.{length, take}
-use borrow.Author.Tests.{not-true, not-false}
+use lib.Dec.{ltb}
+use lib.ListN.{length}
 use Rattle.spec.specs.Bytes.{Bytes, same, isSome, _>>_, require_or_}
 use Rattle.spec.proofs.Bytes.{same-true}
 use Rattle.label.specs.Label.{length-label}
 use Rattle.spec.specs.Numbers.{Answer, refuse, good}
 use Rattle.spec.specs.declared.Refusal.{Refusal}
 use Rattle.spec.specs.declared.Refusal.the-variants.{OverLimit, Reserved}
-use Rattle.spec.specs.Limits.{mostLabels, mostHeldBytes}
+use Rattle.spec.specs.Limits.{mostLabels}
 use Rattle.spec.specs.Rdf.{rdf, mayBeNode}
 use Rattle.spec.specs.Rdf as F
-use Rattle.spec.specs.NTriples.{Subject, label}
-use Rattle.spec.specs.Document.{Doc, placeIn}
+use Rattle.spec.specs.NTriples.{label}
+use Rattle.spec.specs.Document.{placeIn}
 use Rattle.spec.specs.StartTag as S
 use Rattle.spec.specs.Productions.{Opened, tagLines, elementType, isLi, openNode}
 use Rattle.copy.specs.Copy.{part, Wrote, wrote-part, wrote-same}
-use Rattle.frames.specs.Kept.{Kept, kept-before, kept-behind, kept-less}
+use Rattle.frames.specs.Kept.{kept-before, kept-behind, kept-less}
 use Rattle.frames.specs.Words.{pick}
 use Rattle.state.specs.declared.Registers.{Registers}
 use Rattle.state.specs.Meaning.{subjectBelow, elementsOf}
 use Rattle.state.specs.Valid.{stands}
 use Rattle.names.specs.Tag.{valueAt}
-use Rattle.reference.specs.declared.Reference.{Reference}
 use Rattle.reference.specs.Reference.{given}
 use Rattle.references.specs.Values.{valueIf}
 use Rattle.roles.specs.declared.Judgment.{Judgment}
@@ -37,24 +35,20 @@ use Rattle.roles.specs.declared.Judgment.the-variants as judgment
 use Rattle.roles.specs.Judgment.{said}
 use Rattle.production.specs.Judged.{NodeTag, NodeJudged, nodeSubject, nodeOpened}
 use Rattle.element.specs.declared.Source.the-variants.{Missing}
-use Rattle.element.specs.Element.{Fitting}
-use Rattle.element.specs.Sizes.{Short, Measures}
 use Rattle.plan.specs.declared.Plan.{Plan}
 use Rattle.plan.specs.declared.Given.{Given}
 use Rattle.plan.specs.declared.Start.{Start}
-use Rattle.plan.specs.Plan.{subjectIn, nodePlan}
+use Rattle.plan.specs.Plan.{nodePlan}
 use Rattle.plan.specs.Says.{Says, node-subject}
 use Rattle.plan.specs.Does.{Does, does-node}
-use Rattle.plan.specs.Goes.{told, mainOf, objectOf, propertyOf, Goes}
+use Rattle.plan.specs.Goes.{told, mainOf, objectOf, propertyOf}
 use Rattle.tag.specs.declared.Tag.{Tag}
-use Rattle.tag.specs.Tag.{Tells}
-use Rattle.giving.specs.Giving.{madeAt, isMissing, made-there, Gives, Keeps, given-says}
+use Rattle.giving.specs.Giving.{isMissing, made-there, Gives, Keeps, given-says}
 use Rattle.opening.specs.Order.{productionIn}
 use Rattle.judging.specs.declared.Verdict.{Verdict}
 use Rattle.judging.specs.declared.Verdict.the-variants.{Stop, Go}
 use Rattle.judging.specs.Names.{iriText, node-name, description-name}
-use Rattle.judging.specs.Limits.{roomForId, Limited}
-use Rattle.judging.specs.Judges.{Known, Rules, startBy, production-stops, long-stops, limit-stops, goes}
+use Rattle.judging.specs.Judges.{Known, Waits, Drafted, Measurable, startBy, production-stops, long-stops, waits}
 
 -- what is asked of the scratch, the words and the area
 pub record Ready (e v : List ℕ) (k : ℕ) (a : List ℕ) : Type 0 where
@@ -84,10 +78,11 @@ label-made {a} {b} n w =
 
 -- ---- judged
 
-pub record JudgesNode (q : Verdict) (t : Tag) (r : Registers) (count used : ℕ) (e v : List ℕ) (m k : ℕ) (a b : List ℕ) : Type 0 where
-  pub cases : (fs bs is w ia il st cs rs : List ℕ) (y : Known t r count used fs bs is w ia il st e v m k cs rs a)
+pub record JudgesNode (q : Verdict) (t : Tag) (r : Registers) (e v : List ℕ) (k : ℕ) (a b : List ℕ) : Type 0 where
+  pub cases : (count used m : ℕ) (fs bs is w ia il st cs rs : List ℕ) (y : Known t r count used fs bs is w ia il st e v m k cs rs a)
       → productionIn (placeIn (elementsOf r fs bs is w)) (y .tells .is) (r .labels) ≡ openNode (y .tells .is) (r .labels)
-      → Rules q r count used fs bs is w ia il st e v m k cs rs b
+      → Drafted q r count used fs bs is w ia il st e v m k cs rs b
+  pub measurable : Measurable q
   pub same : length b ≡ length a
 
 pub value-there : (e v : List ℕ) (k j : ℕ) → isSome (valueIf e v k j) ≡ ltb j k
@@ -107,7 +102,7 @@ node-no-li i h = go (same i (rdf "li")) refl
     go true q = absurd (false≢true (sym (ap mayBeNode (same-true i (rdf "li") q)) ∙ h))
     go false q = q
 
-refused-good : {A : Type 0} (n : Refusal) (o : A) → _≡_ {A = Answer A} (refuse n) (good o) → ⊥
+pub refused-good : {A : Type 0} (n : Refusal) (o : A) → _≡_ {A = Answer A} (refuse n) (good o) → ⊥
 refused-good n o h = let z : _≡_ {A = ℕ} 0 1 = cc in omega arith
 
 -- a name that opens a node may do so
@@ -139,39 +134,40 @@ unfolding mostLabels
 node-left jd h = jd .left h
 
 -- i: the element's name as it was read; f and g: are its rdf:ID and its rdf:about missing?
-module _ {t : Tag} {r : Registers} {count used : ℕ} {e v : List ℕ} {m k : ℕ} {a : List ℕ} {i : Bytes} {reserved named f g : Bool} {j : Judgment}
+module _ {t : Tag} {r : Registers} {e v : List ℕ} {k : ℕ} {a : List ℕ} {i : Bytes} {reserved named f g : Bool} {j : Judgment}
     (p : i ≡ iriText (t .iri) a) (q : reserved ≡ not (mayBeNode i)) (nm : named ≡ same i (rdf "Description")) (fm : f ≡ isMissing (t .id)) (gm : g ≡ isMissing (t .about))
     (jg : NodeJudged reserved (not f) (ltb (t .node) k) (not g) (r .labels) j) where
-  tagged : {fs bs is w ia il st cs rs : List ℕ} (y : Known t r count used fs bs is w ia il st e v m k cs rs a) → NodeTag (y .tells .is) reserved (not f) (ltb (t .node) k) (not g)
+  tagged : {count used m : ℕ} {fs bs is w ia il st cs rs : List ℕ} (y : Known t r count used fs bs is w ia il st e v m k cs rs a) → NodeTag (y .tells .is) reserved (not f) (ltb (t .node) k) (not g)
   tagged y =
       let n = node-tag y p q in
       record { name = n .name; hasId = ap not fm ∙ n .hasId; hasNodeID = n .hasNodeID; hasAbout = ap not gm ∙ n .hasAbout }
 
-  pub node-refused : {n : Refusal} → j ≡ judgment.Stop n → JudgesNode (Stop n) t r count used e v m k a a
+  pub node-refused : {n : Refusal} → j ≡ judgment.Stop n → JudgesNode (Stop n) t r e v k a a
   node-refused {n} h =
       record {
-        cases = λ fs bs is w ia il st cs rs y as-node. production-stops y (as-node ∙ (jg .is (y .tells .is) (tagged y) ∙ ap (λ (x : Judgment). said x (nodeOpened (y .tells .is) (r .labels))) h));
+        cases = λ count used m fs bs is w ia il st cs rs y as-node. production-stops y (as-node ∙ (jg .is (y .tells .is) (tagged y) ∙ ap (λ (x : Judgment). said x (nodeOpened (y .tells .is) (r .labels))) h));
+        measurable = tt;
         same = refl;
       }
 
   module _ (h : j ≡ judgment.Good) where
-    opens : {fs bs is w ia il st cs rs : List ℕ} (y : Known t r count used fs bs is w ia il st e v m k cs rs a)
+    opens : {count used m : ℕ} {fs bs is w ia il st cs rs : List ℕ} (y : Known t r count used fs bs is w ia il st e v m k cs rs a)
         → productionIn (placeIn (elementsOf r fs bs is w)) (y .tells .is) (r .labels) ≡ openNode (y .tells .is) (r .labels)
         → productionIn (placeIn (elementsOf r fs bs is w)) (y .tells .is) (r .labels) ≡ good (nodeOpened (y .tells .is) (r .labels))
     opens y as-node = as-node ∙ (jg .is (y .tells .is) (tagged y) ∙ ap (λ (x : Judgment). said x (nodeOpened (y .tells .is) (r .labels))) h)
 
-    pub node-long : t .short ≡ false → JudgesNode (Stop OverLimit) t r count used e v m k a a
-    node-long s = record { cases = λ fs bs is w ia il st cs rs y as-node. long-stops y (opens y as-node) s; same = refl }
+    pub node-long : t .short ≡ false → JudgesNode (Stop OverLimit) t r e v k a a
+    node-long s = record { cases = λ count used m fs bs is w ia il st cs rs y as-node. long-stops y (opens y as-node) s; measurable = tt; same = refl }
 
-    module _ {b : List ℕ} {x : Start} {l : Verdict} (s : t .short ≡ true) (rd : Ready e v k a) (mk : MakesNode x t (not named) (r .labels) e v k a b) (lm : Limited l x r count used e v m k b) where
-      keeps : Keeps a b
-      keeps = label-keeps (rd .room) (omega arith) (mk .wrote)
-
-      made : part b 6144 12 ≡ label (suc (r .labels))
-      made = label-made (r .labels) (mk .wrote)
-
-      module _ {fs bs is w ia il st cs rs : List ℕ} (y : Known t r count used fs bs is w ia il st e v m k cs rs a)
+    module _ {b : List ℕ} {x : Start} (s : t .short ≡ true) (rd : Ready e v k a) (mk : MakesNode x t (not named) (r .labels) e v k a b) where
+      module _ {count used m : ℕ} {fs bs is w ia il st cs rs : List ℕ} (y : Known t r count used fs bs is w ia il st e v m k cs rs a)
           (as-node : productionIn (placeIn (elementsOf r fs bs is w)) (y .tells .is) (r .labels) ≡ openNode (y .tells .is) (r .labels)) where
+        keeps : Keeps a b
+        keeps = label-keeps (rd .room) (omega arith) (mk .wrote)
+
+        made : part b 6144 12 ≡ label (suc (r .labels))
+        made = label-made (r .labels) (mk .wrote)
+
         one : r .labels + 1 ≡ suc (r .labels)
         one = add-one (r .labels)
 
@@ -181,34 +177,21 @@ module _ {t : Tag} {r : Registers} {count used : ℕ} {e v : List ℕ} {m k : �
         does : Does (nodePlan (mk .parts) (r .labels + 1)) e b (subjectBelow fs w (r .depth)) (nodeOpened (y .tells .is) (r .labels))
         does = rw one (does-node (mk .parts) e b (subjectBelow fs w (r .depth)) says (r .labels) made)
 
-        measured : Measures e v m k b (nodePlan (mk .parts) (r .labels + 1) .parts) (lm .size)
-        measured = rw (mk .is) at (lm .measures)
-
         told-lines : nodeOpened (y .tells .is) (r .labels) .lines
             ≡ told (nodePlan (mk .parts) (r .labels + 1) .lines) (mainOf (startBy (nodePlan (mk .parts) (r .labels + 1)) t false (not named) Missing) e b) (objectOf (startBy (nodePlan (mk .parts) (r .labels + 1)) t false (not named) Missing) e b) (y .tells .is .language) (y .tells .is .attributes) (y .tells .is .type) (elementType (y .tells .is .iri)) (propertyOf (startBy (nodePlan (mk .parts) (r .labels + 1)) t false (not named) Missing) e b (subjectBelow fs w (r .depth)))
         unfolding told nodeOpened nodeSubject tagLines
         told-lines = rw (node-subject e b (label (suc (r .labels))) made (mk .parts) says)
 
-        decided : l ≡ pick (roomForId count used (madeAt 0 (t .id)) e b && leb (r .top + lm .size) mostHeldBytes) (Go (startBy (nodePlan (mk .parts) (r .labels + 1)) t false (not named) Missing)) (Stop OverLimit)
-        decided = rw (mk .is) at (lm .decides)
-
-        rules : Rules l r count used fs bs is w ia il st e v m k cs rs b
+        drafted : Waits x r count used fs bs is w ia il st e v m k cs rs b
         unfolding stands
-        rules = by-fit (roomForId count used (madeAt 0 (t .id)) e b && leb (r .top + lm .size) mostHeldBytes) refl
-          where
-            by-fit : (u : Bool) → (roomForId count used (madeAt 0 (t .id)) e b && leb (r .top + lm .size) mostHeldBytes) ≡ u → Rules l r count used fs bs is w ia il st e v m k cs rs b
-            by-fit true z =
-                let g : l ≡ Go (startBy (nodePlan (mk .parts) (r .labels + 1)) t false (not named) Missing) = decided ∙ rw z in
-                rw g
-                (goes y (opens y as-node) s keeps (rd .event) (mk .gives) refl refl does measured false (not named) Missing z
-                (ap not (nm ∙ (ap (λ (o : Bytes). same o (rdf "Description")) p ∙ description-name a (y .tells .is .iri) (t .iri) (y .tells .iri))))
-                (node-no-li (y .tells .is .iri) (good-node (y .tells .is) (r .labels) (sym as-node ∙ opens y as-node))) (λ f. absurd (false≢true f)) (omega (arith, node-left jg h)) refl told-lines)
-            by-fit false z =
-                let g : l ≡ Stop OverLimit = decided ∙ rw z in
-                rw g (limit-stops y (opens y as-node) s keeps (rd .event) (mk .gives) refl refl does measured z)
+        drafted =
+            rw (mk .is)
+            (waits y (opens y as-node) s keeps (rd .event) (mk .gives) refl refl does false (not named) Missing
+            (ap not (nm ∙ (ap (λ (o : Bytes). same o (rdf "Description")) p ∙ description-name a (y .tells .is .iri) (t .iri) (y .tells .iri))))
+            (node-no-li (y .tells .is .iri) (good-node (y .tells .is) (r .labels) (sym as-node ∙ opens y as-node))) (λ f. absurd (false≢true f)) (omega (arith, node-left jg h)) refl told-lines)
 
-      pub node-judged : JudgesNode l t r count used e v m k a b
-      node-judged = record { cases = λ fs bs is w ia il st cs rs y as-node. rules y as-node; same = wrote-same (mk .wrote) }
+      pub node-judged : JudgesNode (Go x) t r e v k a b
+      node-judged = record { cases = λ count used m fs bs is w ia il st cs rs y as-node. drafted y as-node; measurable = rw (mk .is) (record { lacks = (refl, refl, refl) }); same = wrote-same (mk .wrote) }
 
 -- ---- what the calls ask, and what they tell
 
@@ -220,8 +203,3 @@ pub node-made : {x : Start} {t : Tag} {named : Bool} {labels n : ℕ} {e v : Lis
     → x ≡ startBy p t false named Missing → MakesNode x t named labels e v k a b
 node-made {t = t} {named = named} gv q w h =
     record { parts = _; gives = gv; is = h ∙ ap (λ (y : Plan). startBy y t false named Missing) (q ∙ ap (nodePlan _) (w .0)); wrote = w .1 }
-
-pub limit-asks : {x : Start} {t : Tag} {named : Bool} {labels : ℕ} {e v : List ℕ} {k : ℕ} {a b : List ℕ} → Ready e v k a → MakesNode x t named labels e v k a b
-    → (Short e b) × (k ≤ 65_536) × (Fitting (x .plan .parts))
-limit-asks {x} {e = e} {b = b} rd mk =
-    (record { event = omega (arith, rd .event); area = omega (arith, rd .small, wrote-same (mk .wrote)) }, omega (arith, rd .few), rw (mk .is) (record { lacks = (refl, refl, refl) }))

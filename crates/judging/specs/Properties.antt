@@ -1,26 +1,26 @@
 -- Property elements: judged, and what is made of one.
-use Prim.Native.Nat.{ℕ, suc, _+_, _*_, _<_, _≤_}
+use Prim.Native.Nat.{ℕ, suc, _+_, _<_, _≤_}
 use mathlib.Core.Path.{_≡_, refl, sym, ap, _∙_}
-use mathlib.Core.Bool.{Bool, true, false, _&&_, _||_, not, false≢true}
-use mathlib.Core.Option.{Option, none, some}
-use mathlib.Core.List.{List, [], _∷_, _++_}
+use mathlib.Core.Bool.{Bool, true, false, _||_, not, false≢true}
+use mathlib.Core.Option.{Option}
+use mathlib.Core.List.{List, _++_}
 use native.Mathlib.Omega.{arith}
 use native.Mathlib.Numerals.{add-one}
-use lib.Dec.{eqb, leb, ltb}
-use lib.ListN.{length, take, length-append}
-use Rattle.spec.specs.Bytes.{Bytes, same, isSome, isEmpty, if_then_else_}
-use Rattle.spec.specs.Bytes as B
-use Rattle.spec.specs.Numbers.{Answer, refuse, good}
+use lib.Dec.{eqb, ltb}
+use lib.ListN.{length, length-append}
+use Rattle.spec.specs.Bytes.{Bytes, same, isSome, if_then_else_, _>>_, require_or_}
+use Rattle.spec.proofs.Bytes.{same-true}
+use Rattle.spec.specs.Numbers.{good}
 use Rattle.spec.specs.declared.Refusal.{Refusal}
-use Rattle.spec.specs.declared.Refusal.the-variants.{OverLimit}
-use Rattle.spec.specs.Limits.{mostLabels, mostHeldBytes}
+use Rattle.spec.specs.declared.Refusal.the-variants.{OverLimit, Reserved}
+use Rattle.spec.specs.Limits.{mostLabels}
 use Rattle.spec.specs.Rdf.{rdf, mayBeProperty}
 use Rattle.spec.specs.Rdf as F
-use Rattle.spec.specs.NTriples.{Subject, named, blank, node, label, decimal}
+use Rattle.spec.specs.NTriples.{Subject, node, label, decimal}
 use Rattle.spec.specs.Document as D
-use Rattle.spec.specs.StartTag as S
 use Rattle.spec.specs.Productions as O
-use Rattle.spec.specs.Productions.{Opened, tagLines, statement, elementType, isLi, propertyIri, subjectOf, hasNode, openProperty, parseTypeOf, noParseType, asCollection, asResource, asLiteral, asOther}
+use Rattle.spec.specs.StartTag as S
+use Rattle.spec.specs.Productions.{Opened, tagLines, elementType, isLi, propertyIri, hasNode, openProperty, parseTypeOf, noParseType}
 use Rattle.copy.specs.Copy.{part, Wrote, wrote-part, wrote-same}
 use Rattle.label.specs.Digits.{length-decimal}
 use Rattle.frames.specs.declared.Kind.the-variants.{NodeElt, ParseTypeCollectionPropertyElt, ParseTypeLiteralPropertyElt, ParseTypeOtherPropertyElt}
@@ -28,9 +28,7 @@ use Rattle.frames.specs.Kept.{Kept, kept-all, kept-then, kept-before, kept-behi
 use Rattle.frames.specs.Words.{pick}
 use Rattle.state.specs.declared.Registers.{Registers}
 use Rattle.state.specs.Meaning.{subjectBelow, elementsOf, count}
-use Rattle.state.specs.Meaning as M
 use Rattle.stack.specs.Calls.{topFrame}
-use Rattle.stack.specs.Laws.{Numbered}
 use Rattle.names.specs.Tag.{valueAt}
 use Rattle.reference.specs.declared.Reference.{Reference}
 use Rattle.reference.specs.Reference.{given}
@@ -45,27 +43,24 @@ use Rattle.production.specs.Judged as J
 use Rattle.production.specs.Made.{li-iri, own-iri}
 use Rattle.ntriples.specs.Terms as N
 use Rattle.element.specs.declared.Source.{Source}
-use Rattle.element.specs.declared.Source.the-variants.{Missing, Own, Made}
+use Rattle.element.specs.declared.Source.the-variants.{Made}
 use Rattle.element.specs.Element.{textOf, maybe, nodeIs, Fitting}
-use Rattle.element.specs.Sizes.{Short, Measures}
 use Rattle.element.specs.Laws.{stands-in}
 use Rattle.plan.specs.declared.Given.{Given}
 use Rattle.plan.specs.declared.Plan.{Plan}
 use Rattle.plan.specs.declared.Start.{Start}
-use Rattle.plan.specs.Plan.{isThere, objectIn, madeLabel, defaultPlan, heldPlan, resourcePlan}
+use Rattle.plan.specs.Plan.{objectIn, defaultPlan, heldPlan, resourcePlan}
 use Rattle.plan.specs.Says.{Says, object-subject, no-object}
 use Rattle.plan.specs.Does.{Does, lacking-object, does-collection, does-literal, does-other, does-resource, does-default}
-use Rattle.plan.specs.Goes.{told, mainOf, objectOf, propertyOf, Goes}
+use Rattle.plan.specs.Goes.{told, mainOf, objectOf, propertyOf}
 use Rattle.tag.specs.declared.Tag.{Tag}
-use Rattle.tag.specs.Tag.{Tells}
 use Rattle.giving.specs.Giving.{madeAt, isMissing, made-there, Gives, Keeps, given-says, iri-says}
 use Rattle.opening.specs.Order.{productionIn}
 use Rattle.judging.specs.declared.Verdict.{Verdict}
 use Rattle.judging.specs.declared.Verdict.the-variants.{Stop, Go}
-use Rattle.judging.specs.Names.{iriText, property-name, li-name, description-name}
-use Rattle.judging.specs.Limits.{roomForId, Limited}
-use Rattle.judging.specs.Judges.{Known, Rules, startBy, text-of, production-stops, long-stops, limit-stops, goes}
-use Rattle.judging.specs.Nodes.{Ready, value-there, label-made}
+use Rattle.judging.specs.Names.{iriText, property-name, li-name}
+use Rattle.judging.specs.Judges.{Known, Waits, Drafted, Measurable, startBy, text-of, production-stops, long-stops, waits}
+use Rattle.judging.specs.Nodes.{Ready, value-there, refused-good, label-made}
 
 -- ---- what is made of a property
 
@@ -78,11 +73,11 @@ propertyPlan parse.Literal g p u n = heldPlan ParseTypeLiteralPropertyElt g p n
 propertyPlan parse.Other g p u n = heldPlan ParseTypeOtherPropertyElt g p n
 
 -- takes: is a label made for it? c: how many rdf:li its node has had
-pub record MakesProperty (x : Start) (t : Tag) (q : ParseType) (takes li named : Bool) (c labels : ℕ) (e v : List ℕ) (k : ℕ) (a b : List ℕ) : Type 0 where
+pub record MakesProperty (x : Start) (t : Tag) (q : ParseType) (takes li : Bool) (c labels : ℕ) (e v : List ℕ) (k : ℕ) (a b : List ℕ) : Type 0 where
   pub parts : Given
   pub gives : Gives t e v k parts
   pub property : Source
-  pub is : x ≡ startBy (propertyPlan q parts property (t .properties) (pick takes (labels + 1) labels)) t li named property
+  pub is : x ≡ startBy (propertyPlan q parts property (t .properties) (pick takes (labels + 1) labels)) t li true property
   pub keeps : Keeps a b
   pub number : li ≡ true → textOf property e b ≡ rdf "_" ++ decimal (c + 1)
   pub own : li ≡ false → property ≡ madeAt 5120 (t .iri)
@@ -138,11 +133,29 @@ without x y u h p q = rw (p, q) at h
 
 -- ---- judged
 
-pub record JudgesProperty (q : Verdict) (t : Tag) (r : Registers) (ids used : ℕ) (fs e v : List ℕ) (m k : ℕ) (a b : List ℕ) : Type 0 where
-  pub cases : (bs is w ia il st cs rs : List ℕ) (y : Known t r ids used fs bs is w ia il st e v m k cs rs a) → topFrame r fs .kind ≡ NodeElt → r .depth ≤ 64 → length fs ≡ 1152
+pub record JudgesProperty (q : Verdict) (t : Tag) (r : Registers) (fs e v : List ℕ) (k : ℕ) (a b : List ℕ) : Type 0 where
+  pub cases : (ids used m : ℕ) (bs is w ia il st cs rs : List ℕ) (y : Known t r ids used fs bs is w ia il st e v m k cs rs a) → topFrame r fs .kind ≡ NodeElt → r .depth ≤ 64 → length fs ≡ 1152
       → D.placeIn (elementsOf r fs bs is w) ≡ D.properties (subjectBelow fs w (r .depth)) (count (topFrame r fs))
-      → Rules q r ids used fs bs is w ia il st e v m k cs rs b
+      → Drafted q r ids used fs bs is w ia il st e v m k cs rs b
+  pub measurable : Measurable q
   pub same : length b ≡ length a
+
+-- rdf:Description is no property
+not-description : (i : Bytes) → mayBeProperty i ≡ true → same i (rdf "Description") ≡ false
+unfolding F.all
+not-description i h = go (same i (rdf "Description")) refl
+  where
+    go : (t : Bool) → same i (rdf "Description") ≡ t → same i (rdf "Description") ≡ false
+    go true q = absurd (false≢true (sym (ap mayBeProperty (same-true i (rdf "Description") q)) ∙ h))
+    go false q = q
+
+good-property : (t : S.Tag) (s : Subject) (c n : ℕ) {o : Opened} → openProperty t s c n ≡ good o → mayBeProperty (t .iri) ≡ true
+unfolding openProperty _>>_ require_or_
+good-property t s c n {o} h = go (mayBeProperty (t .iri)) refl
+  where
+    go : (u : Bool) → mayBeProperty (t .iri) ≡ u → mayBeProperty (t .iri) ≡ true
+    go true q = q
+    go false q = absurd (refused-good Reserved o (sym (rw q) ∙ h))
 
 value-given : (e v : List ℕ) (k j : ℕ) → valueIf e v k j ≡ given (ltb j k) (valueAt e v j)
 unfolding valueIf
@@ -154,11 +167,11 @@ given-same true s = refl
 given-same false s = refl
 
 -- i: the element's name as it was read; f: is its rdf:resource missing?
-module _ {t : Tag} {r : Registers} {ids used : ℕ} {fs e v : List ℕ} {m k : ℕ} {a : List ℕ} {i : Bytes} {reserved li named f : Bool} {p : ParseType} {c : ℕ} {j : Judgment}
-    (ip : i ≡ iriText (t .iri) a) (rp : reserved ≡ not (mayBeProperty i)) (lp : li ≡ isLi i) (nm : named ≡ same i (rdf "Description")) (fm : f ≡ isMissing (t .resource))
+module _ {t : Tag} {r : Registers} {fs e v : List ℕ} {k : ℕ} {a : List ℕ} {i : Bytes} {reserved li f : Bool} {p : ParseType} {c : ℕ} {j : Judgment}
+    (ip : i ≡ iriText (t .iri) a) (rp : reserved ≡ not (mayBeProperty i)) (lp : li ≡ isLi i) (fm : f ≡ isMissing (t .resource))
     (pp : parseTypeIs p ≡ parseTypeOf (N.idOf (ltb (t .parse) k) (valueAt e v (t .parse)))) (cp : c ≡ count (topFrame r fs))
     (jg : PropertyJudged reserved li c p (not f) (ltb (t .node) k) (t .properties) (r .labels) j) where
-  module _ {bs is w ia il st cs rs : List ℕ} (y : Known t r ids used fs bs is w ia il st e v m k cs rs a) where
+  module _ {ids used m : ℕ} {bs is w ia il st cs rs : List ℕ} (y : Known t r ids used fs bs is w ia il st e v m k cs rs a) where
     tagged : PropertyTag (y .tells .is) reserved li p (not f) (ltb (t .node) k) (t .properties)
     tagged =
         record {
@@ -176,29 +189,30 @@ module _ {t : Tag} {r : Registers} {ids used : ℕ} {fs e v : List ℕ} {m k : �
     unfolding productionIn
     asked h = rw (h, cp)
 
-  pub property-refused : {n : Refusal} → j ≡ judgment.Stop n → JudgesProperty (Stop n) t r ids used fs e v m k a a
+  pub property-refused : {n : Refusal} → j ≡ judgment.Stop n → JudgesProperty (Stop n) t r fs e v k a a
   property-refused {n} h =
       record {
-        cases = λ bs is w ia il st cs rs y kd dp fw at. production-stops y (asked y at ∙ (jg .is (y .tells .is) (subjectBelow fs w (r .depth)) (tagged y)
+        cases = λ ids used m bs is w ia il st cs rs y kd dp fw at. production-stops y (asked y at ∙ (jg .is (y .tells .is) (subjectBelow fs w (r .depth)) (tagged y)
             ∙ ap (λ (x : Judgment). said x (propertyOpened (parseTypeIs p) (y .tells .is) (propertyIn (y .tells .is) (subjectBelow fs w (r .depth)) c) (r .labels))) h));
+        measurable = tt;
         same = refl;
       }
 
   module _ (h : j ≡ judgment.Good) where
-    opens : {bs is w ia il st cs rs : List ℕ} (y : Known t r ids used fs bs is w ia il st e v m k cs rs a)
+    opens : {ids used m : ℕ} {bs is w ia il st cs rs : List ℕ} (y : Known t r ids used fs bs is w ia il st e v m k cs rs a)
         → D.placeIn (elementsOf r fs bs is w) ≡ D.properties (subjectBelow fs w (r .depth)) (count (topFrame r fs))
         → productionIn (D.placeIn (elementsOf r fs bs is w)) (y .tells .is) (r .labels)
         ≡ good (propertyOpened (parseTypeIs p) (y .tells .is) (propertyIn (y .tells .is) (subjectBelow fs w (r .depth)) c) (r .labels))
-    opens {bs} {is} {w} y at =
+    opens {w = w} y at =
         asked y at ∙ (jg .is (y .tells .is) (subjectBelow fs w (r .depth)) (tagged y)
         ∙ ap (λ (x : Judgment). said x (propertyOpened (parseTypeIs p) (y .tells .is) (propertyIn (y .tells .is) (subjectBelow fs w (r .depth)) c) (r .labels))) h)
 
-    pub property-long : t .short ≡ false → JudgesProperty (Stop OverLimit) t r ids used fs e v m k a a
-    property-long s = record { cases = λ bs is w ia il st cs rs y kd dp fw at. long-stops y (opens y at) s; same = refl }
+    pub property-long : t .short ≡ false → JudgesProperty (Stop OverLimit) t r fs e v k a a
+    property-long s = record { cases = λ ids used m bs is w ia il st cs rs y kd dp fw at. long-stops y (opens y at) s; measurable = tt; same = refl }
 
-    module _ {takes : Bool} {b : List ℕ} {x : Start} {l : Verdict} (tk : takes ≡ takesLabel (parseTypeIs p) (not f) (ltb (t .node) k) (t .properties)) (s : t .short ≡ true) (rd : Ready e v k a)
-        (mk : MakesProperty x t p takes li (not named) c (r .labels) e v k a b) (lm : Limited l x r ids used e v m k b) where
-      module _ {bs is w ia il st cs rs : List ℕ} (y : Known t r ids used fs bs is w ia il st e v m k cs rs a)
+    module _ {takes : Bool} {b : List ℕ} {x : Start} (tk : takes ≡ takesLabel (parseTypeIs p) (not f) (ltb (t .node) k) (t .properties)) (s : t .short ≡ true) (rd : Ready e v k a)
+        (mk : MakesProperty x t p takes li c (r .labels) e v k a b) where
+      module _ {ids used m : ℕ} {bs is w ia il st cs rs : List ℕ} (y : Known t r ids used fs bs is w ia il st e v m k cs rs a)
           (at : D.placeIn (elementsOf r fs bs is w) ≡ D.properties (subjectBelow fs w (r .depth)) (count (topFrame r fs))) where
         says : Says (mk .parts) e b (y .tells .is)
         says = given-says (y .tells) s (mk .keeps) (rd .event) (mk .gives)
@@ -216,7 +230,7 @@ module _ {t : Tag} {r : Registers} {ids used : ℕ} {fs e v : List ℕ} {m k : �
                 ap (λ (o : Source). textOf o e b) (mk .own z)
                 ∙ (text-of (madeAt 5120 (t .iri)) e b (iri-says (y .tells) s (mk .keeps) (rd .event)) ∙ sym (own-iri (y .tells .is .iri) (suc c) (sym is-li ∙ z)))
 
-        stated : propertyOf (startBy (propertyPlan p (mk .parts) (mk .property) (t .properties) (pick takes (r .labels + 1) (r .labels))) t li (not named) (mk .property)) e b (subjectBelow fs w (r .depth))
+        stated : propertyOf (startBy (propertyPlan p (mk .parts) (mk .property) (t .properties) (pick takes (r .labels + 1) (r .labels))) t li true (mk .property)) e b (subjectBelow fs w (r .depth))
             ≡ propertyIn (y .tells .is) (subjectBelow fs w (r .depth)) c
         unfolding propertyIn
         stated = made written (ap (λ (o : Source). maybe o e b) (sym (mk .gives .id)) ∙ says .id)
@@ -267,7 +281,7 @@ module _ {t : Tag} {r : Registers} {ids used : ℕ} {fs e v : List ℕ} {m k : �
             rw (← (y .tells .properties), u, g ∙ ap not u)
 
         -- what is carried out, with this rdf:parseType
-        lines-as : (q : ParseType) → p ≡ q → (x′ : Start) → x′ ≡ startBy (propertyPlan q (mk .parts) (mk .property) (t .properties) (pick (takesLabel (parseTypeIs q) (isSome (y .tells .is .resource)) (isSome (y .tells .is .nodeID)) (t .properties)) (r .labels + 1) (r .labels))) t li (not named) (mk .property)
+        lines-as : (q : ParseType) → p ≡ q → (x′ : Start) → x′ ≡ startBy (propertyPlan q (mk .parts) (mk .property) (t .properties) (pick (takesLabel (parseTypeIs q) (isSome (y .tells .is .resource)) (isSome (y .tells .is .nodeID)) (t .properties)) (r .labels + 1) (r .labels))) t li true (mk .property)
             → propertyOf x′ e b (subjectBelow fs w (r .depth)) ≡ propertyIn (y .tells .is) (subjectBelow fs w (r .depth)) c
             → propertyOpened (parseTypeIs q) (y .tells .is) (propertyIn (y .tells .is) (subjectBelow fs w (r .depth)) c) (r .labels) .lines
             ≡ told (x′ .plan .lines) (mainOf x′ e b) (objectOf x′ e b) (y .tells .is .language) (y .tells .is .attributes) (y .tells .is .type) (elementType (y .tells .is .iri)) (propertyIn (y .tells .is) (subjectBelow fs w (r .depth)) c)
@@ -278,21 +292,21 @@ module _ {t : Tag} {r : Registers} {ids used : ℕ} {fs e v : List ℕ} {m k : �
         lines-as parse.Literal z x′ g o = rw g
         lines-as parse.Other z x′ g o = rw g
 
-        rules : topFrame r fs .kind ≡ NodeElt → r .depth ≤ 64 → length fs ≡ 1152 → Rules l r ids used fs bs is w ia il st e v m k cs rs b
-        rules kd dp fw = by-fit (roomForId ids used (madeAt 0 (t .id)) e b && leb (r .top + lm .size) mostHeldBytes) refl
+        drafted : topFrame r fs .kind ≡ NodeElt → r .depth ≤ 64 → length fs ≡ 1152 → Waits x r ids used fs bs is w ia il st e v m k cs rs b
+        drafted kd dp fw =
+            rw is-so
+            (waits y (opens y at) s (mk .keeps) (rd .event) (mk .gives) (base-of p (mk .parts) (mk .property) (t .properties) _) (tag-of p (mk .parts) (mk .property) (t .properties) _) (does-as p refl) li true (mk .property)
+            (sym (ap not (not-description (y .tells .is .iri) (good-property (y .tells .is) (subjectBelow fs w (r .depth)) c (r .labels) (sym (asked y at) ∙ opens y at)))))
+            (sym is-li) (λ u. record { kind = kd; few = numbers u }) few-labels (stands-in r fs kd dp fw (the-plan .parts .kind))
+            (lines-as p refl (startBy the-plan t li true (mk .property)) refl stated
+            ∙ ap (told (the-plan .lines) (mainOf (startBy the-plan t li true (mk .property)) e b) (objectOf (startBy the-plan t li true (mk .property)) e b) (y .tells .is .language) (y .tells .is .attributes) (y .tells .is .type) (elementType (y .tells .is .iri))) (sym stated)))
           where
             -- the plan, in the definitions' words
             the-plan : Plan
             the-plan = propertyPlan p (mk .parts) (mk .property) (t .properties) (pick (takesLabel (parseTypeIs p) (isSome (y .tells .is .resource)) (isSome (y .tells .is .nodeID)) (t .properties)) (r .labels + 1) (r .labels))
 
-            is-so : x ≡ startBy the-plan t li (not named) (mk .property)
-            is-so = mk .is ∙ ap (λ (u : Bool). startBy (propertyPlan p (mk .parts) (mk .property) (t .properties) (pick u (r .labels + 1) (r .labels))) t li (not named) (mk .property)) takes-is
-
-            measured : Measures e v m k b (the-plan .parts) (lm .size)
-            measured = rw is-so at (lm .measures)
-
-            decided : l ≡ pick (roomForId ids used (madeAt 0 (t .id)) e b && leb (r .top + lm .size) mostHeldBytes) (Go (startBy the-plan t li (not named) (mk .property))) (Stop OverLimit)
-            decided = rw is-so at (lm .decides)
+            is-so : x ≡ startBy the-plan t li true (mk .property)
+            is-so = mk .is ∙ ap (λ (u : Bool). startBy (propertyPlan p (mk .parts) (mk .property) (t .properties) (pick u (r .labels + 1) (r .labels))) t li true (mk .property)) takes-is
 
             numbers : li ≡ true → count (topFrame r fs) < 99_999_999
             numbers u = rw (← cp) (li-left jg h u)
@@ -301,22 +315,13 @@ module _ {t : Tag} {r : Registers} {ids used : ℕ} {fs e v : List ℕ} {m k : �
             few-labels = rw (labels-of p (mk .parts) (mk .property) (t .properties) (pick (takesLabel (parseTypeIs p) (isSome (y .tells .is .resource)) (isSome (y .tells .is .nodeID)) (t .properties)) (r .labels + 1) (r .labels)))
                 (at-most (takesLabel (parseTypeIs p) (isSome (y .tells .is .resource)) (isSome (y .tells .is .nodeID)) (t .properties)) (y .lawful .valid .labels) (λ u. label-left jg h (sym (sym takes-is ∙ tk) ∙ u)))
 
-            by-fit : (u : Bool) → (roomForId ids used (madeAt 0 (t .id)) e b && leb (r .top + lm .size) mostHeldBytes) ≡ u → Rules l r ids used fs bs is w ia il st e v m k cs rs b
-            by-fit true z =
-                let g : l ≡ Go (startBy the-plan t li (not named) (mk .property)) = decided ∙ rw z in
-                rw g
-                (goes y (opens y at) s (mk .keeps) (rd .event) (mk .gives) (base-of p (mk .parts) (mk .property) (t .properties) _) (tag-of p (mk .parts) (mk .property) (t .properties) _) (does-as p refl) measured li (not named) (mk .property) z
-                (ap not (nm ∙ (ap (λ (o : Bytes). same o (rdf "Description")) ip ∙ description-name a (y .tells .is .iri) (t .iri) (y .tells .iri))))
-                (sym is-li) (λ u. record { kind = kd; few = numbers u }) few-labels (stands-in r fs kd dp fw (the-plan .parts .kind))
-                (lines-as p refl (startBy the-plan t li (not named) (mk .property)) refl stated
-                ∙ ap (told (the-plan .lines) (mainOf (startBy the-plan t li (not named) (mk .property)) e b) (objectOf (startBy the-plan t li (not named) (mk .property)) e b) (y .tells .is .language) (y .tells .is .attributes) (y .tells .is .type) (elementType (y .tells .is .iri))) (sym stated)))
-            by-fit false z =
-                let g : l ≡ Stop OverLimit = decided ∙ rw z in
-                rw g
-                (limit-stops y (opens y at) s (mk .keeps) (rd .event) (mk .gives) (base-of p (mk .parts) (mk .property) (t .properties) _) (tag-of p (mk .parts) (mk .property) (t .properties) _) (does-as p refl) measured z)
-
-      pub property-judged : JudgesProperty l t r ids used fs e v m k a b
-      property-judged = record { cases = λ bs is w ia il st cs rs y kd dp fw at. rules y at kd dp fw; same = mk .keeps .same }
+      pub property-judged : JudgesProperty (Go x) t r fs e v k a b
+      property-judged =
+          record {
+            cases = λ ids used m bs is w ia il st cs rs y kd dp fw at. drafted y at kd dp fw;
+            measurable = rw (mk .is) (fitting-of p (mk .parts) (mk .property) (t .properties) _);
+            same = mk .keeps .same;
+          }
 
 -- the arms of `property_plan`
 module _ {q : ParseType} (g : Given) (s : Source) (u : Bool) (n : ℕ) {p : Plan} where
@@ -398,15 +403,15 @@ pub both-left : {reserved li : Bool} {c : ℕ} {p : ParseType} {resource nodeID 
     → takes ≡ takesLabel (parseTypeIs p) resource nodeID properties → Left takes li n c
 both-left jg h tk = record { label = λ u. label-left jg h (sym tk ∙ u); number = λ u. li-left jg h u }
 
-pub property-made : {x : Start} {t : Tag} {q : ParseType} {takes li named : Bool} {c labels n : ℕ} {e v : List ℕ} {k : ℕ} {a d b : List ℕ} {g : Given} {s : Source} {p : Plan} → Ready e v k a
-    → Labels takes labels a d n → Numbers li c (t .iri) d b s → Gives t e v k g → p ≡ propertyPlan q g s (t .properties) n → x ≡ startBy p t li named s
-    → MakesProperty x t q takes li named c labels e v k a b
-property-made {t = t} {q = q} {li = li} {named = nm} {labels = labels} {e = e} {a = a} {g = g} {s = s} rd lb nu gv pp h =
+pub property-made : {x : Start} {t : Tag} {q : ParseType} {takes li : Bool} {c labels n : ℕ} {e v : List ℕ} {k : ℕ} {a d b : List ℕ} {g : Given} {s : Source} {p : Plan} → Ready e v k a
+    → Labels takes labels a d n → Numbers li c (t .iri) d b s → Gives t e v k g → p ≡ propertyPlan q g s (t .properties) n → x ≡ startBy p t li true s
+    → MakesProperty x t q takes li c labels e v k a b
+property-made {t = t} {q = q} {li = li} {labels = labels} {e = e} {a = a} {g = g} {s = s} rd lb nu gv pp h =
     record {
       parts = g;
       gives = gv;
       property = s;
-      is = h ∙ ap (λ (y : Plan). startBy y t li nm s) (pp ∙ ap (propertyPlan q g s (t .properties)) (lb .is));
+      is = h ∙ ap (λ (y : Plan). startBy y t li true s) (pp ∙ ap (propertyPlan q g s (t .properties)) (lb .is));
       keeps = record {
         before = kept-then (lb .before) (kept-less (nu .before) (omega arith) (omega arith));
         behind = kept-then (lb .behind) (kept-less (nu .behind) (omega arith) (omega (arith, lb .same)));
@@ -417,8 +422,3 @@ property-made {t = t} {q = q} {li = li} {named = nm} {labels = labels} {e = e} {
       own = nu .own;
       labelled = λ u. nu .before .parts 6144 12 (omega arith) (omega arith) ∙ label-made labels (lb .made u);
     }
-
-pub limit-asks : {x : Start} {t : Tag} {q : ParseType} {takes li named : Bool} {c labels : ℕ} {e v : List ℕ} {k : ℕ} {a b : List ℕ} → Ready e v k a → MakesProperty x t q takes li named c labels e v k a b
-    → (Short e b) × (k ≤ 65_536) × (Fitting (x .plan .parts))
-limit-asks {x} {t} {q} {e = e} {b = b} rd mk =
-    (record { event = omega (arith, rd .event); area = omega (arith, rd .small, mk .keeps .same) }, omega (arith, rd .few), rw (mk .is) (fitting-of q (mk .parts) (mk .property) (t .properties) _))

@@ -8,11 +8,12 @@ ghost use Rattle.element.specs.Sizes.{Short};
 ghost use Rattle.giving.specs.Giving.{isMissing};
 ghost use Rattle.spec.specs.Limits.{mostLabels};
 ghost use Rattle.judging.specs.Names.{iriText};
-ghost use Rattle.judging.specs.Limits.{roomForId, Limited};
-ghost use Rattle.judging.specs.Judges.{Judges, startBy};
+ghost use Rattle.judging.specs.Limits.{roomForId, Fits};
+ghost use Rattle.judging.specs.Judges.{Judges, Drafts, startBy};
 ghost use Rattle.judging.specs.Nodes.{Ready, MakesNode, JudgesNode};
 ghost use Rattle.judging.specs.Properties.{propertyPlan, MakesProperty, JudgesProperty, Labels, Numbers, Left};
-ghost use Rattle.judging.specs.Places.{JudgesRoot, MakesRoot};
+ghost use Rattle.judging.specs.Places.{JudgesRoot, opensAt};
+use element::Parts;
 use element::Source;
 use event::Place;
 use frames::Kind;
@@ -33,7 +34,14 @@ pub enum Verdict {
     Go(Start),
 }
 
-// A start tag that was read, by what it stands in.
+// What a start tag opens.
+enum Opens {
+    Rdf,
+    Node,
+    Property,
+}
+
+// A start tag that was read: its production's rules, then the limits, in one place for all, as what is planned is long to copy.
 pub fn judge_tag(
     t: Tag,
     r: Registers,
@@ -50,70 +58,85 @@ pub fn judge_tag(
     requires { ⌜ Ready (now scratch) (now spans) k (now area) ⌝ }
     ensures { λ q. ⌜ Judges q t r count used (now (frames .entry)) (now (work .entry)) (now (scratch .entry)) (now (spans .entry)) m k (now (area .entry)) (now (area .exit)) ⌝ }
 {
-    let place = event::place_at(r, frames);
-    match place {
-        Place::Outside => judge_root(t, r, count, used, scratch, spans, m, k, area),
-        Place::Nodes => judge_node(t, r, count, used, scratch, spans, m, k, area),
-        Place::Properties => {
-            judge_property(t, r, count, used, frames, scratch, spans, m, k, area)
+    match draft(t, r, frames, scratch, spans, k, area) {
+        Verdict::Stop(why) => Verdict::Stop(why),
+        Verdict::Go(x) => {
+            let plan = x.plan;
+            let parts = plan.parts;
+            let id = x.id;
+            if !fits(parts, id, r.top, count, used, scratch, spans, m, k, area) {
+                return Verdict::Stop(Refusal::OverLimit);
+            }
+            Verdict::Go(x)
         }
-        Place::NodesOrText => judge_node(t, r, count, used, scratch, spans, m, k, area),
-        Place::Xml => judge_node(t, r, count, used, scratch, spans, m, k, area),
     }
 }
 
-// The root: rdf:RDF, or a node element.
-fn judge_root(
+// By what it stands in.
+fn draft(
     t: Tag,
     r: Registers,
-    count: usize,
-    used: usize,
+    frames: &[u32],
     scratch: &[u8],
     spans: &[u32],
-    m: usize,
     k: usize,
     area: &mut [u8],
 ) -> Verdict
     requires { ⌜ Ready (now scratch) (now spans) k (now area) ⌝ }
-    ensures { λ q. ⌜ JudgesRoot q t r count used (now (scratch .entry)) (now (spans .entry)) m k (now (area .entry)) (now (area .exit)) ⌝ }
+    ensures { λ q. ⌜ Drafts q t r (now (frames .entry)) (now (scratch .entry)) (now (spans .entry)) k (now (area .entry)) (now (area .exit)) ⌝ }
 {
     let iri = t.iri;
-    let name = iri_text(iri, area);
-    let described = production::is_description(name);
-    if !production::is_rdf(name) {
-        return judge_node(t, r, count, used, scratch, spans, m, k, area);
+    let place = event::place_at(r, frames);
+    match opened_at(place, iri_text(iri, area)) {
+        Opens::Rdf => judge_root(t, r.labels, scratch, spans, k),
+        Opens::Node => judge_node(t, r, scratch, spans, k, area),
+        Opens::Property => judge_property(t, r, frames, scratch, spans, k, area),
     }
-    if !t.short {
-        return Verdict::Stop(Refusal::OverLimit);
+}
+
+// The root is rdf:RDF or a node element.
+fn opened_at(place: Place, name: &[u8]) -> Opens
+    ensures { λ o. ⌜ o ≡ opensAt place (now (name .entry)) ⌝ }
+{
+    match place {
+        Place::Outside => {
+            if production::is_rdf(name) {
+                return Opens::Rdf;
+            }
+            Opens::Node
+        }
+        Place::Nodes => Opens::Node,
+        Place::Properties => Opens::Property,
+        Place::NodesOrText => Opens::Node,
+        Place::Xml => Opens::Node,
     }
-    let x = make_root(t, !described, r.labels, scratch, spans, k);
-    limited(x, r, count, used, scratch, spans, m, k, area)
 }
 
 // rdf:RDF.
-fn make_root(t: Tag, named: bool, labels: u64, scratch: &[u8], spans: &[u32], k: usize) -> Start
+fn judge_root(t: Tag, labels: u64, scratch: &[u8], spans: &[u32], k: usize) -> Verdict
     requires { ⌜ k * 4 ≤ length (now spans) ⌝ }
-    ensures { λ x. ⌜ MakesRoot x t named labels (now (scratch .entry)) (now (spans .entry)) k ⌝ }
+    ensures { λ q. ⌜ JudgesRoot q t labels (now (scratch .entry)) (now (spans .entry)) k ⌝ }
 {
+    if !t.short {
+        return Verdict::Stop(Refusal::OverLimit);
+    }
     let g = giving::given(t, scratch, spans, k);
     let p = plan::root(g, labels);
-    start_by(p, t, false, named, Source::Missing)
+    let x = start_by(p, t, false, true, Source::Missing);
+    Verdict::Go(x)
 }
 
 // A node element. Its label is made in the area.
 fn judge_node(
     t: Tag,
     r: Registers,
-    count: usize,
-    used: usize,
     scratch: &[u8],
     spans: &[u32],
-    m: usize,
     k: usize,
     area: &mut [u8],
 ) -> Verdict
     requires { ⌜ Ready (now scratch) (now spans) k (now area) ⌝ }
-    ensures { λ q. ⌜ JudgesNode q t r count used (now (scratch .entry)) (now (spans .entry)) m k (now (area .entry)) (now (area .exit)) ⌝ }
+    ensures { λ q. ⌜ JudgesNode q t r (now (scratch .entry)) (now (spans .entry)) k (now (area .entry)) (now (area .exit)) ⌝ }
 {
     let iri = t.iri;
     let id = t.id;
@@ -130,7 +153,7 @@ fn judge_node(
                 return Verdict::Stop(Refusal::OverLimit);
             }
             let x = make_node(t, !described, r.labels, scratch, spans, k, area);
-            limited(x, r, count, used, scratch, spans, m, k, area)
+            Verdict::Go(x)
         }
     }
 }
@@ -139,17 +162,14 @@ fn judge_node(
 fn judge_property(
     t: Tag,
     r: Registers,
-    count: usize,
-    used: usize,
     frames: &[u32],
     scratch: &[u8],
     spans: &[u32],
-    m: usize,
     k: usize,
     area: &mut [u8],
 ) -> Verdict
     requires { ⌜ Ready (now scratch) (now spans) k (now area) ⌝ }
-    ensures { λ q. ⌜ JudgesProperty q t r count used (now (frames .entry)) (now (scratch .entry)) (now (spans .entry)) m k (now (area .entry)) (now (area .exit)) ⌝ }
+    ensures { λ q. ⌜ JudgesProperty q t r (now (frames .entry)) (now (scratch .entry)) (now (spans .entry)) k (now (area .entry)) (now (area .exit)) ⌝ }
 {
     let around = stack::top(r, frames);
     let has = around.has;
@@ -159,7 +179,6 @@ fn judge_property(
     let name = iri_text(iri, area);
     let reserved = production::is_reserved_property(name);
     let li = production::is_li(name);
-    let described = production::is_description(name);
     let parse = production::parse_type_of(t.parse < k, names::value_of(scratch, spans, t.parse));
     let resource = !is_missing(object);
     match production::judge_property(
@@ -183,7 +202,6 @@ fn judge_property(
                 parse,
                 takes,
                 li,
-                !described,
                 numbers,
                 r.labels,
                 scratch,
@@ -191,7 +209,7 @@ fn judge_property(
                 k,
                 area,
             );
-            limited(x, r, count, used, scratch, spans, m, k, area)
+            Verdict::Go(x)
         }
     }
 }
@@ -202,7 +220,6 @@ fn make_property(
     parse: ParseType,
     takes: bool,
     li: bool,
-    named: bool,
     numbers: u64,
     labels: u64,
     scratch: &[u8],
@@ -211,14 +228,14 @@ fn make_property(
     area: &mut [u8],
 ) -> Start
     requires { ⌜ Ready (now scratch) (now spans) k (now area) × Left takes li labels numbers ⌝ }
-    ensures { λ x. ⌜ MakesProperty x t parse takes li named numbers labels (now (scratch .entry)) (now (spans .entry)) k (now (area .entry)) (now (area .exit)) ⌝ }
+    ensures { λ x. ⌜ MakesProperty x t parse takes li numbers labels (now (scratch .entry)) (now (spans .entry)) k (now (area .entry)) (now (area .exit)) ⌝ }
 {
     let iri = t.iri;
     let behind = label_if(takes, labels, area);
     let property = numbered(li, numbers, iri, area);
     let g = giving::given(t, scratch, spans, k);
     let p = property_plan(parse, g, property, t.properties, behind);
-    start_by(p, t, li, named, property)
+    start_by(p, t, li, true, property)
 }
 
 // By its rdf:parseType.
@@ -287,7 +304,7 @@ fn make_node(
     start_by(p, t, false, named, Source::Missing)
 }
 
-// What is carried out by a plan.
+// What is carried out by a plan; `named` but for rdf:Description, which only a node element has as its name.
 fn start_by(p: Plan, t: Tag, li: bool, named: bool, property: Source) -> Start
     ensures { λ x. ⌜ x ≡ startBy p t li named property ⌝ }
 {
@@ -332,9 +349,10 @@ fn is_missing(reference: Reference) -> bool
 }
 
 // 7: the rdf:IDs, their bytes, held bytes.
-fn limited(
-    x: Start,
-    r: Registers,
+fn fits(
+    parts: Parts,
+    id: Source,
+    top: usize,
     count: usize,
     used: usize,
     scratch: &[u8],
@@ -342,24 +360,18 @@ fn limited(
     m: usize,
     k: usize,
     area: &[u8],
-) -> Verdict
-    requires { ⌜ (Short (now scratch) (now area)) × (k ≤ 65536) × (Fitting (x .plan .parts)) ⌝ }
-    ensures { λ q. ⌜ Limited q x r count used (now (scratch .entry)) (now (spans .entry)) m k (now (area .entry)) ⌝ }
+) -> bool
+    requires { ⌜ (Short (now scratch) (now area)) × (k ≤ 65536) × (Fitting parts) ⌝ }
+    ensures { λ b. ⌜ Fits b parts id top count used (now (scratch .entry)) (now (spans .entry)) m k (now (area .entry)) ⌝ }
 {
-    let plan = x.plan;
-    let parts = plan.parts;
-    let id = x.id;
     let n = element::size(scratch, spans, m, k, area, parts);
     if !id_fits(id, count, used, scratch, area) {
-        return Verdict::Stop(Refusal::OverLimit);
+        return false;
     }
-    if r.top > Registers::MOST_HELD {
-        return Verdict::Stop(Refusal::OverLimit);
+    if top > Registers::MOST_HELD {
+        return false;
     }
-    if n > Registers::MOST_HELD - r.top {
-        return Verdict::Stop(Refusal::OverLimit);
-    }
-    Verdict::Go(x)
+    n <= Registers::MOST_HELD - top
 }
 
 // Is there room for the rdf:ID, if there is one?

@@ -8,12 +8,12 @@ use native.Mathlib.Numerals.{add-one}
 use lib.Dec.{eqb}
 use lib.ListN.{length, take, drop, getD, set, length-drop, drop-of-length-le}
 use lib.Seq.{drop-cons, drop-drop}
-use borrow.Author.Tests.{ne-eqb}
+use borrow.Author.Tests.{ne-eqb, eqb-false}
 use Rattle.spec.specs.Bytes.{Bytes, ascii, byte, if_then_else_, after, upTo, concat, each, _>>=_}
 use Rattle.spec.specs.Numbers.{Answer, refuse, good}
 use Rattle.spec.specs.declared.Refusal.the-variants.{NotPyx}
 use Rattle.spec.specs.Pyx.{escaped, unescape}
-use Rattle.copy.specs.Copy.{Wrote, part, length-part, then as and-then, wrote-none, wrote-one, wrote-same}
+use Rattle.copy.specs.Copy.{Put, Wrote, part, length-part, put-fits, then as and-then, wrote-none, wrote-one, wrote-same}
 use Rattle.copy.specs.Texts.{length-upTo, after-drop}
 use Rattle.pyx.specs.Lines.{linesOf, front, Kept}
 use Rattle.pyx.specs.Escapes.{Stands, Stored, dataOf}
@@ -44,6 +44,22 @@ plain b (c ∷ s) n = go (eqb b 92) (ne-eqb b 92 n)
         ] ≡ front (b ∷ []) (unescape (c ∷ s))
     go true e = absurd (true≢false e)
     go false e = refl
+
+-- a text without a backslash stands for itself
+as-it-is : (s : Bytes) → length s ≤ length (upTo (λ c. eqb c 92) s) → unescape s ≡ good s
+unfolding unescape upTo if_then_else_
+as-it-is [] h = refl
+as-it-is (b ∷ s) h = go (eqb b 92) refl (as-it-is s) h
+  where
+    go : (x : Bool) → eqb b 92 ≡ x → (length s ≤ length (upTo (λ c. eqb c 92) s) → unescape s ≡ good s)
+        → suc (length s) ≤ length (if x then [] else (b ∷ upTo (λ c. eqb c 92) s)) → unescape (b ∷ s) ≡ good (b ∷ s)
+    go true e f h = absurd (omega arith)
+    go false e f h = plain b s (eqb-false b 92 e) ∙ (ap (front (b ∷ [])) (f (omega arith)) ∙ front-good (b ∷ []) s)
+
+-- `unescape`: such a text is copied
+pub copied : {s : Bytes} {d e : List ℕ} {at n : ℕ} {r : Bool} → Put d at s e r → at + length s ≤ length d → n ≡ length (upTo (λ c. eqb c 92) s) → n ≡ length s
+    → Stored (unescape s) (length s) d e at (at + n)
+copied {s} p h q l = record { text = s; is = as-it-is s (omega arith); wrote = rw l (put-fits p h); short = omega arith }
 
 pub stands-plain : (s : Bytes) (i b : ℕ) → i < length s → b ≡ getD s i 0 → (b ≡ 92 → ⊥) → Stands b 1 (drop i s)
 stands-plain s i b h e n =
@@ -110,7 +126,7 @@ pub done-ends : {a left : Answer Bytes} {d e : List ℕ} {at to n : ℕ} → Don
 done-ends h q b =
     record { text = h .text; is = h .rest ∙ (ap (front (h .text)) q ∙ (front-good (h .text) [] ∙ ap good (append-nil (h .text)))); wrote = h .wrote; short = b }
 
--- `unescape`: i bytes are passed
+-- `unescape_bytes`: i bytes are passed
 pub record Passed (s : Bytes) (d e : List ℕ) (at i to : ℕ) : Type 0 where
   pub within : i ≤ length s
   pub short : to ≤ at + i
@@ -172,7 +188,7 @@ module _ (s : Bytes) {n : ℕ} (e : n ≡ length (upTo isEnd s)) where
   unfolding dataOf _>>=_ each concat
   data-none h = rw (no-line s e h) refl
 
--- `put_text`: the next line begins at `at`
+-- `put_lines`: the next line begins at `at`
 pub record Texting (s : Bytes) (d e : List ℕ) (at used : ℕ) : Type 0 where
   pub within : at ≤ length s
   pub short : used ≤ at

@@ -1,7 +1,7 @@
 -- An event by its first line.
 use mathlib.Core.Path.{_≡_, refl, sym, ap, _∙_}
 use mathlib.Core.Bool.{true, false}
-use mathlib.Core.List.{List, [], _∷_}
+use mathlib.Core.List.{List, [], _∷_, append-nil}
 use Prim.Native.Nat.{ℕ, zero, suc, _+_, _-_, _/_, _<_, _≤_}
 use native.Mathlib.Omega.{arith}
 use lib.Dec.{eqb}
@@ -18,15 +18,18 @@ use Rattle.spec.specs.Pyx.{Attribute, opening, closing, text, unescape, name, r
 use Rattle.spec.specs.Pyx as P
 use Rattle.copy.specs.Copy.{wrote-same, wrote-front}
 use Rattle.copy.specs.Texts.{after-drop, upTo-stop}
-use Rattle.pyx.specs.Lines.{linesOf, spaced, Kept}
+use Rattle.pyx.specs.Lines.{linesOf, spaced, front, Kept}
 use Rattle.pyx.specs.Names.{Name}
-use Rattle.pyx.specs.Escapes.{Stored, dataOf}
+use Rattle.pyx.specs.Escapes.{Stored, Unescapes, dataOf}
 use Rattle.pyx.specs.Attributes.{Behind, Laid}
 use Rattle.pyx.specs.Decode.{unread, Means, Says, Decodes, Fits, noScratch}
+use Rattle.pyx.specs.declared.Unescaped.{Unescaped}
+use Rattle.pyx.specs.declared.Unescaped.the-variants.{Wrong, Upto}
 use Rattle.pyx.specs.declared.Event.{Event}
 use Rattle.pyx.specs.declared.Event.the-variants.{Malformed, NoScratch, Instruction, Text, Closing, Opening, Crowded}
 use Rattle.pyx.proofs.Reach.{isEnd}
-use Rattle.pyx.proofs.Lines.{first-line, no-line, kept-all, kept-more, kept-then, kept-wrote}
+use Rattle.pyx.proofs.Lines.{first-line, no-line, front-good, kept-all, kept-more, kept-then, kept-wrote}
+use Rattle.pyx.proofs.Escapes.{data-line, data-wrong, data-none}
 
 -- ---- the first line, and its first byte
 
@@ -143,6 +146,23 @@ module _ {s d : Bytes} {n : ℕ} (f : Fits s d n) (h : 0 < n) where
             })
             (kept-then title-kept (r .kept))
             (r .words)
+
+-- ---- text of one line
+
+module _ {s d : Bytes} {n : ℕ} (f : Fits s d n) (h : 0 < n) (o : n + 1 ≡ length s) where
+  rest-none : dataOf (drop (n + 1) s) ≡ good []
+  rest-none = data-none (drop (n + 1) s) refl (omega (arith, length-drop (n + 1) s))
+
+  one-good : {t : Bytes} → unescape (take (n - 1) (drop 1 s)) ≡ good t → dataOf s ≡ good t
+  one-good {t} g = data-line s (f .line) (f .ended) t (rw (drop-take s n h) g) ∙ (ap (front t) rest-none ∙ (front-good t [] ∙ ap good (append-nil t)))
+
+  one-wrong : unescape (take (n - 1) (drop 1 s)) ≡ refuse NotPyx → dataOf s ≡ refuse NotPyx
+  one-wrong g = data-wrong s (f .line) (f .ended) (rw (drop-take s n h) g)
+
+  pub text-one : (e : List ℕ) (r : Unescaped) → Unescapes r (unescape (take (n - 1) (drop 1 s))) (length (take (n - 1) (drop 1 s))) d e 0
+      → Unescapes r (dataOf s) (length s) d e 0
+  text-one e Wrong u = (one-wrong (u .0), kept-more (u .1) (omega (arith, title-size f h)))
+  text-one e (Upto to) u = record { text = u .text; is = one-good (u .is); wrote = u .wrote; short = omega (arith, u .short, title-size f h) }
 
 -- ---- the kinds of events
 

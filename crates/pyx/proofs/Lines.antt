@@ -13,6 +13,7 @@ use Rattle.spec.specs.Bytes.{Bytes, ascii, byte, if_then_else_, begins, upTo, o
 use Rattle.spec.specs.Numbers.{Answer, refuse, good}
 use Rattle.spec.specs.declared.Refusal.{Refusal}
 use Rattle.copy.specs.Copy.{Wrote, wrote-same, wrote-behind}
+use Rattle.copy.specs.Scan.{or-assoc, or-false}
 use Rattle.pyx.specs.Lines.{linesOf, spaced, front, Kept}
 use Rattle.pyx.proofs.Reach.{isEnd}
 
@@ -152,13 +153,13 @@ clear-line s at (suc n) c h p = ne-eqb (getD (take (suc n) (drop at s)) 0 0) 32 
         let g : getD s (suc (at - 1)) 0 ≡ 32 = rw z at (sym (getD-take (suc n) (drop at s) 0 0 (omega arith) ∙ getD-drop at s 0 0) ∙ e) in
         false≢true (sym c ∙ spaced-at s (at - 1) (there s (suc (at - 1)) (omega (arith, g))) p g)
 
--- ---- the search for one: the bytes before the last of i are passed
+-- ---- the search for one: `found` is the answer for the bytes before the last of i
 
-pub record Spacing (s : Bytes) (i : ℕ) : Type 0 where
+pub record Spacing (s : Bytes) (i : ℕ) (found : Bool) : Type 0 where
   pub some : 1 ≤ i
-  pub rest : spaced s ≡ spaced (drop (i - 1) s)
+  pub rest : spaced s ≡ (found || spaced (drop (i - 1) s))
 
-pub spacing-begins : {s : Bytes} → Spacing s 1
+pub spacing-begins : {s : Bytes} → Spacing s 1 false
 spacing-begins = record { some = omega arith; rest = refl }
 
 two : (s : Bytes) (i : ℕ) → 1 ≤ i → i < length s → drop (i - 1) s ≡ getD s (i - 1) 0 ∷ getD s i 0 ∷ drop (suc i) s
@@ -177,17 +178,17 @@ and-true : (x : Bool) → (x && true) ≡ x
 and-true true = refl
 and-true false = refl
 
-module _ {s : Bytes} {i : ℕ} (w : Spacing s i) (b : i < length s) where
-  here : spaced s ≡ ((eqb (getD s (i - 1) 0) 10 && eqb (getD s i 0) 32) || spaced (drop i s))
-  here =
-      w .rest
-      ∙ rw (two s i (w .some) b, spaced-here (getD s (i - 1) 0) (getD s i 0) (drop (suc i) s), ← drop-cons s i 0 b, eqb-swap 32 (getD s i 0), and-true (eqb (getD s i 0) 32))
+here : (s : Bytes) (i : ℕ) → 1 ≤ i → i < length s → spaced (drop (i - 1) s) ≡ ((eqb (getD s (i - 1) 0) 10 && eqb (getD s i 0) 32) || spaced (drop i s))
+here s i h b =
+    rw (two s i h b, spaced-here (getD s (i - 1) 0) (getD s i 0) (drop (suc i) s), ← drop-cons s i 0 b, eqb-swap 32 (getD s i 0), and-true (eqb (getD s i 0) 32))
 
-  pub spacing-stop : (eqb (getD s (i - 1) 0) 10 && eqb (getD s i 0) 32) ≡ true → true ≡ spaced s
-  spacing-stop e = sym (here ∙ rw e)
-
-  pub spacing-more : (eqb (getD s (i - 1) 0) 10 && eqb (getD s i 0) 32) ≡ false → Spacing s (i + 1)
-  spacing-more e = let z : i + 1 - 1 ≡ i = omega arith in record { some = omega arith; rest = here ∙ rw (e, z) }
+pub spacing-more : {s : Bytes} {i : ℕ} {found : Bool} → Spacing s i found → i < length s → Spacing s (i + 1) (found || (eqb (getD s (i - 1) 0) 10 && eqb (getD s i 0) 32))
+spacing-more {s} {i} {found} w b =
+    let z : i + 1 - 1 ≡ i = omega arith in
+    record {
+      some = omega arith;
+      rest = w .rest ∙ rw (here s i (w .some) b, z) (sym (or-assoc found (eqb (getD s (i - 1) 0) 10 && eqb (getD s i 0) 32) (spaced (drop i s))));
+    }
 
 short : (t : Bytes) → length t ≤ 1 → spaced t ≡ false
 unfolding spaced begins ascii
@@ -199,5 +200,21 @@ short (a ∷ []) h = go (eqb a (byte "\n"))
     go false = refl
 short (a ∷ b ∷ t) h = absurd (omega arith)
 
-pub spacing-done : {s : Bytes} {i : ℕ} → Spacing s i → length s ≤ i → false ≡ spaced s
-spacing-done {s} {i} w h = sym (w .rest ∙ short (drop (i - 1) s) (omega (arith, length-drop (i - 1) s)))
+pub spacing-done : {s : Bytes} {i : ℕ} {found : Bool} → Spacing s i found → length s ≤ i → found ≡ spaced s
+spacing-done {s} {i} {found} w h = sym (w .rest ∙ rw (short (drop (i - 1) s) (omega (arith, length-drop (i - 1) s))) (or-false found))
+
+alone : (s : Bytes) → length s ≡ 0 → (begins (ascii " ") s || spaced s) ≡ false
+unfolding spaced begins ascii
+alone [] h = refl
+alone (a ∷ s) h = absurd (omega arith)
+
+-- one line alone has none behind it
+pub spaced-one : (s : Bytes) → length s ≤ suc (length (upTo isEnd s)) → spaced s ≡ false
+unfolding spaced byte upTo if_then_else_
+spaced-one [] h = refl
+spaced-one (a ∷ s) h = go (eqb a 10) (spaced-one s) h
+  where
+    go : (x : Bool) → (length s ≤ suc (length (upTo isEnd s)) → spaced s ≡ false) → suc (length s) ≤ suc (length (if x then [] else (a ∷ upTo isEnd s)))
+        → ((x && begins (ascii " ") s) || spaced s) ≡ false
+    go true f h = alone s (omega arith)
+    go false f h = f (omega arith)

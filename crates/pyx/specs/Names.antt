@@ -14,6 +14,11 @@ use Rattle.pyx.specs.declared.Colon.the-variants.{NotName, At}
 unfoldable pub colonOf : Bytes → ℕ
 colonOf s = if noColon s then 0 else suc (length (upTo (among (ascii ":")) s))
 
+-- `colon_of`
+abbrev pub Colons : Colon → Bytes → Type 0
+Colons NotName s = isQName s ≡ false
+Colons (At c) s = (isQName s ≡ true) × (c ≡ colonOf s)
+
 -- a name that was put into the scratch
 pub record Name (c : ℕ) (s : Bytes) (d e : List ℕ) (at : ℕ) : Type 0 where
   pub qname : isQName s ≡ true

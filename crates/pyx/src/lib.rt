@@ -4,13 +4,14 @@ ghost use mathlib.Core.Bool.{false};
 ghost use Prim.Native.Nat.{_+_, _*_, _<_, _≤_};
 ghost use lib.ListN.{length, take, drop, getD};
 ghost use lib.Dec.{eqb};
+ghost use Rattle.spec.specs.Bytes.{upTo};
 ghost use Rattle.spec.specs.PyxCut.{goesOn, mayGoOn};
 ghost use Rattle.spec.specs.Pyx.{readLines, readOpening};
 ghost use Rattle.spec.specs.Pyx as escapes;
 ghost use Rattle.copy.specs.Copy.{Put};
 ghost use Rattle.pyx.specs.First.{Cuts, inLine, atLineEnd};
 ghost use Rattle.pyx.specs.Lines.{linesOf, spaced};
-ghost use Rattle.pyx.specs.Names.{Named};
+ghost use Rattle.pyx.specs.Names.{Colons, Named};
 ghost use Rattle.pyx.specs.Escapes.{Nexts, Unescapes, dataOf};
 ghost use Rattle.pyx.specs.Attributes.{Reads, Behind, Lays, Small, row};
 ghost use Rattle.pyx.specs.Decode.{Says, Decodes, Fits};
@@ -120,13 +121,13 @@ pub fn decode(event: &[u8], scratch: &mut [u8], spans: &mut [u32]) -> Event
     if event.len() > scratch.len() {
         return Event::NoScratch;
     }
-    if has_spaced(event) {
+    let n = copy::find(event, 10);
+    if has_spaced(event, n) {
         return Event::NoScratch;
     }
     if !utils::is_text(event) {
         return Event::Malformed;
     }
-    let n = copy::find(event, 10);
     if n == event.len() {
         return Event::Malformed;
     }
@@ -169,18 +170,28 @@ fn at_line_end(seen: usize, last: bool, c: u8) -> First
     First::Whole(seen)
 }
 
-// Does a line behind the first begin with a space? No event of `first_event` has such a line.
-fn has_spaced(event: &[u8]) -> bool
+// Does a line behind the first, which has `n` bytes, begin with a space? No event of `first_event` has such a line, and one line alone has none behind it.
+fn has_spaced(event: &[u8], n: usize) -> bool
+    requires { ⌜ n ≡ length (upTo (λ c. eqb c 10) (now event)) ⌝ }
     ensures { λ r. ⌜ r ≡ spaced (now (event .entry)) ⌝ }
 {
+    if event.len() - n <= 1 {
+        return false;
+    }
+    find_spaced(event)
+}
+
+// The same by a look at every byte. No branch inside the loop, so that many are compared at once.
+fn find_spaced(event: &[u8]) -> bool
+    ensures { λ r. ⌜ r ≡ spaced (now (event .entry)) ⌝ }
+{
+    let mut found = false;
     let mut i = 1;
     while i < event.len() {
-        if (event[i - 1] == 10) & (event[i] == 32) {
-            return true;
-        }
+        found = found | ((event[i - 1] == 10) & (event[i] == 32));
         i += 1;
     }
-    false
+    found
 }
 
 // An event by the first byte of its first line, which has `n` bytes.
@@ -202,7 +213,7 @@ fn by_first_line(event: &[u8], n: usize, scratch: &mut [u8], spans: &mut [u32]) 
         };
     }
     if c == 45 {
-        return match put_text(event, scratch) {
+        return match put_text(event, n, scratch) {
             Unescaped::Wrong => Event::Malformed,
             Unescaped::Upto(to) => Event::Text(to),
         };
@@ -308,8 +319,20 @@ fn enter(spans: &mut [u32], k: usize, start: usize, name: usize, colon: usize, v
     true
 }
 
-// The data of an event's lines into the scratch, joined.
-fn put_text(event: &[u8], scratch: &mut [u8]) -> Unescaped
+// The data of an event's lines into the scratch, joined. The first has `n` bytes; alone it needs no joining.
+fn put_text(event: &[u8], n: usize, scratch: &mut [u8]) -> Unescaped
+    requires { ⌜ Fits (now event) (now scratch) n ⌝ }
+    requires { ⌜ 0 < n ⌝ }
+    ensures { λ r. ⌜ Unescapes r (dataOf (now (event .entry))) (length (now (event .entry))) (now (scratch .entry)) (now (scratch .exit)) 0 ⌝ }
+{
+    if n + 1 == event.len() {
+        return unescape(&event[1..n], scratch, 0);
+    }
+    put_lines(event, scratch)
+}
+
+// The data of any number of lines into the scratch, joined.
+fn put_lines(event: &[u8], scratch: &mut [u8]) -> Unescaped
     requires { ⌜ length (now event) ≤ length (now scratch) ⌝ }
     ensures { λ r. ⌜ Unescapes r (dataOf (now (event .entry))) (length (now (event .entry))) (now (scratch .entry)) (now (scratch .exit)) 0 ⌝ }
 {
@@ -348,21 +371,40 @@ fn put_name(name: &[u8], scratch: &mut [u8], at: usize) -> Colon
     requires { ⌜ at + length (now name) ≤ length (now scratch) ⌝ }
     ensures { λ r. ⌜ Named r (now (name .entry)) (now (scratch .entry)) (now (scratch .exit)) at ⌝ }
 {
-    match utils::qname(name) {
-        utils::Name::NotName => Colon::NotName,
-        utils::Name::Local => {
+    match colon_of(name) {
+        Colon::NotName => Colon::NotName,
+        Colon::At(c) => {
             copy::put(scratch, at, name);
-            Colon::At(0)
-        }
-        utils::Name::Prefixed(k) => {
-            copy::put(scratch, at, name);
-            Colon::At(k + 1)
+            Colon::At(c)
         }
     }
 }
 
-// A value or data, decoded into the scratch.
+fn colon_of(name: &[u8]) -> Colon
+    ensures { λ r. ⌜ Colons r (now (name .entry)) ⌝ }
+{
+    match utils::qname(name) {
+        utils::Name::NotName => Colon::NotName,
+        utils::Name::Local => Colon::At(0),
+        utils::Name::Prefixed(k) => Colon::At(k + 1),
+    }
+}
+
+// A value or data, decoded into the scratch. Without a backslash it is copied as it is.
 fn unescape(s: &[u8], scratch: &mut [u8], at: usize) -> Unescaped
+    requires { ⌜ at + length (now s) ≤ length (now scratch) ⌝ }
+    ensures { λ r. ⌜ Unescapes r (escapes.unescape (now (s .entry))) (length (now (s .entry))) (now (scratch .entry)) (now (scratch .exit)) at ⌝ }
+{
+    let n = copy::find(s, 92);
+    if n == s.len() {
+        copy::put(scratch, at, s);
+        return Unescaped::Upto(at + n);
+    }
+    unescape_bytes(s, scratch, at)
+}
+
+// A value or data, decoded byte by byte.
+fn unescape_bytes(s: &[u8], scratch: &mut [u8], at: usize) -> Unescaped
     requires { ⌜ at + length (now s) ≤ length (now scratch) ⌝ }
     ensures { λ r. ⌜ Unescapes r (escapes.unescape (now (s .entry))) (length (now (s .entry))) (now (scratch .entry)) (now (scratch .exit)) at ⌝ }
 {

@@ -8,5 +8,3 @@ pub mod Starting
 pub mod Stepping
 -- ---- what the contracts determine
 pub mod Unique
-pub mod Runs
-pub mod Whole

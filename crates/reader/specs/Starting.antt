@@ -162,7 +162,7 @@ module _ (based : Bool) (base : Bytes) (s : State) (w i : List ℕ) {a : Answer}
 -- ---- finish
 
 -- no element is open, and there was a root
-over-read : (s : State) (w i : List ℕ) → (isEmpty (docFrom s w i .frames) && docFrom s w i .rooted) ≡ overIn (s .registers)
+pub over-read : (s : State) (w i : List ℕ) → (isEmpty (docFrom s w i .frames) && docFrom s w i .rooted) ≡ overIn (s .registers)
 unfolding docFrom docIn docOf elementsOf innersOf framesOf isEmpty overIn
 over-read s w i = go (s .registers .inner) (s .registers .depth)
   where

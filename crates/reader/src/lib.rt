@@ -185,7 +185,7 @@ fn base_size(based: bool, base: &[u8]) -> usize
 }
 
 // Is no element open, and was there a root?
-fn may_finish(r: Registers) -> bool
+pub fn may_finish(r: Registers) -> bool
     ensures { λ b. ⌜ b ≡ overIn r ⌝ }
 {
     (r.inner == 0) & ((r.depth == 0) & r.rooted)

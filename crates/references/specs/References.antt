@@ -7,7 +7,7 @@ use mathlib.Core.List.{List}
 use native.Mathlib.Omega.{arith}
 use lib.Dec.{leb}
 use lib.ListN.{length, getD, length-take, drop}
-use borrow.Author.Tests.{le-leb, lt-leb, leb-false}
+use borrow.Author.Tests.{le-leb, lt-leb, leb-false, le-ltb}
 use Rattle.spec.specs.Bytes.{Bytes, same, member, _>>=_, _>>_, require_or_}
 use Rattle.spec.specs.Numbers.{Answer, refuse, good}
 use Rattle.spec.specs.declared.Refusal.{Refusal}
@@ -21,9 +21,10 @@ use Rattle.frames.specs.Kept.{Kept, kept-then, kept-less}
 use Rattle.stack.specs.Laws.{by}
 use Rattle.ids.specs.Ids.{idsOf, endToEnd, ValidIds, last-short, others-linked, found-means}
 use Rattle.ids.specs.Ids as Ids
+use Rattle.names.specs.Tag.{valueAt}
 use Rattle.reference.specs.declared.Reference.{Reference}
 use Rattle.reference.specs.declared.Reference.the-variants.{Missing, Bad, Long, Made}
-use Rattle.reference.specs.Reference.{isBad, isLong, Refers, Resolves, refers-as, refers-kept}
+use Rattle.reference.specs.Reference.{isBad, isLong, Refers, Resolves, refers-as, refers-kept, none-there, no-id}
 use Rattle.attributes.specs.Reads.{meaningsOf, Roles}
 use Rattle.attributes.specs.First.{firstIn}
 use Rattle.references.specs.declared.Others.{Others}
@@ -304,6 +305,16 @@ module _ {base : Option Bytes} {v : Five} {area after : List ℕ} {r : Others} (
         datatype = refers-as after 3072 (r .datatype) (h .datatype) (t .is);
         kind = refers-as after 4096 (r .kind) (h .kind) (u .is);
       }
+
+-- no attribute has the role: j is its place, which is no place of the k
+module _ (base : Option Bytes) (e w : List ℕ) (k : ℕ) {j i : ℕ} (q : j ≡ i) (h : k ≤ j) {a : List ℕ} {at : ℕ} where
+  pub no-value : Resolves (resolved base (valueIf e w k i)) a a at Missing
+  unfolding valueIf
+  no-value = none-there (valueAt e w i) base (le-ltb i k (omega arith))
+
+  pub no-own-id : Resolves (resolved base (withHash (valueIf e w k i))) a a at Missing
+  unfolding valueIf
+  no-own-id = no-id base (valueAt e w i) (le-ltb i k (omega arith))
 
 -- the same value and the same base, said otherwise
 module _ (base : Option Bytes) {o q : Option Bytes} (e : o ≡ q) {a b : List ℕ} {at : ℕ} {r : Reference} where

@@ -1,7 +1,7 @@
 -- The values that a tag's roles have, from the places of their first attributes, and the base that references are resolved on.
 use Prim.Native.Nat.{ℕ, _+_, _<_, _≤_}
-use mathlib.Core.Path.{_≡_, refl}
-use mathlib.Core.Bool.{Bool, true, false}
+use mathlib.Core.Path.{_≡_, refl, ap}
+use mathlib.Core.Bool.{Bool, true, false, _||_}
 use mathlib.Core.Option.{Option, none, some}
 use mathlib.Core.List.{List}
 use native.Mathlib.Omega.{arith}
@@ -32,10 +32,10 @@ value-most e w j = part-most e (startAt w j + sizeAt w j) (valueSizeAt w j)
 unfoldable pub valueIf : List ℕ → List ℕ → ℕ → ℕ → Option Bytes
 valueIf e w k j = given (ltb j k) (valueAt e w j)
 
--- as it is read: v is the value
-pub if-value : (e w : List ℕ) (k : ℕ) {j i : ℕ} {v : Bytes} → v ≡ valueAt e w j → j ≡ i → given (ltb j k) v ≡ valueIf e w k i
-unfolding valueIf
-if-value e w k p q = rw (p, q)
+-- as it is read, at the place j: v is the value
+pub some-value : (e w : List ℕ) (k : ℕ) {j i : ℕ} {v : Bytes} → j ≡ i → j < k → v ≡ valueAt e w j → given true v ≡ valueIf e w k i
+unfolding valueIf given
+some-value e w k {j} q h p = rw (← q, lt-ltb j k h, p)
 
 -- that of a role: j is the place of its first attribute
 module _ {e w v cs rs : List ℕ} {k : ℕ} (h : Roles e w v cs rs k) (r : Role) where
@@ -52,12 +52,31 @@ module _ {e w v cs rs : List ℕ} {k : ℕ} (h : Roles e w v cs rs k) (r : Role)
 unfoldable pub inForce : List ℕ → List ℕ → List ℕ → ℕ → List ℕ → Found → Option Bytes
 inForce e w v k rs f = orElse (valueIf e w k (firstIn rs k xml-base)) (found f v)
 
--- j is the place of xml:base, x what was read
-module _ (e w v : List ℕ) (k : ℕ) (rs : List ℕ) (f : Found) {j : ℕ} {x : Bytes} (p : j ≡ firstIn rs k xml-base) where
-  pub own-base : x ≡ valueAt e w j → j < k → given true x ≡ inForce e w v k rs f
-  unfolding inForce valueIf given orElse
-  own-base q h = rw (← p, lt-ltb j k h, q)
+-- x is the value at place j of k, or else what was found
+pub record Bases (e w : List ℕ) (k j : ℕ) (v : List ℕ) (f : Found) (x : Bytes) : Type 0 where
+  pub own : j < k → x ≡ valueAt e w j
+  pub other : k ≤ j → x ≡ part v (f .at) (f .len)
 
-  pub other-base : {g : Found} → g ≡ f → x ≡ part v (g .at) (g .len) → k ≤ j → given (g .there) x ≡ inForce e w v k rs f
+pub bases-own : {e w : List ℕ} {k j : ℕ} {v : List ℕ} {f : Found} {x : Bytes} → j < k → x ≡ valueAt e w j → Bases e w k j v f x
+bases-own h q = record { own = λ _. q; other = λ l. absurd (omega arith) }
+
+pub bases-other : {e w : List ℕ} {k j : ℕ} {v : List ℕ} {f : Found} {x : Bytes} → k ≤ j → x ≡ part v (f .at) (f .len) → Bases e w k j v f x
+bases-other h q = record { own = λ l. absurd (omega arith); other = λ _. q }
+
+module _ {e w v : List ℕ} {k j : ℕ} {f : Found} {x : Bytes} (b : Bases e w k j v f x) where
+  -- no longer than where it was read
+  pub bases-most : (n : ℕ) → length e ≤ n → length v ≤ n → length x ≤ n
+  bases-most n p q = go (ltb j k) refl
+    where
+      go : (t : Bool) → ltb j k ≡ t → length x ≤ n
+      go true l = omega (arith, ap length (b .own (ltb-true j k l)), value-most e w j)
+      go false l = omega (arith, ap length (b .other (ltb-false j k l)), part-most v (f .at) (f .len))
+
+  -- j is the place of xml:base, f what is in force
+  pub based : (rs : List ℕ) {g : Found} → j ≡ firstIn rs k xml-base → f ≡ g → given (ltb j k || f .there) x ≡ inForce e w v k rs g
   unfolding inForce valueIf given orElse found
-  other-base {g} t q h = rw (← p, le-ltb j k h, ← t, q)
+  based rs {g} p t = go (ltb j k) refl
+    where
+      go : (y : Bool) → ltb j k ≡ y → given (ltb j k || f .there) x ≡ orElse (given (ltb (firstIn rs k xml-base) k) (valueAt e w (firstIn rs k xml-base))) (found g v)
+      go true l = rw (← p, l, b .own (ltb-true j k l))
+      go false l = rw (← p, l, ← t, b .other (ltb-false j k l))

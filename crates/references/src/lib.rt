@@ -5,12 +5,13 @@ ghost use Rattle.inside.specs.Calls.{baseIn};
 ghost use Rattle.reference.specs.Reference.{given, Resolves};
 ghost use Rattle.roles.specs.Role.{roleIs};
 ghost use Rattle.attributes.specs.First.{firstIn};
-ghost use Rattle.references.specs.Values.{valueIf, inForce};
+ghost use Rattle.references.specs.Values.{valueIf, inForce, Bases};
 ghost use Rattle.references.specs.References.{fiveAt, references, freshBy, usedBy, Ready, Four, anyBad, anyLong, Resolving};
 use reference::Area;
 use reference::Reference;
 use roles::Role;
 use spec::Refusal;
+use stack::Found;
 use state::Registers;
 
 // The references of a tag, resolved: rdf:ID, and rdf:about, rdf:resource, rdf:datatype, rdf:type.
@@ -74,15 +75,15 @@ impl Others {
 }
 
 // The base is the tag's own, or that in force.
-pub fn resolve_references(
+pub fn resolve_references<'a>(
     r: Registers,
     frames: &[u32],
-    work: &[u8],
+    work: &'a [u8],
     count: usize,
     starts: &[u32; 512],
     sizes: &[u32; 512],
     ids: &[u8],
-    scratch: &[u8],
+    scratch: &'a [u8],
     spans: &[u32],
     k: usize,
     roles: &[u8],
@@ -92,26 +93,10 @@ pub fn resolve_references(
     ensures { λ q. ⌜ Resolving (references (inForce (now (scratch .entry)) (now (spans .entry)) (now (work .entry)) k (now (roles .entry)) (baseIn r (now (frames .entry)))) (freshBy count (now (starts .entry)) (now (sizes .entry)) (now (ids .entry))) (fiveAt (now (scratch .entry)) (now (spans .entry)) k (now (roles .entry)))) (now (area .entry)) (now (area .exit)) q ⌝ }
 {
     let j = attributes::first_in(roles, k, Role::XmlBase);
-    if j < k {
-        let own = names::value_of(scratch, spans, j);
-        return resolve_on(
-            true,
-            own,
-            count,
-            starts,
-            sizes,
-            ids,
-            scratch,
-            spans,
-            k,
-            roles,
-            area,
-        );
-    }
     let f = inside::base_in_force(r, frames);
-    let base = names::piece(work, f.at, f.len);
+    let base = base_of(scratch, spans, k, j, work, f);
     resolve_on(
-        f.there,
+        (j < k) | f.there,
         base,
         count,
         starts,
@@ -123,6 +108,23 @@ pub fn resolve_references(
         roles,
         area,
     )
+}
+
+// The base, where there is one: the tag's own, at place j of k, or else that in force.
+fn base_of<'a>(
+    scratch: &'a [u8],
+    spans: &[u32],
+    k: usize,
+    j: usize,
+    work: &'a [u8],
+    f: Found,
+) -> &'a [u8]
+    ensures { λ s. ⌜ Bases (now (scratch .entry)) (now (spans .entry)) k j (now (work .entry)) f (now s) ⌝ }
+{
+    if j < k {
+        return names::value_of(scratch, spans, j);
+    }
+    names::piece(work, f.at, f.len)
 }
 
 // rdf:ID (11, 12), then the others (11), among which the order does not show.
@@ -169,8 +171,11 @@ fn resolve_id(
     ensures { λ r. ⌜ Resolves (resolved (given based (now (base .entry))) (withHash (valueIf (now (scratch .entry)) (now (spans .entry)) k (firstIn (now (roles .entry)) k rdf-ID)))) (now (area .entry)) (now (area .exit)) 0 r ⌝ }
 {
     let j = attributes::first_in(roles, k, Role::Id);
+    if k <= j {
+        return Reference::Missing;
+    }
     let value = names::value_of(scratch, spans, j);
-    reference::resolved_id(based, base, j < k, value, area)
+    reference::resolved_id(based, base, true, value, area)
 }
 
 // Had an earlier event this rdf:ID? One that is too long had none.
@@ -272,6 +277,9 @@ fn resolve_in(
     ensures { λ r. ⌜ Resolves (resolved (given based (now (base .entry))) (valueIf (now (scratch .entry)) (now (spans .entry)) k (firstIn (now (roles .entry)) k (roleIs role)))) (now (area .entry)) (now (area .exit)) at r ⌝ }
 {
     let j = attributes::first_in(roles, k, role);
+    if k <= j {
+        return Reference::Missing;
+    }
     let value = names::value_of(scratch, spans, j);
-    reference::resolved(based, base, j < k, value, area, at)
+    reference::resolved(based, base, true, value, area, at)
 }

@@ -16,14 +16,13 @@ use Rattle.spec.specs.Numbers.{Answer, refuse, good}
 use Rattle.spec.specs.Document.{fresh}
 use Rattle.spec.specs.Calls.{isOpen, noDocument, callStart, callStep}
 use Rattle.spec.specs.Calls as calls
-use Rattle.spec.proofs.Calls.{step-takes}
+use Rattle.spec.proofs.Calls.{number-positive, step-takes}
 use Rattle.copy.specs.Copy.{wrote-front}
 use Rattle.frames.specs.Words.{pick}
 use Rattle.reader.specs.declared.State.{State}
 use Rattle.reader.specs.declared.Report.{Report}
 use Rattle.reader.specs.Meaning.{baseOf, meaningOf}
 use Rattle.reader.specs.Meets.{numberOf, lengthsRight, Starts, Steps, Finishes}
-use Rattle.reader.specs.Runs.{start-opens}
 use Rattle.replay.specs.declared.Way.{Way}
 use Rattle.replay.specs.declared.Ended.{Ended}
 use Rattle.replay.specs.Lines.{partOf, part-rest, part-front}
@@ -219,6 +218,14 @@ start-number l b p q = go (calls.mayStart l b)
     go (refuse n) = refl
     go (good tt) = refl
 
+start-opens : (l : Bool) (b : Option Bytes) (q : calls.State) → callStart l b q .answer ≡ 0 → callStart l b q .behind ≡ isOpen (fresh b)
+unfolding callStart calls.started calls.refused
+start-opens l b q h = go (calls.mayStart l b) h
+  where
+    go : (a : Answer (Unit {0})) → calls.started b q a .answer ≡ 0 → calls.started b q a .behind ≡ isOpen (fresh b)
+    go (refuse n) e = absurd (number-positive n e)
+    go (good tt) e = refl
+
 module _ {based : Bool} {base : Bytes} {s : State} {w i : List ℕ} {r : Report} {w′ : List ℕ} (x : Starts based base s w i r w′) where
   started : callStart (lengthsRight w i) (baseOf based base) noDocument .answer ≡ numberOf (r .answer)
   started = start-number (lengthsRight w i) (baseOf based base) noDocument (meaningOf s w i) ∙ sym (x .meets .answer)
@@ -233,5 +240,5 @@ module _ {based : Bool} {base : Bytes} {s : State} {w i : List ℕ} {r : Report}
     run-done z y =
         let o : numberOf (r .answer) ≡ 0 = omega arith in
         let f : eqb (callStart (lengthsRight w i) (baseOf based base) noDocument .answer) 0 ≡ true = eq-eqb _ 0 (started ∙ o) in
-        let p : meaningOf (r .state) w′ i ≡ isOpen (fresh (baseOf based base)) = x .meets .behind ∙ start-opens _ _ _ (sym (x .meets .answer) ∙ o) .1 in
+        let p : meaningOf (r .state) w′ i ≡ isOpen (fresh (baseOf based base)) = x .meets .behind ∙ start-opens _ _ _ (sym (x .meets .answer) ∙ o) in
         record { number = rw (f, ← p) (y .number); lines = rw (f, ← p) (y .lines) }

@@ -14,6 +14,7 @@ use Rattle.spec.specs.Bytes.{Bytes, ascii, if_then_else_, begins, after, upTo, 
 use Rattle.spec.specs.Rfc3986.{marked, past, schemeOf, afterScheme, parse, withMark}
 use Rattle.spec.proofs.Booleans.{and-left, and-right, and-both}
 use Rattle.copy.specs.Copy.{rest-of}
+use Rattle.copy.specs.Scan.{Sought, sought-stop, sought-done}
 use Rattle.copy.specs.Texts.{begins-true, after-drop, from-drop}
 use Rattle.resolve.specs.Texts.{cut, Headed, from-headed, and-false}
 use Rattle.resolve.specs.declared.parts.Parts.{Parts}
@@ -308,7 +309,7 @@ module _ (s : Bytes) where
 -- ---- what the functions find
 
 -- a byte is of a set if a search for it ends before the set's end
-pub among-found : (set : Bytes) (b : ℕ) → ltb (length (upTo (λ c. eqb c b) set)) (length set) ≡ among set b
+among-found : (set : Bytes) (b : ℕ) → ltb (length (upTo (λ c. eqb c b) set)) (length set) ≡ among set b
 unfolding upTo among if_then_else_
 among-found [] b = refl
 among-found (a ∷ set) b = go (eqb a b) (among-found set b)
@@ -317,6 +318,18 @@ among-found (a ∷ set) b = go (eqb a b) (among-found set b)
         → ltb (length (if t then [] else (a ∷ upTo (λ c. eqb c b) set))) (length (a ∷ set)) ≡ (t || among set b)
     go true h = lt-ltb 0 (length (a ∷ set)) (omega arith)
     go false h = simp compare·suc-suc h
+
+-- the search of `among`, where it ends
+module _ {set : Bytes} (b : ℕ) {i : ℕ} (h : Sought (λ c. eqb c b) set i) where
+  pub among-stop : i < length set → getD set i 0 ≡ b → true ≡ among set b
+  among-stop l e =
+      let n = sought-stop h l (eq-eqb (getD set i 0) b e) in
+      sym (lt-ltb (length (upTo (λ c. eqb c b) set)) (length set) (omega arith)) ∙ among-found set b
+
+  pub among-done : length set ≤ i → false ≡ among set b
+  among-done l =
+      let n = sought-done h l in
+      sym (le-ltb (length (upTo (λ c. eqb c b) set)) (length set) (omega arith)) ∙ among-found set b
 
 -- a scheme has a name, and ":" behind it
 unfoldable pub nameSize : Bytes → ℕ

@@ -72,5 +72,12 @@ pub fn until(s: &[u8], set: &[u8]) -> usize
 fn among(set: &[u8], b: u8) -> bool
     ensures { λ r. ⌜ r ≡ among (now (set .entry)) b ⌝ }
 {
-    copy::find(set, b) < set.len()
+    let mut i: usize = 0;
+    while i < set.len() {
+        if set[i] == b {
+            return true;
+        }
+        i += 1;
+    }
+    false
 }

@@ -87,18 +87,18 @@ pub fn start_outside(
 }
 
 // 6 and the counts; 8 to 14 as the tag is read; 14, 15, 18 and the limits.
-fn judge_start(
+fn judge_start<'a>(
     r: Registers,
     count: usize,
     used: usize,
     frames: &[u32],
     bindings: &[u32],
     inners: &[u32],
-    work: &[u8],
+    work: &'a [u8],
     places: &[u32; IdTable::MOST],
     sizes: &[u32; IdTable::MOST],
     ids: &[u8],
-    scratch: &[u8],
+    scratch: &'a [u8],
     spans: &[u32],
     m: usize,
     c: usize,

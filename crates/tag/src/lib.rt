@@ -54,16 +54,16 @@ pub enum Read {
 }
 
 // A tag whose name is the first m bytes of the scratch, with its colon at c, and that has k attributes, which are classified.
-pub fn read_tag(
+pub fn read_tag<'a>(
     r: Registers,
     frames: &[u32],
     bindings: &[u32],
-    work: &[u8],
+    work: &'a [u8],
     count: usize,
     starts: &[u32; 512],
     sizes: &[u32; 512],
     ids: &[u8],
-    scratch: &[u8],
+    scratch: &'a [u8],
     spans: &[u32],
     m: usize,
     c: usize,

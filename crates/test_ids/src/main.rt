@@ -3,6 +3,7 @@ use ids::Added;
 use ids::IdTable;
 use label::Decimal;
 use libc::STDOUT_FILENO;
+use resolve::Resolved;
 
 fn write_answer(what: &[u8], answer: bool) {
     io::write_all(STDOUT_FILENO, what);
@@ -28,8 +29,8 @@ fn write_number(v: usize, what: &[u8]) {
 }
 
 // The longest ID of a number: four digits, and then what makes it long. Its beginnings are shorter IDs.
-fn id_of(k: usize) -> [u8; IdTable::LONGEST] {
-    let mut id = [b'x'; IdTable::LONGEST];
+fn id_of(k: usize) -> [u8; Resolved::MOST_BYTES] {
+    let mut id = [b'x'; Resolved::MOST_BYTES];
     label::write_u64_to_slice(k as u64, &mut id[..4]);
     id
 }
@@ -142,14 +143,14 @@ fn bytes() {
     let mut at = empty.at;
     let mut len = empty.len;
     let mut store = [0u8; IdTable::BYTES];
-    let most = fill(&mut at, &mut len, &mut store, 31, IdTable::LONGEST);
+    let most = fill(&mut at, &mut len, &mut store, 31, Resolved::MOST_BYTES);
     let short = enter(
         most,
         &mut at,
         &mut len,
         &mut store,
         31,
-        IdTable::LONGEST - 1,
+        Resolved::MOST_BYTES - 1,
     );
     write_numbers(short);
     let over = enter(short, &mut at, &mut len, &mut store, 32, 2);
@@ -168,7 +169,15 @@ fn seek_lengths(table: Added, at: &[u32; IdTable::MOST], len: &[u32; IdTable::MO
         b"valid",
         ids::valid(count, table.used, at, len, store.len()),
     );
-    seek(b"the first ID", count, at, len, store, 0, IdTable::LONGEST);
+    seek(
+        b"the first ID",
+        count,
+        at,
+        len,
+        store,
+        0,
+        Resolved::MOST_BYTES,
+    );
     seek(
         b"the last long ID",
         count,
@@ -176,7 +185,7 @@ fn seek_lengths(table: Added, at: &[u32; IdTable::MOST], len: &[u32; IdTable::MO
         len,
         store,
         31,
-        IdTable::LONGEST - 1,
+        Resolved::MOST_BYTES - 1,
     );
     seek(b"the last ID", count, at, len, store, 33, 1);
     seek(b"the refused ID", count, at, len, store, 32, 2);

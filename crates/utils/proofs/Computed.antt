@@ -5,12 +5,14 @@ use mathlib.Core.Bool.{Bool, true, false, _&&_, _||_, not}
 use Prim.Native.Nat.{ℕ, zero, suc, _-_, _<_}
 use native.Mathlib.Nat.{not-suc-le-zero, eq-or-lt-of-le, le-of-suc-le-suc}
 use borrow.Author.Tests.{eqb-true, not-true}
-use lib.Dec.{eqb}
+use lib.Dec.{eqb, leb}
 use lib.Count.{leadingZeros}
-use Rattle.spec.specs.Bytes.{ascii, if_then_else_, among, between, inRanges}
+use Rattle.spec.specs.Bytes.{ascii, byte, if_then_else_, among, between, inRanges}
 use Rattle.spec.specs.Utf8.{leadingOnes, leadingOnesOf}
-use Rattle.spec.specs.XmlNames.{isChar}
+use Rattle.spec.specs.XmlNames.{isChar, startRanges, furtherRanges, isNameStart, isNameChar}
 use Rattle.spec.proofs.Booleans.{and-left, and-right}
+use Rattle.utils.specs.Names.{other, startsNC, goesOnNC}
+use Rattle.utils.specs.Plain.{plain}
 
 -- does a test pass of every number below n?
 allBelow : (ℕ → Bool) → ℕ → Bool
@@ -74,3 +76,27 @@ all-control = refl
 pub controls : (c : ℕ) → c < 32 → ((eqb c 9 || eqb c 10) || eqb c 13) ≡ isChar c
 unfolding control
 controls c h = agree-same _ _ (below control 32 all-control c h)
+
+-- ---- names in ASCII are those of the table
+
+start : ℕ → Bool
+start b = agree (((leb 97 b && leb b 122) || (leb 65 b && leb b 90)) || eqb b 95) (plain startsNC b)
+
+all-start : allBelow start 256 ≡ true
+unfolding allBelow start agree plain startsNC other isNameStart startRanges inRanges between byte
+all-start = refl
+
+pub plain-start : (b : ℕ) → b < 256 → (((leb 97 b && leb b 122) || (leb 65 b && leb b 90)) || eqb b 95) ≡ plain startsNC b
+unfolding start
+plain-start b h = agree-same _ _ (below start 256 all-start b h)
+
+name : ℕ → Bool
+name b = agree ((leb 97 b && leb b 122) || (((plain startsNC b || (leb 48 b && leb b 57)) || eqb b 45) || eqb b 46)) (plain goesOnNC b)
+
+all-name : allBelow name 256 ≡ true
+unfolding allBelow name agree plain startsNC goesOnNC other isNameStart isNameChar startRanges furtherRanges inRanges between byte
+all-name = refl
+
+pub plain-name : (b : ℕ) → b < 256 → ((leb 97 b && leb b 122) || (((plain startsNC b || (leb 48 b && leb b 57)) || eqb b 45) || eqb b 46)) ≡ plain goesOnNC b
+unfolding name
+plain-name b h = agree-same _ _ (below name 256 all-name b h)

@@ -9,3 +9,4 @@ pub mod Walking
 -- ---- characters and names
 pub mod Ranges
 pub mod Names
+pub mod Plain

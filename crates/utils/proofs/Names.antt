@@ -1,6 +1,6 @@
 -- XML's characters and names: the steps of the tests, and what an answer of `qname` says.
 use mathlib.Core.Path.{_≡_, refl, sym, _∙_}
-use mathlib.Core.Bool.{Bool, true, false, _&&_, _||_, not, false≢true}
+use mathlib.Core.Bool.{Bool, true, false, _&&_, _||_, false≢true}
 use mathlib.Core.List.{[], _∷_}
 use Prim.Native.Nat.{ℕ, suc, _+_, _<_, _≤_}
 use native.Mathlib.Omega.{arith}
@@ -15,11 +15,12 @@ use Rattle.spec.specs.XmlNames.{isChar, isNameStart, isNameChar, isName, noColo
 use Rattle.utils.specs.declared.Name.{Name}
 use Rattle.utils.specs.declared.Name.the-variants.{NotName, Local, Prefixed}
 use Rattle.utils.specs.Decoding.{Front, Stuck}
-use Rattle.utils.specs.Names.{nameOf, isNCRest}
+use Rattle.utils.specs.Names.{nameOf, other, startsNC, goesOnNC, isNCRest}
+use Rattle.utils.specs.Walking.{Steps}
 use Rattle.utils.proofs.Tools.{clash, or-false, and-true, and-false, and-shuffle}
 use Rattle.utils.proofs.Utf8.{take-upTo}
 use Rattle.utils.proofs.Front.{front-holds, front-every, front-bytes, stuck-fails, empty-holds}
-use Rattle.utils.proofs.Walking.{ByCharacter}
+use Rattle.utils.proofs.Walking.{ByCharacter, steps-more, steps-fail}
 
 -- ---- characters
 
@@ -32,16 +33,12 @@ char-high c h =
 
 -- ---- NCNames
 
--- a character other than the colon
-pub other : ℕ → Bool
-other c = not (eqb c 0x3A)
-
 other-high : (c : ℕ) → 128 ≤ c → other c ≡ true
-unfolding other
+unfolding other byte
 other-high c h = rw (ne-eqb c 0x3A (λ e. omega arith))
 
 no-colon : {c n : ℕ} {s : Bytes} → Front c n s → noColon s ≡ (other c && noColon (drop n s))
-unfolding noColon byte other
+unfolding noColon other
 no-colon f = front-bytes other other-high f
 
 empty-colon : (s : Bytes) → length s ≡ 0 → noColon s ≡ true
@@ -49,17 +46,34 @@ unfolding noColon every
 empty-colon [] h = refl
 empty-colon (b ∷ u) h = absurd (omega arith)
 
-pub colon-fails : (t : Bool) (c : ℕ) → c ≡ 0x3A → (t && other c) ≡ false
-unfolding other
+colon-fails : (t : Bool) (c : ℕ) → c ≡ 0x3A → (t && other c) ≡ false
+unfolding other byte
 colon-fails t c e = rw e (and-false t)
 
-pub other-keeps : (t : Bool) (c : ℕ) → (c ≡ 0x3A → ⊥) → (t && other c) ≡ t
-unfolding other
+other-keeps : (t : Bool) (c : ℕ) → (c ≡ 0x3A → ⊥) → (t && other c) ≡ t
+unfolding other byte
 other-keeps t c h = rw (ne-eqb c 0x3A h) (and-true t)
 
--- what follows the first character goes by characters that are name characters and no colon
-pub rest-by : ByCharacter isNCRest (λ c. isNameChar c && other c)
-unfolding isNCRest every
+module _ (c : ℕ) where
+  pub starts-colon : c ≡ 0x3A → startsNC c ≡ false
+  unfolding startsNC
+  starts-colon e = colon-fails (isNameStart c) c e
+
+  pub starts-by : (c ≡ 0x3A → ⊥) → startsNC c ≡ isNameStart c
+  unfolding startsNC
+  starts-by h = other-keeps (isNameStart c) c h
+
+  pub goes-on-colon : c ≡ 0x3A → goesOnNC c ≡ false
+  unfolding goesOnNC
+  goes-on-colon e = colon-fails (isNameChar c) c e
+
+  pub goes-on-by : (c ≡ 0x3A → ⊥) → goesOnNC c ≡ isNameChar c
+  unfolding goesOnNC
+  goes-on-by h = other-keeps (isNameChar c) c h
+
+-- what follows the first character goes by characters
+pub rest-by : ByCharacter isNCRest goesOnNC
+unfolding isNCRest goesOnNC every
 rest-by =
     record {
       empty = λ s h. rw (empty-holds (every isNameChar) s h, empty-colon s h);
@@ -68,30 +82,27 @@ rest-by =
       stuck = λ h. rw (stuck-fails (every isNameChar) h);
     }
 
--- an NCName is a start character other than the colon, and such a rest
-nc-front : {c n : ℕ} {s : Bytes} → Front c n s → isNCName s ≡ ((isNameStart c && other c) && isNCRest (drop n s))
-unfolding isNCName isNCRest isName
+-- an NCName is a character that may start it, and such a rest
+nc-front : {c n : ℕ} {s : Bytes} → Front c n s → isNCName s ≡ (startsNC c && isNCRest (drop n s))
+unfolding isNCName isNCRest startsNC isName
 nc-front {c} {n} {s} f =
     rw (front-holds isName (every isNameChar) isNameStart (λ d ds. refl) f, no-colon f)
     (and-shuffle (isNameStart c) (asCharacters (every isNameChar) (drop n s)) (other c) (noColon (drop n s)))
 
 module _ {c n : ℕ} {s : Bytes} (f : Front c n s) where
-  pub nc-colon : c ≡ 0x3A → false ≡ isNCName s
-  nc-colon e = sym (nc-front f ∙ rw (colon-fails (isNameStart c) c e))
+  pub nc-starts : startsNC c ≡ true → Steps isNCName isNCRest n s
+  nc-starts e = steps-more f (nc-front f ∙ rw e)
 
-  pub nc-other : isNameStart c ≡ false → false ≡ isNCName s
-  nc-other e = sym (nc-front f ∙ rw e)
+  pub nc-fails : startsNC c ≡ false → Steps isNCName isNCRest 0 s
+  nc-fails e = steps-fail (nc-front f ∙ rw e)
 
-  pub nc-start : {r : Bool} → (c ≡ 0x3A → ⊥) → isNameStart c ≡ true → r ≡ isNCRest (drop n s) → r ≡ isNCName s
-  nc-start h e q = sym (nc-front f ∙ rw (other-keeps (isNameStart c) c h, e) (sym q))
-
-pub nc-stuck : {s : Bytes} → Stuck s → isNCName s ≡ false
+pub nc-stuck : {s : Bytes} → Stuck s → Steps isNCName isNCRest 0 s
 unfolding isNCName
-nc-stuck h = rw (stuck-fails isName h)
+nc-stuck h = steps-fail (rw (stuck-fails isName h))
 
-pub nc-empty : (s : Bytes) → length s ≡ 0 → isNCName s ≡ false
+pub nc-empty : (s : Bytes) → length s ≡ 0 → Steps isNCName isNCRest 0 s
 unfolding isNCName isName
-nc-empty s h = rw (empty-holds isName s h)
+nc-empty s h = steps-fail (rw (empty-holds isName s h))
 
 -- ---- the first colon
 

@@ -9,16 +9,12 @@ use lib.Seq.{drop-cons, drop-drop, take-length}
 use Rattle.spec.specs.Bytes.{Bytes, every}
 use Rattle.spec.specs.Utf8.{asCharacters}
 use Rattle.utils.specs.Decoding.{Front, Stuck}
-use Rattle.utils.proofs.Front.{front-every, stuck-fails, empty-holds}
+use Rattle.utils.specs.Walking.{Walked, Steps}
+use Rattle.utils.proofs.Front.{front-some, front-every, stuck-fails, empty-holds}
 
 -- a part up to the end
 pub to-end : (s : Bytes) (i : ℕ) → take (length s - i) (drop i s) ≡ drop i s
 to-end s i = rw (← length-drop i s) (take-length (drop i s))
-
--- i bytes are passed, and the test of all is that of the rest
-pub record Walked (f : Bytes → Bool) (s : Bytes) (i : ℕ) : Type 0 where
-  pub within : i ≤ length s
-  pub rest : f s ≡ f (drop i s)
 
 pub walked-begins : (f : Bytes → Bool) (s : Bytes) → Walked f s 0
 walked-begins f s = record { within = omega arith; rest = refl }
@@ -50,22 +46,35 @@ pub every-by : (p : ℕ → Bool) → ByCharacter (asCharacters (every p)) p
 unfolding every
 every-by p = record { empty = empty-holds (every p); front = λ f. front-every p f; stuck = λ h. stuck-fails (every p) h }
 
-module _ {f : Bytes → Bool} {p : ℕ → Bool} (b : ByCharacter f p) {s : Bytes} {i : ℕ} (w : Walked f s i) where
-  module _ {c n : ℕ} (h : Front c n (drop i s)) where
-    pub walked-within : i + n ≤ length s
-    walked-within = omega (arith, h .within, length-drop i s, w .within)
+-- ---- a step: the first character passes, or the test fails
 
-    pub walked-fails : p c ≡ false → false ≡ f s
-    walked-fails e = sym (w .rest ∙ b .front h ∙ rw e)
+pub steps-more : {f g : Bytes → Bool} {c n : ℕ} {s : Bytes} → Front c n s → f s ≡ g (drop n s) → Steps f g n s
+steps-more h e = record { within = h .within; fails = λ z. absurd (omega (arith, front-some h)); rest = λ _. e }
 
-    pub walked-more : p c ≡ true → Walked f s (i + n)
-    walked-more e = record { within = walked-within; rest = w .rest ∙ b .front h ∙ rw (e, drop-drop n i s) }
+pub steps-fail : {f g : Bytes → Bool} {s : Bytes} → f s ≡ false → Steps f g 0 s
+steps-fail e = record { within = omega arith; fails = λ _. e; rest = λ l. absurd (omega arith) }
 
-  pub walked-stuck : Stuck (drop i s) → false ≡ f s
-  walked-stuck h = sym (w .rest ∙ b .stuck h)
+module _ {f : Bytes → Bool} {p : ℕ → Bool} (b : ByCharacter f p) {s : Bytes} where
+  pub step-passes : {c n : ℕ} → Front c n s → p c ≡ true → Steps f f n s
+  step-passes h e = steps-more h (b .front h ∙ rw e)
 
-  pub walked-ends : length (drop i s) ≡ 0 → true ≡ f s
-  walked-ends h = sym (w .rest ∙ b .empty (drop i s) h)
+  pub step-fails : {c n : ℕ} → Front c n s → p c ≡ false → Steps f f 0 s
+  step-fails h e = steps-fail (b .front h ∙ rw e)
 
-  pub walked-passes : length s ≤ i → true ≡ f s
-  walked-passes h = walked-ends (omega (arith, length-drop i s))
+  pub step-stuck : Stuck s → Steps f f 0 s
+  step-stuck h = steps-fail (b .stuck h)
+
+-- ---- the loops
+
+module _ {f : Bytes → Bool} {s : Bytes} {i : ℕ} (w : Walked f s i) where
+  pub walked-within : {n : ℕ} → Steps f f n (drop i s) → i + n ≤ length s
+  walked-within h = omega (arith, h .within, length-drop i s, w .within)
+
+  pub walked-fails : {n : ℕ} → Steps f f n (drop i s) → n ≡ 0 → false ≡ f s
+  walked-fails h z = sym (w .rest ∙ h .fails z)
+
+  pub walked-more : {n : ℕ} → Steps f f n (drop i s) → (n ≡ 0 → ⊥) → Walked f s (i + n)
+  walked-more {n} h l = record { within = walked-within h; rest = w .rest ∙ h .rest (omega arith) ∙ rw (drop-drop n i s) }
+
+  pub walked-passes : {p : ℕ → Bool} → ByCharacter f p → length s ≤ i → true ≡ f s
+  walked-passes b h = sym (w .rest ∙ b .empty (drop i s) (omega (arith, length-drop i s)))

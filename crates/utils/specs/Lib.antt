@@ -2,3 +2,5 @@
 pub mod Decoding
 pub mod Ranges
 pub mod Names
+pub mod Plain
+pub mod Walking

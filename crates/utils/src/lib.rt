@@ -8,8 +8,10 @@ ghost use Rattle.spec.specs.Utf8.{leadingOnes, goesOn, isScalar, asCharacters};
 ghost use Rattle.spec.specs.XmlNames.{isChar, isNameStart, isNameChar, isNCName};
 ghost use Rattle.spec.specs.RdfXml.{isBlank};
 ghost use Rattle.utils.specs.Decoding.{Decodes, Begins, joins};
-ghost use Rattle.utils.specs.Ranges.{table, ranges, ascendingFrom};
-ghost use Rattle.utils.specs.Names.{nameOf, isNCRest};
+ghost use Rattle.utils.specs.Ranges.{ranges, ascendingFrom};
+ghost use Rattle.utils.specs.Names.{nameOf, isNCRest, startsNC, goesOnNC};
+ghost use Rattle.utils.specs.Plain.{plain, plainText};
+ghost use Rattle.utils.specs.Walking.{Walked, Steps};
 
 // What some bytes begin with: nothing, a character and how many bytes it has, or no character.
 pub enum Decoded {
@@ -129,7 +131,10 @@ pub fn is_name_start_char(c: u32) -> bool
 pub fn is_name_char(c: u32) -> bool
     ensures { λ r. ⌜ r ≡ isNameChar c ⌝ }
 {
-    goes_on_name(&NAME_RANGES, c)
+    if is_name_start_char(c) {
+        return true;
+    }
+    in_ranges(&NAME_RANGES, c, 16, 22)
 }
 
 pub fn is_whitespace(b: u8) -> bool
@@ -156,17 +161,16 @@ pub fn is_blank(s: &[u8]) -> bool
 pub fn is_text(s: &[u8]) -> bool
     ensures { λ r. ⌜ r ≡ asCharacters (every isChar) (now (s .entry)) ⌝ }
 {
-    let mut i = 0;
+    let mut i = skip_plain(s);
     while i < s.len() {
-        match decode(&s[i..]) {
-            Decoded::Character(c, n) => {
-                if !is_char(c) {
-                    return false;
-                }
-                i += n;
+        if is_plain(s[i]) {
+            i += 1;
+        } else {
+            let n = text_char(&s[i..]);
+            if n == 0 {
+                return false;
             }
-            Decoded::End => return true,
-            Decoded::Malformed => return false,
+            i += n;
         }
     }
     true
@@ -175,20 +179,11 @@ pub fn is_text(s: &[u8]) -> bool
 pub fn is_nc_name(s: &[u8]) -> bool
     ensures { λ r. ⌜ r ≡ isNCName (now (s .entry)) ⌝ }
 {
-    match decode(s) {
-        Decoded::Character(c, n) => {
-            if c == 0x3A {
-                return false;
-            }
-            if is_name_start_char(c) {
-                is_nc_rest(&s[n..])
-            } else {
-                false
-            }
-        }
-        Decoded::End => false,
-        Decoded::Malformed => false,
+    let n = nc_start(s);
+    if n == 0 {
+        return false;
     }
+    is_nc_rest(&s[n..])
 }
 
 // NCName or NCName:NCName, and where the colon is.
@@ -268,17 +263,6 @@ fn sequence(s: &[u8], n: usize, bits: u32, low: u32) -> Decoded
     }
 }
 
-// A name character, by the table: lent, so that a loop lays it out once.
-fn goes_on_name(bounds: &[u32], c: u32) -> bool
-    requires { ⌜ now bounds ≡ table ⌝ }
-    ensures { λ r. ⌜ r ≡ isNameChar c ⌝ }
-{
-    if in_ranges(bounds, c, 0, 16) {
-        return true;
-    }
-    in_ranges(bounds, c, 16, 22)
-}
-
 // Is a character in one of the ranges from one up to another? They ascend, so the first that begins above it ends the search.
 fn in_ranges(bounds: &[u32], c: u32, from: usize, to: usize) -> bool
     requires { ⌜ to * 2 ≤ length (now bounds) ⌝ }
@@ -298,28 +282,138 @@ fn in_ranges(bounds: &[u32], c: u32, from: usize, to: usize) -> bool
     false
 }
 
+// How many bytes stand at the front in blocks of eight plain ones.
+fn skip_plain(s: &[u8]) -> usize
+    ensures { λ r. ⌜ Walked (asCharacters (every isChar)) (now (s .entry)) r ⌝ }
+{
+    let mut i = 0;
+    while 8 <= s.len() - i {
+        let end = i + 8;
+        if !is_plain_block(&s[i..end]) {
+            return i;
+        }
+        i = end;
+    }
+    i
+}
+
+// Are eight bytes plain? No branch inside the loop, so that the eight are tested at once.
+fn is_plain_block(block: &[u8]) -> bool
+    requires { ⌜ length (now block) ≡ 8 ⌝ }
+    ensures { λ r. ⌜ r ≡ every plainText (now (block .entry)) ⌝ }
+{
+    let mut all = true;
+    let mut j = 0;
+    while j < 8 {
+        all = all & is_plain(block[j]);
+        j += 1;
+    }
+    all
+}
+
+// ASCII, and no control character but LF.
+fn is_plain(b: u8) -> bool
+    ensures { λ r. ⌜ r ≡ plainText b ⌝ }
+{
+    ((32 <= b) & (b < 128)) | (b == 10)
+}
+
+// How many bytes the first character has, or 0 where it is none of XML's.
+fn text_char(s: &[u8]) -> usize
+    requires { ⌜ 0 < length (now s) ⌝ }
+    ensures { λ r. ⌜ Steps (asCharacters (every isChar)) (asCharacters (every isChar)) r (now (s .entry)) ⌝ }
+{
+    match decode(s) {
+        Decoded::Character(c, n) => {
+            if is_char(c) {
+                return n;
+            }
+            0
+        }
+        Decoded::End => 0,
+        Decoded::Malformed => 0,
+    }
+}
+
+// How many bytes the first character has, or 0 where none may start an NCName.
+fn nc_start(s: &[u8]) -> usize
+    ensures { λ r. ⌜ Steps isNCName isNCRest r (now (s .entry)) ⌝ }
+{
+    if s.len() == 0 {
+        return 0;
+    }
+    if is_plain_start(s[0]) {
+        return 1;
+    }
+    match decode(s) {
+        Decoded::Character(c, n) => {
+            if c == 0x3A {
+                return 0;
+            }
+            if is_name_start_char(c) {
+                return n;
+            }
+            0
+        }
+        Decoded::End => 0,
+        Decoded::Malformed => 0,
+    }
+}
+
 // Name characters other than the colon, and nothing else.
 fn is_nc_rest(s: &[u8]) -> bool
     ensures { λ r. ⌜ r ≡ isNCRest (now (s .entry)) ⌝ }
 {
-    let bounds = NAME_RANGES;
     let mut i = 0;
     while i < s.len() {
-        match decode(&s[i..]) {
-            Decoded::Character(c, n) => {
-                if c == 0x3A {
-                    return false;
-                }
-                if !goes_on_name(&bounds, c) {
-                    return false;
-                }
-                i += n;
+        if is_plain_name(s[i]) {
+            i += 1;
+        } else {
+            let n = nc_char(&s[i..]);
+            if n == 0 {
+                return false;
             }
-            Decoded::End => return true,
-            Decoded::Malformed => return false,
+            i += n;
         }
     }
     true
+}
+
+// How many bytes the first character has, or 0 where it may not go on with an NCName.
+fn nc_char(s: &[u8]) -> usize
+    requires { ⌜ 0 < length (now s) ⌝ }
+    ensures { λ r. ⌜ Steps isNCRest isNCRest r (now (s .entry)) ⌝ }
+{
+    match decode(s) {
+        Decoded::Character(c, n) => {
+            if c == 0x3A {
+                return 0;
+            }
+            if is_name_char(c) {
+                return n;
+            }
+            0
+        }
+        Decoded::End => 0,
+        Decoded::Malformed => 0,
+    }
+}
+
+// In ASCII, what may start an NCName by the table: a letter or `_`.
+fn is_plain_start(b: u8) -> bool
+    ensures { λ r. ⌜ r ≡ plain startsNC b ⌝ }
+{
+    ((97 <= b) & (b <= 122)) | ((65 <= b) & (b <= 90)) | (b == 95)
+}
+
+// In ASCII, what may go on with an NCName by the table: a letter, digit, `-`, `.` or `_`. Small letters first, being the most.
+fn is_plain_name(b: u8) -> bool
+    ensures { λ r. ⌜ r ≡ plain goesOnNC b ⌝ }
+{
+    if (97 <= b) & (b <= 122) {
+        return true;
+    }
+    is_plain_start(b) | ((48 <= b) & (b <= 57)) | (b == 45) | (b == 46)
 }
 
 // How many bytes stand before the first colon.

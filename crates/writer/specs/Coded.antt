@@ -1,16 +1,18 @@
 -- A text written byte by byte, in runs: bytes that are written as they are go together.
-use Prim.Native.Nat.{ℕ, _+_, _-_, _<_, _≤_}
+use Prim.Native.Nat.{ℕ, suc, _+_, _-_, _<_, _≤_}
 use mathlib.Core.Path.{_≡_, refl, sym, _∙_}
 use mathlib.Core.Bool.{Bool, false, _||_}
 use mathlib.Core.List.{List, [], _∷_, _++_, append-assoc, append-nil}
+use mathlib.Core.Logic.{⊎-elim}
 use native.Mathlib.Numerals.{add-one}
+use native.Mathlib.Nat.{eq-or-lt-of-le}
 use native.Mathlib.Omega.{arith}
 use lib.ListN.{length, take, drop, getD, length-drop}
 use lib.Seq.{take-suc, take-length, take-add}
 use Rattle.spec.specs.Bytes.{Bytes}
 use Rattle.spec.specs.NTriples.{coded}
 use Rattle.copy.specs.Copy.{rest-of}
-use Rattle.writer.specs.Put.{Put, puts, put-as}
+use Rattle.writer.specs.Put.{most, Put, puts, put-as, put-none, compare}
 use Rattle.writer.specs.Words.{neither}
 
 module _ (w : ℕ → Bytes) where
@@ -73,21 +75,42 @@ going-done {w} {on} {b} {d} {e} {a} {at} {to} {j} {i} {s} h p g l =
 pub going-less : {l i : ℕ} (n : ℕ) → i < l → l - (i + 1 + n) < l - i
 going-less n h = omega arith
 
--- ---- the test of a whole text: unless one was marked, the first `i` bytes are written as they are
+-- ---- the test of a whole text: unless one was marked, the bytes from `a` up to `b` are written as they are
 
-pub record Clean (w : ℕ → Bytes) (s : Bytes) (i : ℕ) (marked : Bool) : Type 0 where
-  pub upto : i ≤ length s
-  pub eq : marked ≡ false → Plain w s i
+pub record Clean (w : ℕ → Bytes) (s : Bytes) (a b : ℕ) (marked : Bool) : Type 0 where
+  pub eq : marked ≡ false → (k : ℕ) → a ≤ k → k < b → w (getD s k 0) ≡ getD s k 0 ∷ []
 
-pub clean-begins : {w : ℕ → Bytes} {s : Bytes} → Clean w s 0 false
-clean-begins = record { upto = omega arith; eq = λ h. plain-begins }
+pub clean-none : {w : ℕ → Bytes} {s : Bytes} {a : ℕ} {m : Bool} → Clean w s a a m
+clean-none = record { eq = λ n k l h. absurd (omega arith) }
 
-pub clean-more : {w : ℕ → Bytes} {s : Bytes} {i : ℕ} {m r : Bool} → Clean w s i m → i < length s → (r ≡ false → w (getD s i 0) ≡ getD s i 0 ∷ []) → Clean w s (i + 1) (m || r)
-clean-more {w} {s} {i} {m} {r} h b e =
-    record { upto = omega arith; eq = λ n. plain-more (h .eq (neither m r n .0)) b (e (neither m r n .1)) }
+pub clean-more : {w : ℕ → Bytes} {s : Bytes} {a i : ℕ} {m r : Bool} → Clean w s a i m → (r ≡ false → w (getD s i 0) ≡ getD s i 0 ∷ []) → Clean w s a (i + 1) (m || r)
+clean-more {w} {s} {a} {i} {m} {r} h e =
+    record {
+      eq = λ n k l b.
+          ⊎-elim
+          (λ (x : k ≡ i). rw x (e (neither m r n .1)))
+          (λ (x : k < i). h .eq (neither m r n .0) k l x)
+          (eq-or-lt-of-le (omega arith));
+    }
 
-pub clean-done : {w : ℕ → Bytes} {s : Bytes} {i : ℕ} {m : Bool} → Clean w s i m → length s ≤ i → m ≡ false → coded w s ≡ s
-clean-done {w} {s} {i} {m} h b n =
-    let q : i ≡ length s = omega arith in
-    let p : coded w (take i s) ≡ take i s = h .eq n .eq in
-    rw (q, take-length s) at p
+pub clean-less : {w : ℕ → Bytes} {s : Bytes} {a b i : ℕ} {m : Bool} → Clean w s a i m → b ≤ i → Clean w s a b m
+clean-less h l = record { eq = λ n k x y. h .eq n k x (omega arith) }
+
+-- none up to `b`, none from `d` on
+pub clean-join : {w : ℕ → Bytes} {s : Bytes} {a b d e : ℕ} {r : Bool} → Clean w s a b false → d ≤ b → Clean w s d e r → r ≡ false → Clean w s a e false
+clean-join {w} {s} {a} {b} {d} {e} {r} f l g n =
+    record { eq = λ q k h j. ⊎-elim (λ (x : b ≤ k). g .eq n k (omega arith) j) (λ (x : k < b). f .eq q k h x) (compare b k) }
+
+pub clean-whole : {w : ℕ → Bytes} (s : Bytes) {m : Bool} → Clean w s 0 (length s) m → m ≡ false → coded w s ≡ s
+unfolding coded
+clean-whole {w} s c n = go s (λ k h. c .eq n k (omega arith) h)
+  where
+    go : (s : Bytes) → ((k : ℕ) → k < length s → w (getD s k 0) ≡ getD s k 0 ∷ []) → coded w s ≡ s
+    go [] h = refl
+    go (b ∷ s) h = rw (h 0 (omega arith), go s (λ k l. h (suc k) (omega arith)))
+
+-- nothing to code, nothing written
+pub coded-none : (w : ℕ → Bytes) {on : Bool} {d : List ℕ} (s : Bytes) {at : ℕ} → length s ≡ 0 → at ≤ most → Put on d d at at (coded w s)
+unfolding coded
+coded-none w [] e h = put-none h
+coded-none w (x ∷ s) e h = absurd (omega (arith, e))

@@ -9,7 +9,7 @@ use native.Mathlib.Omega.{arith}
 use lib.Dec.{leb}
 use lib.ListN.{length, take, drop, length-append, length-take, length-drop, take-append-drop, drop-of-length-le}
 use lib.Seq.{take-all, take-nil, drop-drop, take-append-le, take-append-add}
-use borrow.Author.Tests.{leb-true, leb-false, le-leb, lt-leb}
+use borrow.Author.Tests.{leb-true, leb-false}
 use Rattle.copy.specs.Copy.{storedAt, length-stored, stored-stored, take-before, rest-of, lent-back, rest-within, Wrote, wrote-same}
 
 -- the largest number that a usize counts to
@@ -46,7 +46,7 @@ pub counted-below : (at n : ℕ) → counted at n < most → counted at n ≡ at
 counted-below at n h = omega arith
 
 -- one way or the other
-compare : (a b : ℕ) → (a ≤ b) ⊎ (b < a)
+pub compare : (a b : ℕ) → (a ≤ b) ⊎ (b < a)
 compare a b = go (leb a b) refl
   where
     go : (t : Bool) → leb a b ≡ t → (a ≤ b) ⊎ (b < a)
@@ -178,16 +178,6 @@ put-part {on} {d} {e} {s} {at} t l u w =
 -- a count below `most` is exact
 pub put-counts : {on : Bool} {d e s : List ℕ} {at to : ℕ} → Put on d e at to s → to < most → to ≡ at + length s
 put-counts p h = omega (arith, p .up)
-
--- so a count tells whether there is room: a slice is shorter than `most`
-pub put-decides : {on : Bool} {d e s : List ℕ} {at to : ℕ} → Put on d e at to s → (room : ℕ) → room < most → leb to room ≡ leb (at + length s) room
-put-decides {on} {d} {e} {s} {at} {to} p room h = ⊎-elim fits exceeds (compare (at + length s) room)
-  where
-    fits : at + length s ≤ room → leb to room ≡ leb (at + length s) room
-    fits l = le-leb to room (omega (arith, p .up)) ∙ sym (le-leb (at + length s) room l)
-
-    exceeds : room < at + length s → leb to room ≡ leb (at + length s) room
-    exceeds l = lt-leb to room (omega (arith, p .up)) ∙ sym (lt-leb (at + length s) room l)
 
 -- off, it leaves everything
 pub put-measures : {on : Bool} {d e s : List ℕ} {at to : ℕ} → Put on d e at to s → on ≡ false → e ≡ d

@@ -1,6 +1,6 @@
 -- The words that bytes are written as: which bytes stand for themselves, and when an IRI may not hold one.
 use Prim.Native.Nat.{ℕ, _≤_, _<_, _/_, _%_}
-use mathlib.Core.Path.{_≡_, refl, sym}
+use mathlib.Core.Path.{_≡_, refl, sym, _∙_}
 use mathlib.Core.Bool.{Bool, true, false, _||_, false≢true}
 use mathlib.Core.List.{List, [], _∷_}
 use mathlib.Core.Logic.{_⊎_, inl, inr, ⊎-elim}
@@ -8,6 +8,7 @@ use native.Mathlib.Nat.{eq-or-lt-of-le}
 use native.Mathlib.Omega.{arith}
 use types.Run.{OneOf}
 use lib.Dec.{eqb, leb}
+use lib.Bits.{bitAnd}
 use borrow.Author.Tests.{ne-eqb, le-leb, lt-leb, leb-false, eqb-false}
 use Rattle.spec.specs.Bytes.{ascii, byte, if_then_else_, among, every}
 use Rattle.spec.specs.NTriples.{literalByte, iriByte, hexDigit, forbidden}
@@ -93,28 +94,14 @@ literal-unmarked c h =
     let low : 13 < c = leb-false c 13 (a .0) in
     literal-same (eqb-false c 34 (a .1)) (eqb-false c 92 (b .1)) (λ x. omega arith) (λ x. omega arith)
 
-none-of : {c : ℕ} → (c ≡ 34 → ⊥) → (c ≡ 60 → ⊥) → (c ≡ 62 → ⊥) → (c ≡ 92 → ⊥) → (c ≡ 94 → ⊥) → (c ≡ 96 → ⊥) → OneOf (34 ∷ 60 ∷ 62 ∷ 92 ∷ 94 ∷ 96 ∷ []) c → ⊥
-none-of a b d e f g (inl x) = a x
-none-of a b d e f g (inr (inl x)) = b x
-none-of a b d e f g (inr (inr (inl x))) = d x
-none-of a b d e f g (inr (inr (inr (inl x)))) = e x
-none-of a b d e f g (inr (inr (inr (inr (inl x))))) = f x
-none-of a b d e f g (inr (inr (inr (inr (inr x))))) = g x
+-- a mask takes four marks at once
+iriMarked : ℕ → Bool
+iriMarked c = ((eqb (bitAnd c 157) 28 || eqb c 96) || leb c 34) || leb 123 c
 
-pub iri-unmarked : (c : ℕ) → ((((((leb c 34 || eqb c 60) || eqb c 62) || eqb c 92) || eqb c 94) || eqb c 96) || leb 123 c) ≡ false → iriByte c ≡ c ∷ []
+pub iri-unmarked : (c : ℕ) → (((eqb (bitAnd c 157) 28 || eqb c 96) || leb c 34) || leb 123 c) ≡ false → iriByte c ≡ c ∷ []
+unfolding iriMarked every
 iri-unmarked c h =
-    let g : (((((leb c 34 || eqb c 60) || eqb c 62) || eqb c 92) || eqb c 94) || eqb c 96 ≡ false) × (leb 123 c ≡ false) =
-    neither (((((leb c 34 || eqb c 60) || eqb c 62) || eqb c 92) || eqb c 94) || eqb c 96) (leb 123 c) h in
-    let f : ((((leb c 34 || eqb c 60) || eqb c 62) || eqb c 92) || eqb c 94 ≡ false) × (eqb c 96 ≡ false) =
-    neither ((((leb c 34 || eqb c 60) || eqb c 62) || eqb c 92) || eqb c 94) (eqb c 96) (g .0) in
-    let e : (((leb c 34 || eqb c 60) || eqb c 62) || eqb c 92 ≡ false) × (eqb c 94 ≡ false) =
-    neither (((leb c 34 || eqb c 60) || eqb c 62) || eqb c 92) (eqb c 94) (f .0) in
-    let d : ((leb c 34 || eqb c 60) || eqb c 62 ≡ false) × (eqb c 92 ≡ false) = neither ((leb c 34 || eqb c 60) || eqb c 62) (eqb c 92) (e .0) in
-    let b : (leb c 34 || eqb c 60 ≡ false) × (eqb c 62 ≡ false) = neither (leb c 34 || eqb c 60) (eqb c 62) (d .0) in
-    let a : (leb c 34 ≡ false) × (eqb c 60 ≡ false) = neither (leb c 34) (eqb c 60) (b .0) in
-    let low : 34 < c = leb-false c 34 (a .0) in
-    let high : c < 123 = leb-false 123 c (g .1) in
-    iri-same
-    (allowed (omega arith)
-    (none-of (λ x. omega arith) (eqb-false c 60 (a .1)) (eqb-false c 62 (b .1)) (eqb-false c 92 (d .1)) (eqb-false c 94 (e .1)) (eqb-false c 96 (f .1)))
-    (inl high))
+    let d : ((eqb (bitAnd c 157) 28 || eqb c 96) || leb c 34 ≡ false) × (leb 123 c ≡ false) = neither ((eqb (bitAnd c 157) 28 || eqb c 96) || leb c 34) (leb 123 c) h in
+    let low : 34 < c = leb-false c 34 (neither (eqb (bitAnd c 157) 28 || eqb c 96) (leb c 34) (d .0) .1) in
+    let high : c < 123 = leb-false 123 c (d .1) in
+    iri-same (allowed (omega arith) (λ m. false≢true (sym h ∙ one-of iriMarked 34 (60 ∷ 62 ∷ 92 ∷ 94 ∷ 96 ∷ []) c refl m)) (inl high))

@@ -9,6 +9,15 @@ pub mod iriref;
 pub mod quoted;
 pub mod value;
 
+// Whether a text has room, and how many bytes of it were written.
+pub struct Said {
+    pub fits: bool,
+    pub written: usize,
+}
+
+// The bytes of a draft: most texts have room there, and one that has is counted and written in one pass.
+pub const DRAFT: usize = 1024;
+
 // The largest count.
 pub const MOST: usize = 18_446_744_073_709_551_615;
 

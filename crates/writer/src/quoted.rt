@@ -2,31 +2,56 @@
 ghost use mathlib.Core.Path.{_≡_};
 ghost use mathlib.Core.Bool.{true, false};
 ghost use mathlib.Core.List.{[], _∷_};
+ghost use Prim.Native.Nat.{_≤_};
+ghost use lib.ListN.{length};
 ghost use Rattle.spec.specs.NTriples.{coded};
 ghost use Rattle.spec.specs.NTriples.{literalByte};
 ghost use Rattle.writer.specs.Put.{Put};
-ghost use Rattle.writer.specs.Coded.{Plain};
+ghost use Rattle.writer.specs.Coded.{Plain, Clean};
 
 pub fn write(out: &mut [u8], at: usize, on: bool, s: &[u8]) -> usize
     ensures { λ r. ⌜ Put on (now (out .entry)) (now (out .exit)) at r (coded literalByte (now (s .entry))) ⌝ }
 {
+    if s.len() == 0 {
+        return at;
+    }
     if is_plain(s) {
         return crate::bytes(out, at, on, s);
     }
     runs(out, at, on, s)
 }
 
-// Is all of it surely written as it is? Most texts are; the loop has no branch, so that many bytes are tested at once.
+// Is all of it surely written as it is? Most texts are. The last sixteen bytes may begin among those tested before them.
 fn is_plain(s: &[u8]) -> bool
     ensures { λ r. ⌜ (r ≡ true → coded literalByte (now (s .entry)) ≡ now (s .entry)) ⌝ }
 {
-    let mut marked = false;
+    if s.len() < 16 {
+        return !has_marked(s, 0, s.len());
+    }
+    let last = s.len() - 16;
     let mut i = 0;
-    while i < s.len() {
+    while i < last {
+        let end = i + 16;
+        if has_marked(s, i, end) {
+            return false;
+        }
+        i = end;
+    }
+    !has_marked(s, last, s.len())
+}
+
+// Is one marked? The loop has no branch, so that sixteen bytes are tested at once.
+fn has_marked(s: &[u8], from: usize, to: usize) -> bool
+    requires { ⌜ to ≤ length (now s) ⌝ }
+    ensures { λ r. ⌜ Clean literalByte (now (s .entry)) from to r ⌝ }
+{
+    let mut marked = false;
+    let mut i = from;
+    while i < to {
         marked = marked | is_marked(s[i]);
         i += 1;
     }
-    !marked
+    marked
 }
 
 // Coarser than `plain`: a test less.

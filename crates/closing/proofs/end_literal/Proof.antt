@@ -1,6 +1,7 @@
 -- `closing::end_literal` meets its contract. Measured, and then written: one law of specs/ for each return.
 use mathlib.Core.Path.{refl, sym, _∙_}
 use Rattle.state.specs.Tests.{yes, no}
+use Rattle.writer.specs.Said.{says-not, says-all}
 use Rattle.closing.specs.Ends.{tells-over, tells-full, tells-done}
 use Rattle.closing.specs.Kinds.{literal-tells, literal-empty, empty-is, empty-not}
 use native.Mathlib.Omega.{arith}
@@ -36,7 +37,7 @@ same-length : tie.Need-same-length
 same-length c = search needs
 
 returns-3 : tie.Need-returns-3
-returns-3 c = tells-full (literal-tells (c .before .before .before .before .before .before .before .before .before .pop .ensures) (c .before .before .before .before .before .before .before .before .before .before .before .before .top .ensures) (c .before .before .before .before .before .before .before .top2 .ensures) (empty-not _ (λ z. c .before .before .before .before .before .before .before .before .before .before .if1 .left (c .before .before .before .before .before .before .before .before .before .before .before .tail-size .ensures ∙ z)))) (yes (c .before .before .before .before .before .before .holds-no-more .ensures) (c .before .before .before .before .before .if2 .left)) (c .before .before .before .literal-lines .ensures) refl (omega arith) (omega arith)
+returns-3 c = tells-full (literal-tells (c .before .before .before .before .before .before .before .before .before .pop .ensures) (c .before .before .before .before .before .before .before .before .before .before .before .before .top .ensures) (c .before .before .before .before .before .before .before .top2 .ensures) (empty-not _ (λ z. c .before .before .before .before .before .before .before .before .before .before .if1 .left (c .before .before .before .before .before .before .before .before .before .before .before .tail-size .ensures ∙ z)))) (yes (c .before .before .before .before .before .before .holds-no-more .ensures) (c .before .before .before .before .before .if2 .left)) (says-not (c .before .before .before .literal-lines .ensures) refl (omega arith) (omega arith)) refl
 
 literal-lines-requires-2 : tie.Need-literal-lines-requires-2
 literal-lines-requires-2 c κs = search needs
@@ -45,7 +46,7 @@ same-length-2 : tie.Need-same-length-2
 same-length-2 c = search needs
 
 returns-4 : tie.Need-returns-4
-returns-4 c = tells-done (literal-tells (c .before .before .before .before .before .before .before .before .before .before .before .before .before .pop .ensures) (c .before .before .before .before .before .before .before .before .before .before .before .before .before .before .before .before .top .ensures) (c .before .before .before .before .before .before .before .before .before .before .before .top2 .ensures) (empty-not _ (λ z. c .before .before .before .before .before .before .before .before .before .before .before .before .before .before .if1 .left (c .before .before .before .before .before .before .before .before .before .before .before .before .before .before .before .tail-size .ensures ∙ z)))) (yes (c .before .before .before .before .before .before .before .before .before .before .holds-no-more .ensures) (c .before .before .before .before .before .before .before .before .before .if2 .left)) (c .before .before .before .before .before .before .before .literal-lines .ensures) refl (omega (arith, c .before .before .before .before .before .before .before .before .before .before .before .before .before .before .before .before .before .before .before .before .good)) (c .before .before .literal-lines2 .ensures) refl (omega arith)
+returns-4 c = tells-done (literal-tells (c .before .before .before .before .before .before .before .before .before .before .before .before .before .pop .ensures) (c .before .before .before .before .before .before .before .before .before .before .before .before .before .before .before .before .top .ensures) (c .before .before .before .before .before .before .before .before .before .before .before .top2 .ensures) (empty-not _ (λ z. c .before .before .before .before .before .before .before .before .before .before .before .before .before .before .if1 .left (c .before .before .before .before .before .before .before .before .before .before .before .before .before .before .before .tail-size .ensures ∙ z)))) (yes (c .before .before .before .before .before .before .before .before .before .before .holds-no-more .ensures) (c .before .before .before .before .before .before .before .before .before .if2 .left)) (says-all (c .before .before .before .before .before .before .before .literal-lines .ensures) refl (omega (arith, c .before .before .before .before .before .before .before .before .before .before .before .before .before .before .before .before .before .before .before .before .good)) (c .before .before .literal-lines2 .ensures) refl (omega arith)) refl
 
 pub end-literal-spec : {M : Type 1} → statement M
 end-literal-spec =

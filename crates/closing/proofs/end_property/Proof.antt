@@ -1,9 +1,8 @@
--- `closing::end_property` meets its contract. Measured, and then written: one law of specs/ for each return.
-use mathlib.Core.Path.{refl}
+-- `closing::end_property` meets its contract. Written where all of it has room: one law of specs/ for each return.
+use borrow.Author.Tests.{not-true, not-false}
 use Rattle.state.specs.Tests.{yes, no}
 use Rattle.closing.specs.Ends.{tells-over, tells-full, tells-done}
 use Rattle.closing.specs.Kinds.{property-tells}
-use native.Mathlib.Omega.{arith}
 use borrow.Author.Needs.{needs}
 use Rattle.closing.proofs.end_property.Statement.{statement}
 use Rattle.closing.proofs.end_property.Tie as tie
@@ -26,23 +25,20 @@ holds-no-more-requires c κs = search needs
 returns : tie.Need-returns
 returns c = tells-over (property-tells (c .before .before .before .before .before .pop .ensures) (c .before .before .before .before .before .before .top .ensures) (c .before .before .before .top2 .ensures) (c .before .before .language-in-force .ensures)) (no (c .before .holds-no-more .ensures) (c .if1 .taken))
 
-property-lines-requires : tie.Need-property-lines-requires
-property-lines-requires c κs = search needs
+say-property-requires : tie.Need-say-property-requires
+say-property-requires c κs = search needs
 
 same-length : tie.Need-same-length
 same-length c = search needs
 
 returns-2 : tie.Need-returns-2
-returns-2 c = tells-full (property-tells (c .before .before .before .before .before .before .before .before .before .before .pop .ensures) (c .before .before .before .before .before .before .before .before .before .before .before .top .ensures) (c .before .before .before .before .before .before .before .before .top2 .ensures) (c .before .before .before .before .before .before .before .language-in-force .ensures)) (yes (c .before .before .before .before .before .before .holds-no-more .ensures) (c .before .before .before .before .before .if1 .left)) (c .before .before .before .property-lines .ensures) refl (omega arith) (omega arith)
-
-property-lines-requires-2 : tie.Need-property-lines-requires-2
-property-lines-requires-2 c κs = search needs
+returns-2 c = tells-full (property-tells (c .before .before .before .before .before .before .before .before .before .before .before .pop .ensures) (c .before .before .before .before .before .before .before .before .before .before .before .before .top .ensures) (c .before .before .before .before .before .before .before .before .before .top2 .ensures) (c .before .before .before .before .before .before .before .before .language-in-force .ensures)) (yes (c .before .before .before .before .before .before .before .holds-no-more .ensures) (c .before .before .before .before .before .before .if1 .left)) (c .before .before .before .before .say-property .ensures) (not-true _ (c .if2 .taken))
 
 same-length-2 : tie.Need-same-length-2
 same-length-2 c = search needs
 
 returns-3 : tie.Need-returns-3
-returns-3 c = tells-done (property-tells (c .before .before .before .before .before .before .before .before .before .before .before .before .before .before .pop .ensures) (c .before .before .before .before .before .before .before .before .before .before .before .before .before .before .before .top .ensures) (c .before .before .before .before .before .before .before .before .before .before .before .before .top2 .ensures) (c .before .before .before .before .before .before .before .before .before .before .before .language-in-force .ensures)) (yes (c .before .before .before .before .before .before .before .before .before .before .holds-no-more .ensures) (c .before .before .before .before .before .before .before .before .before .if1 .left)) (c .before .before .before .before .before .before .before .property-lines .ensures) refl (omega (arith, c .before .before .before .before .before .before .before .before .before .before .before .before .before .before .before .before .before .before .before .good)) (c .before .before .property-lines2 .ensures) refl (omega arith)
+returns-3 c = tells-done (property-tells (c .before .before .before .before .before .before .before .before .before .before .before .pop .ensures) (c .before .before .before .before .before .before .before .before .before .before .before .before .top .ensures) (c .before .before .before .before .before .before .before .before .before .top2 .ensures) (c .before .before .before .before .before .before .before .before .language-in-force .ensures)) (yes (c .before .before .before .before .before .before .before .holds-no-more .ensures) (c .before .before .before .before .before .before .if1 .left)) (c .before .before .before .before .say-property .ensures) (not-false _ (c .if2 .left))
 
 pub end-property-spec : {M : Type 1} → statement M
 end-property-spec =
@@ -54,9 +50,8 @@ end-property-spec =
     language-in-force-requires
     holds-no-more-requires
     returns
-    property-lines-requires
+    say-property-requires
     same-length
     returns-2
-    property-lines-requires-2
     same-length-2
     returns-3)

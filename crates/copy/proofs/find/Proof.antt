@@ -3,7 +3,7 @@ use Prim.Native.Nat.{_-_}
 use lib.ListN.{length}
 use lib.Dec.{eqb}
 use borrow.Author.Tests.{eq-eqb, ne-eqb}
-use Rattle.copy.specs.Scan.{Sought, sought-begins, sought-stop, sought-more, sought-done}
+use Rattle.copy.specs.Scan.{Sought, sought-stop, sought-more, sought-done}
 use native.Mathlib.Omega.{arith}
 use borrow.Author.Needs.{needs}
 use Rattle.copy.proofs.find.Statement.{statement}
@@ -15,8 +15,11 @@ Inv-loop s b i₀ i = Sought (λ c. eqb c b) s i
 abbrev μ-loop : tie.MeasureT-loop
 μ-loop s b i₀ i = length s - i
 
+skip-blocks-requires : tie.Need-skip-blocks-requires Inv-loop μ-loop
+skip-blocks-requires c κs = search needs
+
 loop-holds : tie.Need-loop-holds Inv-loop μ-loop
-loop-holds c = sought-begins
+loop-holds c = c .skip-blocks .ensures
 
 shared-slice-read-if1 : tie.Need-shared-slice-read-if1 Inv-loop μ-loop
 shared-slice-read-if1 c = search needs
@@ -42,6 +45,7 @@ find-spec =
     (tie.spec
     Inv-loop
     μ-loop
+    skip-blocks-requires
     loop-holds
     shared-slice-read-if1
     returns

@@ -1,7 +1,6 @@
 -- `judging::judge_node` meets its contract.
-use Rattle.judging.specs.Nodes.{node-refused, node-long, node-left, node-judged, limit-asks}
+use Rattle.judging.specs.Nodes.{node-refused, node-long, node-left, node-judged}
 use borrow.Author.Tests.{not-true, not-false}
-use native.Mathlib.Omega.{arith}
 use borrow.Author.Needs.{needs}
 use Rattle.judging.proofs.judge_node.Statement.{statement}
 use Rattle.judging.proofs.judge_node.Tie as tie
@@ -39,9 +38,6 @@ returns c = node-long (c .before .before .before .before .before .before .before
 make-node-requires : tie.Need-make-node-requires
 make-node-requires c κs = ((c .before .before .before .before .before .before .before .before .before .before .before .before .before .before .before .before .pre), node-left (c .before .before .before .before .before .judge-node .ensures) (c .before .before .before .enum-told .given .1))
 
-limited-requires : tie.Need-limited-requires
-limited-requires c κs = limit-asks (c .before .before .before .before .before .before .before .before .before .before .before .before .before .before .before .before .before .before .before .before .pre) (c .before .before .before .make-node .ensures)
-
 same-length-2 : tie.Need-same-length-2
 same-length-2 c = search needs
 
@@ -52,7 +48,7 @@ same-length-3 : tie.Need-same-length-3
 same-length-3 c = search needs
 
 returns-3 : tie.Need-returns-3
-returns-3 c = node-judged (c .before .before .before .before .before .before .before .before .before .before .before .before .before .before .before .before .iri-text .ensures) (c .before .before .before .before .before .before .before .before .before .before .before .before .before .before .before .is-reserved-node .ensures) (c .before .before .before .before .before .before .before .before .before .before .before .before .before .before .is-description .ensures) (c .before .before .before .before .before .before .before .before .before .before .before .before .before .is-missing .ensures) (c .before .before .before .before .before .before .before .before .before .before .before .before .is-missing2 .ensures) (c .before .before .before .before .before .before .before .before .before .before .judge-node .ensures) (c .before .before .before .before .before .before .before .before .enum-told .given .1) (not-false _ (c .before .before .before .before .before .before .if1 .left)) (c .before .before .before .before .before .before .before .before .before .before .before .before .before .before .before .before .before .before .before .before .before .pre) (c .before .before .before .before .make-node .ensures) (c .limited .ensures)
+returns-3 c = node-judged (c .before .before .before .before .before .before .before .before .before .before .before .before .before .before .iri-text .ensures) (c .before .before .before .before .before .before .before .before .before .before .before .before .before .is-reserved-node .ensures) (c .before .before .before .before .before .before .before .before .before .before .before .before .is-description .ensures) (c .before .before .before .before .before .before .before .before .before .before .before .is-missing .ensures) (c .before .before .before .before .before .before .before .before .before .before .is-missing2 .ensures) (c .before .before .before .before .before .before .before .before .judge-node .ensures) (c .before .before .before .before .before .before .enum-told .given .1) (not-false _ (c .before .before .before .before .if1 .left)) (c .before .before .before .before .before .before .before .before .before .before .before .before .before .before .before .before .before .before .before .pre) (c .before .before .make-node .ensures)
 
 pub judge-node-spec : {M : Type 1} → statement M
 judge-node-spec =
@@ -69,7 +65,6 @@ judge-node-spec =
     same-length
     returns
     make-node-requires
-    limited-requires
     same-length-2
     returns-2
     same-length-3

@@ -1,9 +1,8 @@
 -- `judging::judge_property` meets its contract.
-use Rattle.judging.specs.Properties.{property-refused, property-long, property-judged, limit-asks, parse-read, both-left}
-use Rattle.state.specs.Meaning.{count}
 use mathlib.Core.Path.{ap}
+use Rattle.state.specs.Meaning.{count}
+use Rattle.judging.specs.Properties.{property-refused, property-long, property-judged, parse-read, both-left}
 use borrow.Author.Tests.{not-true, not-false}
-use native.Mathlib.Omega.{arith}
 use borrow.Author.Needs.{needs}
 use Rattle.judging.proofs.judge_property.Statement.{statement}
 use Rattle.judging.proofs.judge_property.Tie as tie
@@ -25,9 +24,6 @@ is-reserved-property-requires c κs = search needs
 
 is-li-requires : tie.Need-is-li-requires
 is-li-requires c κs = search needs
-
-is-description-requires : tie.Need-is-description-requires
-is-description-requires c κs = search needs
 
 value-of-requires : tie.Need-value-of-requires
 value-of-requires c κs = search needs
@@ -51,28 +47,25 @@ same-length : tie.Need-same-length
 same-length c = search needs
 
 returns : tie.Need-returns
-returns c = property-long (c .before .before .before .before .before .before .before .before .before .before .before .before .before .iri-text .ensures) (c .before .before .before .before .before .before .before .before .before .before .before .before .is-reserved-property .ensures) (c .before .before .before .before .before .before .before .before .before .before .before .is-li .ensures) (c .before .before .before .before .before .before .before .before .before .before .is-description .ensures) (c .before .before .before .before .before .before .is-missing .ensures) (parse-read _ _ _ _ (c .before .before .before .before .before .before .before .parse-type-of .ensures) (c .before .before .before .before .before .before .before .before .value-of .ensures)) (ap count (c .before .before .before .before .before .before .before .before .before .before .before .before .before .before .before .before .top .ensures)) (c .before .before .before .before .judge-property .ensures) (c .before .before .enum-told .given .1) (not-true _ (c .if1 .taken))
+returns c = property-long (c .before .before .before .before .before .before .before .before .before .before .before .before .iri-text .ensures) (c .before .before .before .before .before .before .before .before .before .before .before .is-reserved-property .ensures) (c .before .before .before .before .before .before .before .before .before .before .is-li .ensures) (c .before .before .before .before .before .before .is-missing .ensures) (parse-read _ _ _ _ (c .before .before .before .before .before .before .before .parse-type-of .ensures) (c .before .before .before .before .before .before .before .before .value-of .ensures)) (ap count (c .before .before .before .before .before .before .before .before .before .before .before .before .before .before .before .top .ensures)) (c .before .before .before .before .judge-property .ensures) (c .before .before .enum-told .given .1) (not-true _ (c .if1 .taken))
 
 takes-label-requires : tie.Need-takes-label-requires
 takes-label-requires c κs = search needs
 
 make-property-requires : tie.Need-make-property-requires
-make-property-requires c κs = ((c .before .before .before .before .before .before .before .before .before .before .before .before .before .before .before .before .before .before .before .before .before .before .before .before .pre), both-left (c .before .before .before .before .before .before .before .judge-property .ensures) (c .before .before .before .before .before .enum-told .given .1) (c .before .takes-label .ensures))
-
-limited-requires : tie.Need-limited-requires
-limited-requires c κs = limit-asks (c .before .before .before .before .before .before .before .before .before .before .before .before .before .before .before .before .before .before .before .before .before .before .before .before .before .before .before .before .pre) (c .before .before .before .make-property .ensures)
+make-property-requires c κs = ((c .before .before .before .before .before .before .before .before .before .before .before .before .before .before .before .before .before .before .before .before .before .before .before .pre), both-left (c .before .before .before .before .before .before .before .judge-property .ensures) (c .before .before .before .before .before .enum-told .given .1) (c .before .takes-label .ensures))
 
 same-length-2 : tie.Need-same-length-2
 same-length-2 c = search needs
 
 returns-2 : tie.Need-returns-2
-returns-2 c = property-refused (c .before .before .before .before .before .before .before .before .before .before .before .before .iri-text .ensures) (c .before .before .before .before .before .before .before .before .before .before .before .is-reserved-property .ensures) (c .before .before .before .before .before .before .before .before .before .before .is-li .ensures) (c .before .before .before .before .before .before .before .before .before .is-description .ensures) (c .before .before .before .before .before .is-missing .ensures) (parse-read _ _ _ _ (c .before .before .before .before .before .before .parse-type-of .ensures) (c .before .before .before .before .before .before .before .value-of .ensures)) (ap count (c .before .before .before .before .before .before .before .before .before .before .before .before .before .before .before .top .ensures)) (c .before .before .before .judge-property .ensures) (c .before .why .given .1)
+returns-2 c = property-refused (c .before .before .before .before .before .before .before .before .before .before .before .iri-text .ensures) (c .before .before .before .before .before .before .before .before .before .before .is-reserved-property .ensures) (c .before .before .before .before .before .before .before .before .before .is-li .ensures) (c .before .before .before .before .before .is-missing .ensures) (parse-read _ _ _ _ (c .before .before .before .before .before .before .parse-type-of .ensures) (c .before .before .before .before .before .before .before .value-of .ensures)) (ap count (c .before .before .before .before .before .before .before .before .before .before .before .before .before .before .top .ensures)) (c .before .before .before .judge-property .ensures) (c .before .why .given .1)
 
 same-length-3 : tie.Need-same-length-3
 same-length-3 c = search needs
 
 returns-3 : tie.Need-returns-3
-returns-3 c = property-judged (c .before .before .before .before .before .before .before .before .before .before .before .before .before .before .before .before .before .before .before .before .before .iri-text .ensures) (c .before .before .before .before .before .before .before .before .before .before .before .before .before .before .before .before .before .before .before .before .is-reserved-property .ensures) (c .before .before .before .before .before .before .before .before .before .before .before .before .before .before .before .before .before .before .before .is-li .ensures) (c .before .before .before .before .before .before .before .before .before .before .before .before .before .before .before .before .before .before .is-description .ensures) (c .before .before .before .before .before .before .before .before .before .before .before .before .before .before .is-missing .ensures) (parse-read _ _ _ _ (c .before .before .before .before .before .before .before .before .before .before .before .before .before .before .before .parse-type-of .ensures) (c .before .before .before .before .before .before .before .before .before .before .before .before .before .before .before .before .value-of .ensures)) (ap count (c .before .before .before .before .before .before .before .before .before .before .before .before .before .before .before .before .before .before .before .before .before .before .before .before .top .ensures)) (c .before .before .before .before .before .before .before .before .before .before .before .before .judge-property .ensures) (c .before .before .before .before .before .before .before .before .before .before .enum-told .given .1) (c .before .before .before .before .before .before .takes-label .ensures) (not-false _ (c .before .before .before .before .before .before .before .before .if1 .left)) (c .before .before .before .before .before .before .before .before .before .before .before .before .before .before .before .before .before .before .before .before .before .before .before .before .before .before .before .before .before .pre) (c .before .before .before .before .make-property .ensures) (c .limited .ensures)
+returns-3 c = property-judged (c .before .before .before .before .before .before .before .before .before .before .before .before .before .before .before .before .before .before .iri-text .ensures) (c .before .before .before .before .before .before .before .before .before .before .before .before .before .before .before .before .before .is-reserved-property .ensures) (c .before .before .before .before .before .before .before .before .before .before .before .before .before .before .before .before .is-li .ensures) (c .before .before .before .before .before .before .before .before .before .before .before .before .is-missing .ensures) (parse-read _ _ _ _ (c .before .before .before .before .before .before .before .before .before .before .before .before .before .parse-type-of .ensures) (c .before .before .before .before .before .before .before .before .before .before .before .before .before .before .value-of .ensures)) (ap count (c .before .before .before .before .before .before .before .before .before .before .before .before .before .before .before .before .before .before .before .before .before .top .ensures)) (c .before .before .before .before .before .before .before .before .before .before .judge-property .ensures) (c .before .before .before .before .before .before .before .before .enum-told .given .1) (c .before .before .before .before .takes-label .ensures) (not-false _ (c .before .before .before .before .before .before .if1 .left)) (c .before .before .before .before .before .before .before .before .before .before .before .before .before .before .before .before .before .before .before .before .before .before .before .before .before .before .pre) (c .before .before .make-property .ensures)
 
 pub judge-property-spec : {M : Type 1} → statement M
 judge-property-spec =
@@ -84,7 +77,6 @@ judge-property-spec =
     iri-text-requires
     is-reserved-property-requires
     is-li-requires
-    is-description-requires
     value-of-requires
     parse-type-of-requires
     is-missing-requires
@@ -95,7 +87,6 @@ judge-property-spec =
     returns
     takes-label-requires
     make-property-requires
-    limited-requires
     same-length-2
     returns-2
     same-length-3

@@ -1,95 +1,51 @@
 -- `judging::judge_tag` meets its contract.
-use Rattle.judging.specs.Places.{at-root, at-nodes, at-text, at-xml, at-properties}
-use native.Mathlib.Omega.{arith}
+use Rattle.judging.specs.Places.{fits-asks, tag-refused, tag-full, tag-goes}
+use borrow.Author.Tests.{not-true, not-false}
 use borrow.Author.Needs.{needs}
 use Rattle.judging.proofs.judge_tag.Statement.{statement}
 use Rattle.judging.proofs.judge_tag.Tie as tie
 
-place-at-requires : tie.Need-place-at-requires
-place-at-requires c κs = search needs
+draft-requires : tie.Need-draft-requires
+draft-requires c κs = search needs
 
-enum-told : tie.Need-enum-told
-enum-told c = search needs
+enum-known-why : tie.Need-enum-known-why
+enum-known-why c = search needs
 
-judge-root-requires : tie.Need-judge-root-requires
-judge-root-requires c κs = search needs
+enum-known-x : tie.Need-enum-known-x
+enum-known-x c = search needs
 
-enum-told-2 : tie.Need-enum-told-2
-enum-told-2 c = search needs
-
-judge-node-requires : tie.Need-judge-node-requires
-judge-node-requires c κs = search needs
-
-enum-told-3 : tie.Need-enum-told-3
-enum-told-3 c = search needs
-
-judge-property-requires : tie.Need-judge-property-requires
-judge-property-requires c κs = search needs
-
-enum-told-4 : tie.Need-enum-told-4
-enum-told-4 c = search needs
-
-judge-node-requires-2 : tie.Need-judge-node-requires-2
-judge-node-requires-2 c κs = search needs
-
-enum-told-5 : tie.Need-enum-told-5
-enum-told-5 c = search needs
-
-judge-node-requires-3 : tie.Need-judge-node-requires-3
-judge-node-requires-3 c κs = search needs
+fits-requires : tie.Need-fits-requires
+fits-requires c κs = fits-asks (c .before .before .before .before .before .before .before .before .draft .ensures) (c .before .before .before .before .x .given .1) (c .before .before .before .before .before .before .before .before .before .before .before .before .before .before .before .pre)
 
 same-length : tie.Need-same-length
 same-length c = search needs
 
 returns : tie.Need-returns
-returns c = at-root (c .before .before .before .before .before .before .place-at .ensures) (c .before .before .before .before .enum-told .given .1) (c .before .before .judge-root .ensures)
+returns c = tag-full (c .before .before .before .before .before .before .before .before .before .before .draft .ensures) (c .before .before .before .before .before .before .x .given .1) (c .before .fits2 .ensures) (not-true _ (c .if1 .taken))
 
 same-length-2 : tie.Need-same-length-2
 same-length-2 c = search needs
 
 returns-2 : tie.Need-returns-2
-returns-2 c = at-nodes (c .before .before .before .before .before .before .place-at .ensures) (c .before .before .before .before .enum-told2 .given .1) (c .before .before .judge-node .ensures)
+returns-2 c = tag-refused (c .before .before .before .before .before .draft .ensures) (c .before .why .given .1)
 
 same-length-3 : tie.Need-same-length-3
 same-length-3 c = search needs
 
 returns-3 : tie.Need-returns-3
-returns-3 c = at-properties (c .before .before .before .before .before .before .place-at .ensures) (c .before .before .before .before .enum-told3 .given .1) (c .before .before .judge-property .ensures)
-
-same-length-4 : tie.Need-same-length-4
-same-length-4 c = search needs
-
-returns-4 : tie.Need-returns-4
-returns-4 c = at-text (c .before .before .before .before .before .before .place-at .ensures) (c .before .before .before .before .enum-told4 .given .1) (c .before .before .judge-node2 .ensures)
-
-same-length-5 : tie.Need-same-length-5
-same-length-5 c = search needs
-
-returns-5 : tie.Need-returns-5
-returns-5 c = at-xml (c .before .before .before .before .before .before .place-at .ensures) (c .before .before .before .before .enum-told5 .given .1) (c .before .before .judge-node3 .ensures)
+returns-3 c = tag-goes (c .before .before .before .before .before .before .before .before .before .before .draft .ensures) (c .before .before .before .before .before .before .x .given .1) (c .before .fits2 .ensures) (not-false _ (c .if1 .left))
 
 pub judge-tag-spec : {M : Type 1} → statement M
 judge-tag-spec =
     tie.close
     (tie.spec
-    place-at-requires
-    enum-told
-    judge-root-requires
-    enum-told-2
-    judge-node-requires
-    enum-told-3
-    judge-property-requires
-    enum-told-4
-    judge-node-requires-2
-    enum-told-5
-    judge-node-requires-3
+    draft-requires
+    enum-known-why
+    enum-known-x
+    fits-requires
     same-length
     returns
     same-length-2
     returns-2
     same-length-3
-    returns-3
-    same-length-4
-    returns-4
-    same-length-5
-    returns-5)
+    returns-3)

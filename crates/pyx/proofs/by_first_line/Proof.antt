@@ -58,7 +58,7 @@ returns-4 : tie.Need-returns-4
 returns-4 c = closing-good (c .before .before .before .before .before .before .before .before .before .before .before .before .before .before .pre) (positive (c .before .before .before .before .before .before .before .before .before .before .if1 .left)) _ (c .before .before .before .before .before .before .before .if3 .taken) (rw (c .enum-told2 .given .1) at (c .before .before .before .before .put-name .ensures))
 
 put-text-requires : tie.Need-put-text-requires
-put-text-requires c κs = c .before .before .before .before .before .before .before .before .before .pre .room
+put-text-requires c κs = (c .before .before .before .before .before .before .before .before .before .pre, omega arith)
 
 enum-told-3 : tie.Need-enum-told-3
 enum-told-3 c = search needs

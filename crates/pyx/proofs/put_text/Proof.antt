@@ -1,106 +1,50 @@
--- `pyx::put_text` meets its contract. The loop's invariant, `Texting`: the data of the lines passed stand in front of those of the lines from `at` on.
-use Prim.Native.Nat.{_-_}
-use native.Mathlib.Omega.{arith}
-use lib.ListN.{length}
+-- `pyx::put_text` meets its contract: one line by one law, several by `put_lines`.
+use Rattle.pyx.proofs.Events.{title-room, text-one}
 use borrow.Author.Needs.{needs}
-use Rattle.copy.specs.Copy.{wrote-same, rest-of, part-of}
-use Rattle.pyx.proofs.Escapes.{Texting, texting-begins, texting-end, texting-room, texting-unended, texting-wrong, texting-more, texting-done}
 use Rattle.pyx.proofs.put_text.Statement.{statement}
 use Rattle.pyx.proofs.put_text.Tie as tie
 
-abbrev Inv-loop : tie.InvT-loop
-Inv-loop event scratch₀ at₀ used₀ scratch at used = Texting event scratch₀ scratch at used
+add-if1 : tie.Need-add-if1
+add-if1 c = search needs
 
-abbrev μ-loop : tie.MeasureT-loop
-μ-loop event scratch₀ at₀ used₀ scratch at used = length event - at
+sub-unescape : tie.Need-sub-unescape
+sub-unescape c = search needs
 
-loop-holds : tie.Need-loop-holds Inv-loop μ-loop
-loop-holds c = texting-begins (c .before .before .pre)
+part-unescape-start : tie.Need-part-unescape-start
+part-unescape-start c = search needs
 
-sub-find : tie.Need-sub-find Inv-loop μ-loop
-sub-find c = search needs
+part-unescape-end : tie.Need-part-unescape-end
+part-unescape-end c = search needs
 
-part-find-start : tie.Need-part-find-start Inv-loop μ-loop
-part-find-start c = search needs
+unescape-requires : tie.Need-unescape-requires
+unescape-requires c κs = title-room (c .before .before .before .before .before .pre .0) (c .before .before .before .before .before .pre .1)
 
-part-find-end : tie.Need-part-find-end Inv-loop μ-loop
-part-find-end c = search needs
+same-length : tie.Need-same-length
+same-length c = search needs
 
-find-requires : tie.Need-find-requires Inv-loop μ-loop
-find-requires c κs = search needs
+returns : tie.Need-returns
+returns c = text-one (c .before .before .before .before .before .before .before .before .pre .0) (c .before .before .before .before .before .before .before .before .pre .1) (c .before .before .before .before .before .if1 .taken) (c .before .before .unescape .last .1 .0) (c .before .before .unescape .result) (c .before .before .unescape .ensures)
 
-add-end : tie.Need-add-end Inv-loop μ-loop
-add-end c = omega (arith, texting-end (c .before .before .before .loop .inv) (rw rest-of at (c .find .ensures)))
+put-lines-requires : tie.Need-put-lines-requires
+put-lines-requires c κs = c .before .before .before .before .pre .0 .room
 
-same-length : tie.Need-same-length Inv-loop μ-loop
-same-length c = wrote-same (c .before .before .before .before .loop .inv .done .wrote)
+same-length-2 : tie.Need-same-length-2
+same-length-2 c = search needs
 
-returns : tie.Need-returns Inv-loop μ-loop
-returns c = texting-unended (c .before .before .before .before .loop .inv) (rw rest-of at (c .before .find .ensures)) (c .if1 .taken)
-
-sub-put-data : tie.Need-sub-put-data Inv-loop μ-loop
-sub-put-data c = search needs
-
-part-put-data-start : tie.Need-part-put-data-start Inv-loop μ-loop
-part-put-data-start c = search needs
-
-part-put-data-end : tie.Need-part-put-data-end Inv-loop μ-loop
-part-put-data-end c = omega (arith, texting-end (c .before .before .before .before .loop .inv) (rw rest-of at (c .before .find .ensures)))
-
-put-data-requires : tie.Need-put-data-requires Inv-loop μ-loop
-put-data-requires c κs = rw part-of (texting-room (c .before .before .before .before .before .before .loop .inv) (rw rest-of at (c .before .before .before .find .ensures)))
-
-enum-told : tie.Need-enum-told Inv-loop μ-loop
-enum-told c = search needs
-
-same-length-2 : tie.Need-same-length-2 Inv-loop μ-loop
-same-length-2 c = omega (arith, wrote-same (c .before .before .before .before .before .before .before .before .before .before .before .loop .inv .done .wrote))
-
-returns-2 : tie.Need-returns-2 Inv-loop μ-loop
-returns-2 c = texting-wrong (c .before .before .before .before .before .before .before .before .before .before .before .loop .inv) (rw rest-of at (c .before .before .before .before .before .before .before .before .find .ensures)) (c .before .before .before .before .before .before .before .if1 .left) (rw part-of at (rw (c .enum-told .given .1) at (c .before .before .before .before .put-data .ensures)))
-
-enum-known-to : tie.Need-enum-known-to Inv-loop μ-loop
-enum-known-to c = search needs
-
-add-at : tie.Need-add-at Inv-loop μ-loop
-add-at c = omega (arith, texting-end (c .before .before .before .before .before .before .before .before .before .before .before .before .loop .inv) (rw rest-of at (c .before .before .before .before .before .before .before .before .before .find .ensures)))
-
-loop-less : tie.Need-loop-less Inv-loop μ-loop
-loop-less c = omega arith
-
-loop-again : tie.Need-loop-again Inv-loop μ-loop
-loop-again c = texting-more (c .before .before .before .before .before .before .before .before .before .before .before .before .loop .inv) (rw rest-of at (c .before .before .before .before .before .before .before .before .before .find .ensures)) (c .before .before .before .before .before .before .before .before .if1 .left) (rw part-of at (rw (c .before .to .given .1) at (c .before .before .before .before .before .put-data .ensures)))
-
-same-length-3 : tie.Need-same-length-3 Inv-loop μ-loop
-same-length-3 c = wrote-same (c .before .loop .inv .done .wrote)
-
-returns-3 : tie.Need-returns-3 Inv-loop μ-loop
-returns-3 c = texting-done (c .before .loop .inv) (omega arith)
+returns-2 : tie.Need-returns-2
+returns-2 c = search needs
 
 pub put-text-spec : {M : Type 1} → statement M
 put-text-spec =
     tie.close
     (tie.spec
-    Inv-loop
-    μ-loop
-    loop-holds
-    sub-find
-    part-find-start
-    part-find-end
-    find-requires
-    add-end
+    add-if1
+    sub-unescape
+    part-unescape-start
+    part-unescape-end
+    unescape-requires
     same-length
     returns
-    sub-put-data
-    part-put-data-start
-    part-put-data-end
-    put-data-requires
-    enum-told
+    put-lines-requires
     same-length-2
-    returns-2
-    enum-known-to
-    add-at
-    loop-less
-    loop-again
-    same-length-3
-    returns-3)
+    returns-2)

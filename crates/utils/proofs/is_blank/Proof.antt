@@ -1,7 +1,8 @@
 -- `is_blank`. The invariant: the bytes passed are whitespace, so the rest decides.
 use Rattle.spec.specs.Bytes.{ascii, among, every}
 use Rattle.spec.specs.RdfXml.{isBlank}
-use Rattle.utils.proofs.Walking.{Walked, walked-begins, bytes-fail, bytes-more, bytes-pass}
+use Rattle.utils.specs.Walking.{Walked}
+use Rattle.utils.proofs.Walking.{walked-begins, bytes-fail, bytes-more, bytes-pass}
 use mathlib.Core.Path.{sym, _∙_}
 use borrow.Author.Tests.{not-true, not-false}
 use lib.ListN.{length}

@@ -1,0 +1,44 @@
+-- `copy::block_has` meets its contract. The loop's invariant: `found` is the answer for the first `j` bytes.
+use Prim.Native.Nat.{_-_}
+use Rattle.copy.specs.Scan.{Gathered, gathered-begins, gathered-more, gathered-done}
+use native.Mathlib.Omega.{arith}
+use borrow.Author.Needs.{needs}
+use Rattle.copy.proofs.block_has.Statement.{statement}
+use Rattle.copy.proofs.block_has.Tie as tie
+
+abbrev Inv-loop : tie.InvT-loop
+Inv-loop block b found₀ j₀ found j = Gathered b block j found
+
+abbrev μ-loop : tie.MeasureT-loop
+μ-loop block b found₀ j₀ found j = 8 - j
+
+loop-holds : tie.Need-loop-holds Inv-loop μ-loop
+loop-holds c = gathered-begins
+
+shared-slice-read-found : tie.Need-shared-slice-read-found Inv-loop μ-loop
+shared-slice-read-found c = search needs
+
+add-j : tie.Need-add-j Inv-loop μ-loop
+add-j c = search needs
+
+loop-less : tie.Need-loop-less Inv-loop μ-loop
+loop-less c = search needs
+
+loop-again : tie.Need-loop-again Inv-loop μ-loop
+loop-again c = gathered-more (c .before .before .loop .inv) (omega arith)
+
+returns : tie.Need-returns Inv-loop μ-loop
+returns c = gathered-done (c .before .loop .inv) (omega arith)
+
+pub block-has-spec : {M : Type 1} → statement M
+block-has-spec =
+    tie.close
+    (tie.spec
+    Inv-loop
+    μ-loop
+    loop-holds
+    shared-slice-read-found
+    add-j
+    loop-less
+    loop-again
+    returns)

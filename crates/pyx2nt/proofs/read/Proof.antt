@@ -1,0 +1,62 @@
+-- `pyx2nt::read` meets its contract: what was moved stays, and what was read stands behind it.
+use Prim.Native.Nat.{_-_}
+use native.Mathlib.Omega.{arith}
+use lib.ListN.{length}
+use borrow.Rule.Slice.PartMut.{take-put}
+use borrow.Author.Needs.{needs}
+use Rattle.pyx2nt.specs.Reading.{reads}
+use Rattle.pyx2nt.proofs.read.Statement.{statement}
+use Rattle.pyx2nt.proofs.read.Tie as tie
+
+to-front-requires : tie.Need-to-front-requires
+to-front-requires c κs = search needs
+
+sub-read : tie.Need-sub-read
+sub-read c = search needs
+
+part-read-start : tie.Need-part-read-start
+part-read-start c = search needs
+
+part-read-end : tie.Need-part-read-end
+part-read-end c = search needs
+
+read-requires : tie.Need-read-requires
+read-requires c κs = search needs
+
+sub-count : tie.Need-sub-count
+sub-count c = search needs
+
+part-count-start : tie.Need-part-count-start
+part-count-start c = search needs
+
+part-count-end : tie.Need-part-count-end
+part-count-end c = search needs
+
+count-requires : tie.Need-count-requires
+count-requires c κs = search needs
+
+with-requires : tie.Need-with-requires
+with-requires c κs = search needs
+
+same-length : tie.Need-same-length
+same-length c = search needs
+
+returns : tie.Need-returns
+returns c = reads (c .before .before .before .before .before .before .before .before .before .before .before .before .before .pre .rest) (c .before .before .before .before .before .before .before .before .before .before .to-front .ensures) (search needs) (take-put (c .before .before .before .before .before .before .before .before .before .before .to-front .result) (length (c .before .before .before .before .before .before .before .before .before .before .to-front .last .0) - c .before .before .before .before .before .before .before .before .before .before .to-front .result) (c .before .before .before .before .before .before .before .before .before .before .to-front .last .0) (c .before .before .before .before .before .before .read .last .1 .0) (omega (arith, c .before .before .before .before .before .before .before .before .before .before .to-front .ensures .size, c .before .before .before .before .before .before .before .before .before .before .to-front .ensures .room, c .before .before .before .before .before .before .before .before .before .before .before .before .before .pre .rest .within))) (c .before .count .ensures .0 .0) (c .with .ensures)
+
+pub read-spec : {M : Type 1} → statement M
+read-spec =
+    tie.close
+    (tie.spec
+    to-front-requires
+    sub-read
+    part-read-start
+    part-read-end
+    read-requires
+    sub-count
+    part-count-start
+    part-count-end
+    count-requires
+    with-requires
+    same-length
+    returns)

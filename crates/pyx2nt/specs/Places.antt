@@ -1,0 +1,139 @@
+-- The contracts of the program's functions.
+use Prim.Native.Nat.{ℕ, _+_, _-_, _≤_, _<_}
+use mathlib.Core.Path.{_≡_}
+use mathlib.Core.Bool.{true, false}
+use mathlib.Core.List.{List}
+use lib.Dec.{eqb}
+use lib.ListN.{length, take}
+use Rattle.spec.specs.Bytes.{Bytes}
+use Rattle.spec.specs.Numbers.{number}
+use Rattle.spec.specs.declared.Refusal.{Refusal}
+use Rattle.spec.specs.declared.Refusal.the-variants.{Incomplete}
+use Rattle.copy.specs.Copy.{part}
+use Rattle.frames.specs.Words.{pick}
+use Rattle.state.specs.declared.Registers.{Registers}
+use Rattle.state.specs.Live.{startedWith}
+use Rattle.event.specs.Progress.{Lent, docIn}
+use Rattle.parser.specs.Asked.{Asks}
+use Rattle.feeding.specs.declared.Pause.{Pause}
+use Rattle.feeding.specs.declared.Pause.the-variants.{Full, Stop}
+use Rattle.feeding.specs.declared.Fed.{Fed}
+use Rattle.reader.specs.Starting.{overIn}
+use Rattle.pyx2nt.specs.declared.Place.{Place}
+use Rattle.pyx2nt.specs.declared.Next.{Next}
+use Rattle.pyx2nt.specs.declared.Next.the-variants.{On, Over}
+use Rattle.pyx2nt.specs.Way.{Spot, spot, Leads, Ended}
+
+-- ---- places
+
+abbrev pub firstPlace : Place
+firstPlace = record { registers = startedWith false 0; count = 0; used = 0; event = 1; from = 0; to = 0; last = false }
+
+-- behind the events that were done; the sums fit a word
+abbrev pub behindOf : Place → Fed → Place
+behindOf p f =
+    record { registers = f .registers; count = f .count; used = f .used; event = p .event + f .events; from = p .from + f .consumed; to = p .to; last = p .last }
+
+pub record Sums (p : Place) (f : Fed) : Type 0 where
+  pub event : p .event + f .events < 18_446_744_073_709_551_616
+  pub from : p .from + f .consumed < 18_446_744_073_709_551_616
+
+-- with n bytes of the rest at the front, and m more
+abbrev pub withMore : Place → ℕ → ℕ → Place
+withMore p n m = record { registers = p .registers; count = p .count; used = p .used; event = p .event; from = 0; to = n + m; last = eqb m 0 }
+
+-- the bytes at hand, and how many they are
+abbrev pub sizeAt : Place → ℕ
+sizeAt p = p .to - p .from
+
+abbrev pub restAt : Place → List ℕ → Bytes
+restAt p input = part input (p .from) (sizeAt p)
+
+-- where the program stands on its way
+abbrev pub spotAt : Place → Lent → List ℕ → Spot
+spotAt p l input = spot (p .event) (p .last) (restAt p input) (docIn (p .registers) (p .count) l)
+
+-- the number of the refusal of a document that is over, 0 for none
+abbrev pub finishing : Registers → ℕ
+finishing r = pick (overIn r) 0 6
+
+-- ---- reading
+
+-- n bytes were moved to the front
+pub record Moves (b : List ℕ) (from to : ℕ) (b′ : List ℕ) (n : ℕ) : Type 0 where
+  pub size : n ≡ to - from
+  pub room : length b′ ≡ length b
+  pub front : take n b′ ≡ part b from n
+
+-- the bytes at hand are there
+pub record Within (p : Place) (input : List ℕ) : Type 0 where
+  pub upto : p .from ≤ p .to
+  pub within : p .to ≤ length input
+
+-- and a block has room behind them
+pub record Readable (p : Place) (input : List ℕ) : Type 0 where
+  pub rest : Within p input
+  pub block : sizeAt p + 65_536 ≤ length input
+
+-- so many bytes were read, behind the rest
+pub record Reads (p : Place) (input : List ℕ) (p′ : Place) (input′ : List ℕ) : Type 0 where
+  pub got : ℕ
+  pub place : p′ ≡ withMore p (sizeAt p) got
+  pub fits : sizeAt p + got ≤ length input
+  pub room : length input′ ≡ length input
+  pub rest : take (sizeAt p) input′ ≡ restAt p input
+
+-- ---- what follows where no further event was done
+
+pub record Paused (p : Place) (pause : Pause) (input : List ℕ) : Type 0 where
+  pub rest : Within p input
+  pub block : pause ≡ Stop Incomplete → sizeAt p + 65_536 ≤ length input
+
+pub data Follows (p : Place) (input : List ℕ) : Pause → Next → List ℕ → Type 0 where
+  -- the next events
+  on : Follows p input Full (On p) input
+  -- more input
+  more : {p′ : Place} {input′ : List ℕ} → p .last ≡ false → Reads p input p′ input′ → Follows p input (Stop Incomplete) (On p′) input′
+  -- the end: of the input, or by a refusal
+  over : p .last ≡ true → Follows p input (Stop Incomplete) (Over (finishing (p .registers)) (p .event)) input
+  refused : {why : Refusal} → (why ≡ Incomplete → ⊥) → Follows p input (Stop why) (Over (number why) (p .event)) input
+
+-- ---- a turn
+
+-- what is lent, as `main` makes it
+pub record Made (l : Lent) (input : List ℕ) : Type 0 where
+  pub frames : length (l .frames) ≡ 1152
+  pub bindings : length (l .bindings) ≡ 384
+  pub inners : length (l .inners) ≡ 192
+  pub work : length (l .work) ≡ 65_536
+  pub places : length (l .places) ≡ 512
+  pub sizes : length (l .sizes) ≡ 512
+  pub ids : length (l .ids) ≡ 32_768
+  pub buffer : length input ≡ 131_072
+
+-- where a turn can begin: the document is open, what is at hand lies in the input, and the events can be counted
+pub record Stands (p : Place) (l : Lent) (input : List ℕ) : Type 0 where
+  pub asks : Asks (p .registers) (p .count) (p .used) l
+  pub rest : Within p input
+  pub size : length input ≡ 131_072
+  pub event : p .event < 9_223_372_036_854_775_808
+
+-- the same lengths
+pub record Lengths (l : Lent) (input : List ℕ) (l′ : Lent) (input′ : List ℕ) : Type 0 where
+  pub frames : length (l′ .frames) ≡ length (l .frames)
+  pub bindings : length (l′ .bindings) ≡ length (l .bindings)
+  pub inners : length (l′ .inners) ≡ length (l .inners)
+  pub work : length (l′ .work) ≡ length (l .work)
+  pub ids : length (l′ .ids) ≡ length (l .ids)
+  pub out : length (l′ .out) ≡ length (l .out)
+  pub buffer : length input′ ≡ length input
+
+-- it leads to a next place, behind no more events than the input has bytes, or to the end
+abbrev pub Cases : Place → Lent → List ℕ → Next → Lent → List ℕ → Type 0
+Cases p l input (On p′) l′ input′ =
+    Asks (p′ .registers) (p′ .count) (p′ .used) l′ × Within p′ input′ × (p′ .event ≤ p .event + 131_072) × Leads (spotAt p l input) (spotAt p′ l′ input′)
+Cases p l input (Over n k) l′ input′ = Ended (spotAt p l input) n k
+
+pub record Turns (p : Place) (l : Lent) (input : List ℕ) (n : Next) (l′ : Lent) (input′ : List ℕ) : Type 0 where
+  pub lengths : Lengths l input l′ input′
+  pub cases : Cases p l input n l′ input′

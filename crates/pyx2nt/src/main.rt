@@ -1,0 +1,318 @@
+// PYX from standard input, N-Triples to standard output, as they come; after a refusal one last line, which says its number and event.
+ghost use Prim.Native.Nat.{_+_, _≤_, _<_};
+ghost use mathlib.Core.Path.{_≡_};
+ghost use mathlib.Core.List.{_++_};
+ghost use lib.ListN.{length};
+ghost use Rattle.spec.specs.NTriples.{decimal};
+ghost use Rattle.spec.specs.Pyx2nt.{lastLine};
+ghost use Rattle.copy.specs.Copy.{Wrote};
+ghost use Rattle.event.specs.Progress.{lent};
+ghost use Rattle.parser.specs.Asked.{Roomy, Areas};
+ghost use Rattle.pyx2nt.specs.Way.{start, Ended};
+ghost use Rattle.pyx2nt.specs.Places.{firstPlace, Sums, behindOf, withMore, finishing, Moves, Readable, Reads, Paused, Follows, Stands, Turns, Made};
+use feeding::Fed;
+use feeding::Pause;
+use frames::Frame;
+use frames::Row;
+use ids::IdTable;
+use label::Decimal;
+use libc::STDIN_FILENO;
+use libc::STDOUT_FILENO;
+use spec::Refusal;
+use state::Registers;
+use stream::Taken;
+
+// Where the program stands: what is behind the events so far, the number of the next one, which bytes of the input are at hand, and whether
+// no more follow.
+struct Place {
+    registers: Registers,
+    count: usize,
+    used: usize,
+    event: usize,
+    from: usize,
+    to: usize,
+    last: bool,
+}
+
+// Where the program goes on; or it is over, and this is the number of its refusal, 0 for none, and the event.
+enum Next {
+    On(Place),
+    Over(u8, usize),
+}
+
+impl Place {
+    // The bytes of the input that are at hand at a time, and of the output until they are printed.
+    const INPUT: usize = 131_072;
+
+    const OUTPUT: usize = 131_072;
+
+    // A proved loop has to end, and nothing says that the input does: more turns than any run takes, and so few that a word counts their events.
+    const TURNS: usize = 17_592_186_044_416;
+
+    // Before the first event.
+    fn first() -> Self
+        ensures { λ p. ⌜ p ≡ firstPlace ⌝ }
+    {
+        let registers = Registers::started(false, 0);
+        Place {
+            registers,
+            count: 0,
+            used: 0,
+            event: 1,
+            from: 0,
+            to: 0,
+            last: false,
+        }
+    }
+
+    // Behind the events that were done.
+    fn behind(self, fed: Fed) -> Self
+        requires { ⌜ Sums self fed ⌝ }
+        ensures { λ p. ⌜ p ≡ behindOf self fed ⌝ }
+    {
+        let registers = fed.registers;
+        Place {
+            registers,
+            count: fed.count,
+            used: fed.used,
+            event: self.event + fed.events,
+            from: self.from + fed.consumed,
+            to: self.to,
+            last: self.last,
+        }
+    }
+
+    // With `got` bytes more behind the rest, which is at the front now. No bytes more are to follow where there are none.
+    fn with(self, rest: usize, got: usize) -> Self
+        requires { ⌜ rest + got < 18_446_744_073_709_551_616 ⌝ }
+        ensures { λ p. ⌜ p ≡ withMore self rest got ⌝ }
+    {
+        let registers = self.registers;
+        Place {
+            registers,
+            count: self.count,
+            used: self.used,
+            event: self.event,
+            from: 0,
+            to: rest + got,
+            last: got == 0,
+        }
+    }
+}
+
+fn main() {
+    let mut frames = [0u32; Frame::TABLE];
+    let mut bindings = [0u32; Row::BINDINGS];
+    let mut inners = [0u32; Row::INNERS];
+    let mut work = [0u8; Registers::STORE];
+    let mut places = [0u32; IdTable::MOST];
+    let mut sizes = [0u32; IdTable::MOST];
+    let mut ids = [0u8; IdTable::BYTES];
+    let mut input = [0u8; Place::INPUT];
+    let mut output = [0u8; Place::OUTPUT];
+    let mut scratch = [0u8; Taken::SCRATCH];
+    let mut spans = [0u32; Taken::SPANS];
+    let mut area = [0u8; Taken::AREA];
+    run(
+        &mut frames,
+        &mut bindings,
+        &mut inners,
+        &mut work,
+        &mut places,
+        &mut sizes,
+        &mut ids,
+        &mut input,
+        &mut output,
+        &mut scratch,
+        &mut spans,
+        &mut area,
+    );
+}
+
+// Turn after turn, over the tables and stores of a document, the two buffers, and scratch.
+fn run(
+    frames: &mut [u32],
+    bindings: &mut [u32],
+    inners: &mut [u32],
+    work: &mut [u8],
+    places: &mut [u32; IdTable::MOST],
+    sizes: &mut [u32; IdTable::MOST],
+    ids: &mut [u8],
+    input: &mut [u8],
+    output: &mut [u8],
+    scratch: &mut [u8],
+    spans: &mut [u32],
+    area: &mut [u8],
+)
+    requires { ⌜ Made (lent (now frames) (now bindings) (now inners) (now work) (now places) (now sizes) (now ids) (now output)) (now input) × Roomy (now scratch) (now spans) (now area) ⌝ }
+{
+    let mut place = Place::first();
+    let mut turns = Place::TURNS;
+    while turns > 0 {
+        turns -= 1;
+        let next = turn(
+            place,
+            frames,
+            bindings,
+            inners,
+            work,
+            places,
+            sizes,
+            ids,
+            input,
+            output,
+            scratch,
+            spans,
+            area,
+        );
+        match next {
+            Next::On(p) => place = p,
+            Next::Over(number, event) => {
+                end(number, event);
+                return;
+            }
+        }
+    }
+}
+
+// The events at hand, as many as the output has room for; their lines, printed; and what follows.
+fn turn(
+    place: Place,
+    frames: &mut [u32],
+    bindings: &mut [u32],
+    inners: &mut [u32],
+    work: &mut [u8],
+    places: &mut [u32; IdTable::MOST],
+    sizes: &mut [u32; IdTable::MOST],
+    ids: &mut [u8],
+    input: &mut [u8],
+    output: &mut [u8],
+    scratch: &mut [u8],
+    spans: &mut [u32],
+    area: &mut [u8],
+) -> Next
+    requires { ⌜ Stands place (lent (now frames) (now bindings) (now inners) (now work) (now places) (now sizes) (now ids) (now output)) (now input) × Roomy (now scratch) (now spans) (now area) ⌝ }
+    ensures { λ n. ⌜ Turns place
+        (lent (now (frames .entry)) (now (bindings .entry)) (now (inners .entry)) (now (work .entry)) (now (places .entry)) (now (sizes .entry)) (now (ids .entry)) (now (output .entry)))
+        (now (input .entry)) n
+        (lent (now (frames .exit)) (now (bindings .exit)) (now (inners .exit)) (now (work .exit)) (now (places .exit)) (now (sizes .exit)) (now (ids .exit)) (now (output .exit)))
+        (now (input .exit))
+        × Areas (now (scratch .entry)) (now (spans .entry)) (now (area .entry)) (now (scratch .exit)) (now (spans .exit)) (now (area .exit)) ⌝ }
+{
+    let registers = place.registers;
+    let from = place.from;
+    let to = place.to;
+    let fed = feeding::feed(
+        registers,
+        place.count,
+        place.used,
+        frames,
+        bindings,
+        inners,
+        work,
+        places,
+        sizes,
+        ids,
+        &input[from..to],
+        place.last,
+        output,
+        scratch,
+        spans,
+        area,
+    );
+    let written = fed.written;
+    io::write_all(STDOUT_FILENO, &output[..written]);
+    let pause = fed.pause;
+    follow(place.behind(fed), pause, input)
+}
+
+// By why no further event was done: the next ones, more input, or the end.
+fn follow(place: Place, pause: Pause, input: &mut [u8]) -> Next
+    requires { ⌜ Paused place pause (now input) ⌝ }
+    ensures { λ n. ⌜ Follows place (now (input .entry)) pause n (now (input .exit)) ⌝ }
+{
+    match pause {
+        Pause::Full => Next::On(place),
+        Pause::Stop(why) => {
+            let number = reader::number_of(why);
+            if number != 1 {
+                return Next::Over(number, place.event);
+            }
+            if place.last {
+                return Next::Over(finish(place.registers), place.event);
+            }
+            Next::On(read(place, input))
+        }
+    }
+}
+
+// What a document that is over gets: 6 where an element is open or there was no root.
+fn finish(registers: Registers) -> u8
+    ensures { λ n. ⌜ n ≡ finishing registers ⌝ }
+{
+    if reader::may_finish(registers) {
+        return 0;
+    }
+    reader::number_of(Refusal::NotWellFormed)
+}
+
+// A block behind the rest. A read that fails is the end of the input, as one that gives no bytes.
+fn read(place: Place, input: &mut [u8]) -> Place
+    requires { ⌜ Readable place (now input) ⌝ }
+    ensures { λ p. ⌜ Reads place (now (input .entry)) p (now (input .exit)) ⌝ }
+{
+    let rest = to_front(input, place.from, place.to);
+    let got = libc::read(STDIN_FILENO, &mut input[rest..]);
+    let n = io::count(got, &input[rest..]);
+    place.with(rest, n)
+}
+
+// The bytes from `from` to `to` at the front: how many they are.
+fn to_front(buffer: &mut [u8], from: usize, to: usize) -> usize
+    requires { ⌜ (from ≤ to) × (to ≤ length (now buffer)) ⌝ }
+    ensures { λ n. ⌜ Moves (now (buffer .entry)) from to (now (buffer .exit)) n ⌝ }
+{
+    let n = to - from;
+    let mut i = 0;
+    while i < n {
+        buffer[i] = buffer[from + i];
+        i += 1;
+    }
+    n
+}
+
+// The last line, if there is one, printed: the program is at the end of its way.
+fn end(number: u8, event: usize)
+    requires { ⌜ Ended start number event ⌝ }
+{
+    let mut line = [0u8; 64];
+    let n = last_line(&mut line, number, event);
+    io::write_all(STDOUT_FILENO, &line[..n]);
+}
+
+// The line after a refusal, to the front of `line`: its length.
+fn last_line(line: &mut [u8], number: u8, event: usize) -> usize
+    requires { ⌜ length (now line) ≡ 64 ⌝ }
+    ensures { λ n. ⌜ Wrote (now (line .entry)) (now (line .exit)) 0 n (lastLine number event) ⌝ }
+{
+    if number == 0 {
+        return 0;
+    }
+    let n = put_number(line, 0, b"# refused ", number as u64);
+    let m = put_number(line, n, b" at event ", event as u64);
+    copy::put(line, m, b"\n");
+    m + 1
+}
+
+// The text and a number behind it, from `at` on: where they end.
+fn put_number(line: &mut [u8], at: usize, text: &[u8], number: u64) -> usize
+    requires { ⌜ at + length (now text) + 20 ≤ length (now line) ⌝ }
+    ensures { λ to. ⌜ Wrote (now (line .entry)) (now (line .exit)) at to (now (text .entry) ++ decimal number) ⌝ }
+{
+    let decimal = Decimal::of(number);
+    let from = decimal.from;
+    let digits = decimal.digits;
+    copy::put(line, at, text);
+    copy::put(line, at + text.len(), &digits[from..]);
+    at + text.len() + (20 - from)
+}

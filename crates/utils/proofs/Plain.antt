@@ -1,0 +1,98 @@
+-- Bytes of ASCII passed over without decoding them: each is the character that it is.
+use mathlib.Core.Path.{_≡_, refl, sym, ap, _∙_}
+use mathlib.Core.Logic.{⊎-elim}
+use mathlib.Core.Bool.{Bool, true, _&&_}
+use mathlib.Core.List.{[], _∷_, _++_}
+use Prim.Native.Nat.{ℕ, suc, _+_, _-_, _<_, _≤_}
+use native.Mathlib.Omega.{arith}
+use native.Mathlib.Numerals.{add-one}
+use native.Mathlib.Nat.{add-zero}
+use lib.Dec.{eqb, leb, ltb}
+use lib.ListN.{length, take, drop, getD, length-drop, take-append-drop, drop-of-length-le}
+use lib.Seq.{drop-cons, drop-drop, getD-drop}
+use borrow.Author.Tests.{le-leb, lt-ltb, leb-true, ltb-true, eqb-true}
+use Rattle.spec.specs.Bytes.{Bytes, byte, every, between, inRanges}
+use Rattle.spec.specs.XmlNames.{isChar}
+use Rattle.spec.proofs.Booleans.{and-left, and-right, or-cases}
+use Rattle.utils.specs.Decoding.{Front}
+use Rattle.utils.specs.Plain.{plain, plainText}
+use Rattle.utils.specs.Walking.{Walked, Steps}
+use Rattle.utils.proofs.Tools.{and-true, and-assoc}
+use Rattle.utils.proofs.Decoding.{front-one}
+use Rattle.utils.proofs.Walking.{ByCharacter, step-passes, walked-more}
+use Rattle.utils.proofs.Names.{char-high}
+
+-- a plain byte stands for itself, and passes
+pub plain-front : (p : ℕ → Bool) {s : Bytes} → 0 < length s → plain p (getD s 0 0) ≡ true → (Front (getD s 0 0) 1 s) × (p (getD s 0 0) ≡ true)
+unfolding plain
+plain-front p {s} l h =
+    let b = getD s 0 0 in
+    (front-one s l (ltb-true b 128 (and-left (ltb b 128) (p b) h)), and-right (ltb b 128) (p b) h)
+
+-- what is plain in a text is one of XML's characters
+plain-high : (b : ℕ) → 32 ≤ b → b < 128 → plain isChar b ≡ true
+unfolding plain
+plain-high b h l = rw (lt-ltb b 128 l, ← char-high b h, le-leb b 0xD7FF (omega arith))
+
+plain-line-feed : (b : ℕ) → b ≡ 10 → plain isChar b ≡ true
+unfolding plain isChar inRanges between
+plain-line-feed b e = rw e
+
+pub plain-text : (b : ℕ) → plainText b ≡ true → plain isChar b ≡ true
+unfolding plainText byte
+plain-text b h =
+    ⊎-elim
+    (λ (e : (leb 32 b && ltb b 128) ≡ true). plain-high b (leb-true 32 b (and-left (leb 32 b) (ltb b 128) e)) (ltb-true b 128 (and-right (leb 32 b) (ltb b 128) e)))
+    (λ (e : eqb b 10 ≡ true). plain-line-feed b (eqb-true b 10 e))
+    (or-cases (leb 32 b && ltb b 128) (eqb b 10) h)
+
+module _ {f : Bytes → Bool} {p : ℕ → Bool} (b : ByCharacter f p) where
+  plain-steps : {s : Bytes} → 0 < length s → plain p (getD s 0 0) ≡ true → Steps f f 1 s
+  plain-steps l h = let q = plain-front p l h in step-passes b (q .0) (q .1)
+
+  -- one byte passed
+  pub walked-plain : {s : Bytes} {i : ℕ} → Walked f s i → i < length s → plain p (getD s i 0) ≡ true → Walked f s (i + 1)
+  walked-plain {s} {i} w l h =
+      walked-more w (plain-steps (omega (arith, length-drop i s)) (rw (getD-drop i s 0 0, add-zero) h)) (λ z. omega arith)
+
+  -- a block of n bytes passed at once, by a test that only plain bytes pass
+  module _ (q : ℕ → Bool) (only : (a : ℕ) → q a ≡ true → plain p a ≡ true) where
+    past : (s t : Bytes) → every q s ≡ true → f (s ++ t) ≡ f t
+    unfolding every
+    past [] t h = refl
+    past (a ∷ s) t h =
+        plain-steps {s = a ∷ (s ++ t)} (omega arith) (only a (and-left (q a) (every q s) h)) .rest (omega arith)
+        ∙ past s t (and-right (q a) (every q s) h)
+
+    pub walked-block : (n : ℕ) {s : Bytes} {i : ℕ} → Walked f s i → i + n ≤ length s → every q (take n (drop i s)) ≡ true → Walked f s (i + n)
+    walked-block n {s} {i} w l h =
+        record {
+          within = l;
+          rest = w .rest ∙ ap f (sym (take-append-drop n (drop i s))) ∙ past (take n (drop i s)) (drop n (drop i s)) h ∙ ap f (drop-drop n i s);
+        }
+
+-- `&s[i..i + 8]`
+pub block : (s : Bytes) (i : ℕ) → take (i + 8 - i) (drop i s) ≡ take 8 (drop i s)
+block s i = let e : i + 8 - i ≡ 8 = omega arith in rw e
+
+-- ---- a test of each byte with no branch: `all` is the answer for the first `j` bytes
+
+pub record Gathered (p : ℕ → Bool) (s : Bytes) (j : ℕ) (all : Bool) : Type 0 where
+  pub within : j ≤ length s
+  pub rest : every p s ≡ (all && every p (drop j s))
+
+pub gathered-begins : {p : ℕ → Bool} {s : Bytes} → Gathered p s 0 true
+gathered-begins = record { within = omega arith; rest = refl }
+
+module _ {p : ℕ → Bool} {s : Bytes} {j : ℕ} {all : Bool} (g : Gathered p s j all) where
+  pub gathered-more : {r : Bool} → j < length s → r ≡ p (getD s j 0) → Gathered p s (j + 1) (all && r)
+  unfolding every
+  gathered-more h e =
+      record {
+        within = omega arith;
+        rest = g .rest ∙ rw (e, drop-cons s j 0 h, add-one) (sym (and-assoc all (p (getD s j 0)) (every p (drop (suc j) s))));
+      }
+
+  pub gathered-done : length s ≤ j → all ≡ every p s
+  unfolding every
+  gathered-done h = sym (g .rest ∙ rw (drop-of-length-le s h) (and-true all))
