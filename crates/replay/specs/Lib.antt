@@ -1,2 +1,4 @@
 -- What the contracts of `replay` cite.
 pub mod Lines
+pub mod Ends
+pub mod Ways

@@ -1,8 +1,11 @@
 // Documents run through the calls `start`, `step` and `finish`, and compared with what they must give: for programs that replay vectors.
-ghost use Prim.Native.Nat.{_≤_};
+ghost use Prim.Native.Nat.{_+_, _≤_, min};
 ghost use mathlib.Core.Path.{_≡_};
 ghost use lib.ListN.{length};
+ghost use Rattle.reader.specs.Meaning.{baseOf, meaningOf};
+ghost use Rattle.reader.specs.Meets.{lengthsRight};
 ghost use Rattle.replay.specs.Lines.{partOf, Within, Behind};
+ghost use Rattle.replay.specs.Ways.{Ends, Runs, Turns, Finished, wayOf, advanced, stopped, endedOf};
 use ids::IdTable;
 use libc::STDOUT_FILENO;
 use reader::Report;
@@ -16,6 +19,12 @@ pub struct Ended {
     pub same: bool,
 }
 
+// How many documents there were, and how many of them were as they must be.
+pub struct Tally {
+    pub count: usize,
+    pub same: usize,
+}
+
 // How far a document is: its state, the last number, whether no further call is due; how many bytes of the input were consumed and of
 // the expected lines seen, and whether all lines were those so far.
 struct Way {
@@ -27,12 +36,6 @@ struct Way {
     same: bool,
 }
 
-// How many documents there were, and how many of them were as they must be.
-struct Tally {
-    count: usize,
-    same: usize,
-}
-
 impl Ended {
     // The output room of an event, as pyx2nt gives it.
     pub const ROOM: usize = 65_536;
@@ -41,7 +44,9 @@ impl Ended {
 }
 
 impl Way {
-    fn of(state: State) -> Self {
+    fn of(state: State) -> Self
+        ensures { λ r. ⌜ r ≡ wayOf state ⌝ }
+    {
         Way {
             state,
             number: 0,
@@ -53,7 +58,9 @@ impl Way {
     }
 
     // With as many bytes of expected lines, which must all have been seen.
-    fn ended(self, expected: usize) -> Ended {
+    fn ended(self, expected: usize) -> Ended
+        ensures { λ r. ⌜ r ≡ endedOf self expected ⌝ }
+    {
         let state = self.state;
         Ended {
             state,
@@ -67,16 +74,18 @@ impl Way {
 //
 // A document is a line `= NAME`, or `= NAME BASE`, its PYX lines, a line `> NUMBER` with the number that it must end in, the lines that it
 // must give, and a line `.`. These marks begin no line of PYX or N-Triples.
-pub fn replay_file(path: &[u8]) {
+pub fn replay_file(path: &[u8]) -> Tally
+    ensures { λ r. ⌜ r .same ≤ r .count ⌝ }
+{
     let file = os::open_read(path);
     if file < 0 {
         os::fail(path);
-        return;
+        return Tally { count: 0, same: 0 };
     }
     let mut text = file_buffer();
     let n = io::read_full(file, &mut text);
     libc::close(file);
-    replay_all(&text[..n]);
+    replay_all(&text[..n])
 }
 
 // A document from start to finish, or to its refusal.
@@ -88,7 +97,9 @@ pub fn run(
     work: &mut [u8],
     ids: &mut [u8],
     out: &mut [u8],
-) -> Ended {
+) -> Ended
+    ensures { λ r. ⌜ Runs (length (now (out .entry))) (lengthsRight (now (work .entry)) (now (ids .entry))) (baseOf based (now (base .entry))) (now (input .entry)) (now (expected .entry)) r ⌝ }
+{
     let before = State::none();
     let report = reader::start(before, based, base, work, ids);
     let state = report.state;
@@ -98,7 +109,7 @@ pub fn run(
         return Ended {
             state,
             number,
-            same: expected.len() == 0,
+            same: 0 == expected.len(),
         };
     }
     go_on(state, input, expected, work, ids, out)
@@ -112,14 +123,11 @@ pub fn go_on(
     work: &mut [u8],
     ids: &mut [u8],
     out: &mut [u8],
-) -> Ended {
+) -> Ended
+    ensures { λ r. ⌜ Ends (length (now (out .entry))) (now (input .entry)) (now (expected .entry)) (meaningOf state (now (work .entry)) (now (ids .entry))) r (now (work .exit)) (now (ids .exit)) ⌝ }
+{
     let mut way = Way::of(state);
-    let mut turns = u64::MAX;
-    while turns > 0 {
-        turns -= 1;
-        if way.over {
-            return way.ended(expected.len());
-        }
+    while !way.over {
         way = turn(way, input, expected, work, ids, out);
     }
     way.ended(expected.len())
@@ -134,7 +142,7 @@ pub fn file_buffer() -> [u8; Ended::FILE]
 
 // `n` further than `at`, and no further than `most`.
 pub fn ahead(at: usize, n: usize, most: usize) -> usize
-    ensures { λ r. ⌜ r ≤ most ⌝ }
+    ensures { λ r. ⌜ r ≡ min (at + n) most ⌝ }
 {
     if at > most {
         return most;
@@ -158,15 +166,23 @@ pub fn part(s: &[u8], from: usize, to: usize) -> &[u8]
     &s[from..to]
 }
 
-pub fn print(s: &[u8]) {
-    io::write_all(STDOUT_FILENO, s);
+// Where the next line starts, or the end.
+pub fn line_after(s: &[u8], from: usize) -> usize
+    ensures { λ r. ⌜ Behind from (now (s .entry)) r ⌝ }
+{
+    let mut i = from;
+    while i < s.len() {
+        if s[i] == b'\n' {
+            return i + 1;
+        }
+        i += 1;
+    }
+    s.len()
 }
 
-pub fn print_number(n: usize) {
-    io::print_decimal(STDOUT_FILENO, n as u64);
-}
-
-fn replay_all(text: &[u8]) {
+fn replay_all(text: &[u8]) -> Tally
+    ensures { λ r. ⌜ r .same ≤ r .count ⌝ }
+{
     let mut work = [0u8; Registers::STORE];
     let mut ids = [0u8; IdTable::BYTES];
     let mut out = [0u8; Ended::ROOM];
@@ -175,10 +191,13 @@ fn replay_all(text: &[u8]) {
     print(b" the same of ");
     print_number(tally.count);
     print(b"\n");
+    tally
 }
 
 // A document finds stores and output as the one before left them.
-fn replay_each(text: &[u8], work: &mut [u8], ids: &mut [u8], out: &mut [u8]) -> Tally {
+fn replay_each(text: &[u8], work: &mut [u8], ids: &mut [u8], out: &mut [u8]) -> Tally
+    ensures { λ r. ⌜ r .same ≤ r .count ⌝ }
+{
     let mut at = 0;
     let mut count: usize = 0;
     let mut same: usize = 0;
@@ -253,7 +272,9 @@ fn turn(
     work: &mut [u8],
     ids: &mut [u8],
     out: &mut [u8],
-) -> Way {
+) -> Way
+    ensures { λ r. ⌜ Turns (length (now (out .entry))) (now (input .entry)) (now (expected .entry)) way (now (work .entry)) (now (ids .entry)) r (now (work .exit)) (now (ids .exit)) ⌝ }
+{
     let before = way.state;
     let left = part(input, way.at, input.len());
     let report = reader::step(before, work, ids, left, true, out);
@@ -270,28 +291,34 @@ fn turn(
 }
 
 // Behind an event that is done: its lines must be the next ones.
-fn advance(way: Way, report: Report, most: usize, expected: &[u8], out: &[u8]) -> Way {
+fn advance(way: Way, report: Report, most: usize, expected: &[u8], out: &[u8]) -> Way
+    ensures { λ r. ⌜ r ≡ advanced way report most (now (expected .entry)) (now (out .entry)) ⌝ }
+{
     let state = report.state;
-    let seen = ahead(way.seen, report.written, expected.len());
-    let same = copy::equal(part(out, 0, report.written), part(expected, way.seen, seen));
+    let left = part(expected, way.seen, expected.len());
+    let good = copy::begins(left, part(out, 0, report.written));
     Way {
         state,
         number: 0,
         over: false,
         at: ahead(way.at, report.consumed, most),
-        seen,
-        same: way.same & same,
+        seen: ahead(way.seen, report.written, expected.len()),
+        same: way.same & good,
     }
 }
 
-fn end(way: Way, state: State, work: &[u8], ids: &[u8]) -> Way {
+fn end(way: Way, state: State, work: &[u8], ids: &[u8]) -> Way
+    ensures { λ r. ⌜ Finished way state (now (work .entry)) (now (ids .entry)) r ⌝ }
+{
     let report = reader::finish(state, work, ids);
     let state = report.state;
     let answer = report.answer;
     stop(way, state, answer.number())
 }
 
-fn stop(way: Way, state: State, number: u8) -> Way {
+fn stop(way: Way, state: State, number: u8) -> Way
+    ensures { λ r. ⌜ r ≡ stopped way state number ⌝ }
+{
     Way {
         state,
         number,
@@ -316,20 +343,6 @@ fn line_with(s: &[u8], from: usize, mark: u8) -> usize
     s.len()
 }
 
-// Where the next line starts, or the end.
-pub fn line_after(s: &[u8], from: usize) -> usize
-    ensures { λ r. ⌜ Behind from (now (s .entry)) r ⌝ }
-{
-    let mut i = from;
-    while i < s.len() {
-        if s[i] == b'\n' {
-            return i + 1;
-        }
-        i += 1;
-    }
-    s.len()
-}
-
 // Where the word that starts at `from` ends: before the first space or line end.
 fn word_end(s: &[u8], from: usize) -> usize {
     let mut i = from;
@@ -340,4 +353,12 @@ fn word_end(s: &[u8], from: usize) -> usize {
         i += 1;
     }
     s.len()
+}
+
+fn print(s: &[u8]) {
+    io::write_all(STDOUT_FILENO, s);
+}
+
+fn print_number(n: usize) {
+    io::print_decimal(STDOUT_FILENO, n as u64);
 }

@@ -1,13 +1,12 @@
 // Damaged input: a sidecar cut at every byte, with a byte changed, with its lines in another order; noise; lines and events without end. Each
 // trial must end in a number, with no byte written that was not told, and every call behind it must get 4. The numbers are counted.
 use ids::IdTable;
+use libc::STDOUT_FILENO;
 use reader::Report;
 use reader::State;
 use replay::ahead;
 use replay::line_after;
 use replay::part;
-use replay::print;
-use replay::print_number;
 use state::Registers;
 
 // What is tried: the text cut, and handed over in pieces; one byte of it changed; its lines in another order; noise, or noise of the
@@ -417,4 +416,12 @@ fn print_outcome(what: &[u8], how: &[u8], outcome: Outcome) {
         print(b", not as it must be");
     }
     print(b"\n");
+}
+
+fn print(s: &[u8]) {
+    io::write_all(STDOUT_FILENO, s);
+}
+
+fn print_number(n: usize) {
+    io::print_decimal(STDOUT_FILENO, n as u64);
 }

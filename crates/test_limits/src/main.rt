@@ -1,13 +1,12 @@
 // Documents at the limits and one past them, and the smallest ones that get each number: what each is, and the number that it ends in.
 use frames::Frame;
 use ids::IdTable;
+use libc::STDOUT_FILENO;
 use reader::Report;
 use reader::State;
 use replay::Ended;
 use replay::ahead;
 use replay::part;
-use replay::print;
-use replay::print_number;
 use state::Registers;
 
 // What is made of a state by hand: nothing; another number of open elements, end of what is held, number of labels; another word of the
@@ -595,4 +594,12 @@ fn line(what: &[u8], number: u8) {
     print(b": ");
     print_number(number as usize);
     print(b"\n");
+}
+
+fn print(s: &[u8]) {
+    io::write_all(STDOUT_FILENO, s);
+}
+
+fn print_number(n: usize) {
+    io::print_decimal(STDOUT_FILENO, n as u64);
 }

@@ -1,6 +1,5 @@
 -- `test_damage::print_counts` ends after its turns, one for each number.
 use Prim.Native.Nat.{_-_}
-use native.Mathlib.Omega.{arith}
 use borrow.Author.Needs.{needs}
 use Rattle.test_damage.proofs.print_counts.Statement.{statement}
 use Rattle.test_damage.proofs.print_counts.Tie as tie

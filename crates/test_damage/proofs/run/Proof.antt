@@ -1,6 +1,5 @@
 -- `test_damage::run` ends. The invariant: what is lent keeps its length. The measure is the count of turns.
 use mathlib.Core.Path.{_≡_}
-use native.Mathlib.Omega.{arith}
 use lib.ListN.{length}
 use borrow.Author.Needs.{needs}
 use Rattle.test_damage.proofs.run.Statement.{statement}

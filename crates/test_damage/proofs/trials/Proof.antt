@@ -1,6 +1,5 @@
 -- `test_damage::trials` ends after its turns.
 use Prim.Native.Nat.{_-_}
-use native.Mathlib.Omega.{arith}
 use borrow.Author.Needs.{needs}
 use Rattle.test_damage.proofs.trials.Statement.{statement}
 use Rattle.test_damage.proofs.trials.Tie as tie

@@ -1,6 +1,5 @@
 -- `test_limits::only` ends: the measure is what is left.
 use Prim.Native.Nat.{_-_}
-use native.Mathlib.Omega.{arith}
 use lib.ListN.{length}
 use borrow.Author.Needs.{needs}
 use Rattle.test_limits.proofs.only.Statement.{statement}

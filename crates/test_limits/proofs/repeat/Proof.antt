@@ -1,7 +1,6 @@
 -- `test_limits::repeat` ends after its turns; what is lent keeps its length.
 use Prim.Native.Nat.{_-_}
 use mathlib.Core.Path.{_≡_}
-use native.Mathlib.Omega.{arith}
 use lib.ListN.{length}
 use borrow.Author.Needs.{needs}
 use Rattle.test_limits.proofs.repeat.Statement.{statement}
