@@ -2,7 +2,7 @@
 use mathlib.Core.Path.{_≡_, refl}
 use mathlib.Core.Bool.{true}
 use mathlib.Core.List.{List, [], _∷_, _++_}
-use Prim.Native.Nat.{ℕ, zero, suc}
+use Prim.Native.Nat.{ℕ, zero, suc, _+_, _/_, _%_}
 use Rattle.spec.specs.Bytes.{Bytes, ascii, byte}
 use Rattle.spec.specs.Limits.{mostEventBytes}
 use Rattle.spec.specs.Calls.{State, noDocument, callStep}
@@ -10,10 +10,10 @@ use Rattle.spec.specs.Examples.{page, agree}
 use Rattle.spec.specs.Examples.Calls.{new, spent, manyOf, whole, part}
 use Rattle.spec.specs.Examples.Calls as C
 
--- n attributes without a prefix, all different, each without a value
+-- n attributes without a prefix, all different, each without a value: `aa`, `ab` and so on
 unfoldable pub unprefixed : ℕ → Bytes
 unprefixed zero = []
-unprefixed (suc n) = ascii "A" ++ (manyOf (suc n) (byte "a") ++ (ascii " \n" ++ unprefixed n))
+unprefixed (suc n) = ascii "A" ++ ((byte "a" + n / 26) ∷ ((byte "a" + n % 26) ∷ (ascii " \n" ++ unprefixed n)))
 
 -- a document in rdf:RDF, with a base and the rdf:ID `i` used
 unfoldable pub inRdf : State
@@ -42,7 +42,7 @@ before =
 unfoldable pub counts : List (ℕ × ℕ)
 counts =
     -- 6, then counts (7): a repeated attribute among 66
-    (whole (ascii "(a\n" ++ (unprefixed 65 ++ ascii "Aa \n")) inRdf, 6) ∷
+    (whole (ascii "(a\n" ++ (unprefixed 65 ++ ascii "Aaa \n")) inRdf, 6) ∷
     -- counts (7), then 8 for the element
     (whole (ascii "(a\n" ++ unprefixed 65) inRdf, 7) ∷ (whole (ascii "(a\n" ++ unprefixed 64) inRdf, 8) ∷
     []
@@ -77,11 +77,11 @@ unfoldable pub last : List (ℕ × ℕ)
 last =
     -- 15, then 18
     (whole (page ("(rdf:P" ∷ "Axmlns:rdf http://www.w3.org/1999/02/22-rdf-syntax-ns#" ∷ "Ardf:nodeID a" ∷ "Ardf:about a:b" ∷ [])) spent, 15) ∷
-    -- 18, then other limits (7): an IRI of 1,025 bytes
-    (whole (page ("(rdf:P" ∷ "Axmlns:rdf http://www.w3.org/1999/02/22-rdf-syntax-ns#" ∷ []) ++ (ascii "Ardf:about a:" ++ (manyOf 1_023 (byte "b") ++ ascii "\n"))) spent, 18) ∷
-    -- other limits (7), then 2: the same IRI, and no room
-    (callStep true (page ("(rdf:P" ∷ "Axmlns:rdf http://www.w3.org/1999/02/22-rdf-syntax-ns#" ∷ []) ++ (ascii "Ardf:about a:" ++ (manyOf 1_023 (byte "b") ++ ascii "\n"))) 0 new .answer, 7) ∷
-    (callStep true (page ("(rdf:P" ∷ "Axmlns:rdf http://www.w3.org/1999/02/22-rdf-syntax-ns#" ∷ []) ++ (ascii "Ardf:about a:" ++ (manyOf 1_022 (byte "b") ++ ascii "\n"))) 0 new .answer, 2) ∷
+    -- 18, then other limits (7): an expanded name of 1,025 bytes
+    (whole (ascii "(l:P\nAxmlns:l " ++ (manyOf 1_024 (byte "n") ++ ascii "\n")) spent, 18) ∷
+    -- other limits (7), then 2: the same name, and no room
+    (callStep true (ascii "(l:P\nAxmlns:l " ++ (manyOf 1_024 (byte "n") ++ ascii "\n")) 0 new .answer, 7) ∷
+    (callStep true (ascii "(l:P\nAxmlns:l " ++ (manyOf 1_023 (byte "n") ++ ascii "\n")) 0 new .answer, 2) ∷
     []
 
 pub in-order-before : agree before ≡ true
