@@ -11,7 +11,7 @@ use spec::Refusal;
 use state::Registers;
 
 // The attributes of an event are at most so many: each has a line of four bytes or more.
-const PLACES: usize = 8_192;
+const PLACES: usize = Event::MOST_BYTES / 4;
 
 // Why such a start tag is refused.
 pub fn refusal(

@@ -67,7 +67,7 @@ impl Frame {
     pub const MOST: usize = 64;
 
     // Words of the table of frames.
-    pub const TABLE: usize = 64 * 18;
+    pub const TABLE: usize = Self::MOST * Self::WORDS;
 
     pub fn none() -> Self
         ensures { λ r. ⌜ r ≡ noFrame ⌝ }
@@ -122,9 +122,9 @@ impl Row {
     pub const MOST_BINDINGS: usize = 128;
 
     // Words of the table of bindings, and of that of elements inside Literal content.
-    pub const BINDINGS: usize = 128 * 3;
+    pub const BINDINGS: usize = Self::MOST_BINDINGS * Self::WORDS;
 
-    pub const INNERS: usize = 64 * 3;
+    pub const INNERS: usize = Frame::MOST * Self::WORDS;
 
     // Row i of a table; where the table is too short, zeros.
     pub fn load(rows: &[u32], i: usize) -> Self

@@ -25,22 +25,22 @@ pub struct Image {
 }
 
 impl Image {
-    // Bytes of a state.
-    pub const BYTES: usize = 11_112;
-
     // Its numbers; the flags are the first three.
     pub const NUMBERS: usize = 13;
 
     // Where its tables begin.
-    pub const FRAMES: usize = 104;
+    pub const FRAMES: usize = Self::NUMBERS * 8;
 
-    pub const BINDINGS: usize = 4_712;
+    pub const BINDINGS: usize = Self::FRAMES + Frame::TABLE * 4;
 
-    pub const INNERS: usize = 6_248;
+    pub const INNERS: usize = Self::BINDINGS + Row::BINDINGS * 4;
 
-    pub const IDS_AT: usize = 7_016;
+    pub const IDS_AT: usize = Self::INNERS + Row::INNERS * 4;
 
-    pub const IDS_LEN: usize = 9_064;
+    pub const IDS_LEN: usize = Self::IDS_AT + IdTable::MOST * 4;
+
+    // The whole, in bytes.
+    pub const BYTES: usize = Self::IDS_LEN + IdTable::MOST * 4;
 
     // Of bytes that stand for no state.
     fn none() -> Self

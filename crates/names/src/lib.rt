@@ -53,7 +53,7 @@ impl Class {
     pub const MOST: usize = 64;
 
     // Words of a table for all of them.
-    pub const TABLE: usize = 64 * 3;
+    pub const TABLE: usize = Self::MOST * Self::WORDS;
 
     // Class j of a table; `Unknown` where the table is too short.
     pub fn load(classes: &[usize], j: usize) -> Self

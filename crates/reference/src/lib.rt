@@ -32,17 +32,17 @@ impl Area {
     // Resolved: rdf:ID, rdf:about, rdf:resource, rdf:datatype, rdf:type.
     pub const ID: usize = 0;
 
-    pub const ABOUT: usize = 1_024;
+    pub const ABOUT: usize = Resolved::MOST_BYTES;
 
-    pub const RESOURCE: usize = 2_048;
+    pub const RESOURCE: usize = Self::ABOUT + Resolved::MOST_BYTES;
 
-    pub const DATATYPE: usize = 3_072;
+    pub const DATATYPE: usize = Self::RESOURCE + Resolved::MOST_BYTES;
 
-    pub const TYPE: usize = 4_096;
+    pub const TYPE: usize = Self::DATATYPE + Resolved::MOST_BYTES;
     // The element's expanded name.
-    pub const IRI: usize = 5_120;
+    pub const IRI: usize = Self::TYPE + Resolved::MOST_BYTES;
     // A generated label.
-    pub const LABEL: usize = 6_144;
+    pub const LABEL: usize = Self::IRI + Resolved::MOST_BYTES;
     // A numbered property, for rdf:li.
     pub const PROPERTY: usize = 6_160;
     // xml:lang in lower case.

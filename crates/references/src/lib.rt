@@ -7,6 +7,7 @@ ghost use Rattle.roles.specs.Role.{roleIs};
 ghost use Rattle.attributes.specs.First.{firstIn};
 ghost use Rattle.references.specs.Values.{valueIf, inForce, Bases};
 ghost use Rattle.references.specs.References.{fiveAt, references, freshBy, usedBy, Ready, Four, anyBad, anyLong, Resolving};
+use ids::IdTable;
 use reference::Area;
 use reference::Reference;
 use roles::Role;
@@ -80,8 +81,8 @@ pub fn resolve_references<'a>(
     frames: &[u32],
     work: &'a [u8],
     count: usize,
-    starts: &[u32; 512],
-    sizes: &[u32; 512],
+    starts: &[u32; IdTable::MOST],
+    sizes: &[u32; IdTable::MOST],
     ids: &[u8],
     scratch: &'a [u8],
     spans: &[u32],
@@ -132,8 +133,8 @@ fn resolve_on(
     based: bool,
     base: &[u8],
     count: usize,
-    starts: &[u32; 512],
-    sizes: &[u32; 512],
+    starts: &[u32; IdTable::MOST],
+    sizes: &[u32; IdTable::MOST],
     ids: &[u8],
     scratch: &[u8],
     spans: &[u32],
@@ -183,8 +184,8 @@ fn is_used(
     id: Reference,
     area: &[u8],
     count: usize,
-    starts: &[u32; 512],
-    sizes: &[u32; 512],
+    starts: &[u32; IdTable::MOST],
+    sizes: &[u32; IdTable::MOST],
     ids: &[u8],
 ) -> bool
     ensures { λ r. ⌜ r ≡ usedBy count (now (starts .entry)) (now (sizes .entry)) (now (ids .entry)) (now (area .entry)) id ⌝ }

@@ -15,6 +15,7 @@ ghost use Rattle.attributes.specs.Places.{places};
 ghost use Rattle.attributes.specs.Short.{shortAt};
 ghost use Rattle.tag.specs.Made.{isUnknown, iriOf, Lowered, shortIf, shortBy, RoomToMake, Finished};
 ghost use Rattle.tag.specs.Tag.{Asks, Reads};
+use ids::IdTable;
 use names::Found;
 use names::XML;
 use reference::Area;
@@ -60,8 +61,8 @@ pub fn read_tag<'a>(
     bindings: &[u32],
     work: &'a [u8],
     count: usize,
-    starts: &[u32; 512],
-    sizes: &[u32; 512],
+    starts: &[u32; IdTable::MOST],
+    sizes: &[u32; IdTable::MOST],
     ids: &[u8],
     scratch: &'a [u8],
     spans: &[u32],
