@@ -39,7 +39,7 @@ put-requires : tie.Need-put-requires
 put-requires c κs = search needs
 
 same-length : tie.Need-same-length
-same-length c = search needs
+same-length c = c .before .out .given
 
 returns-3 : tie.Need-returns-3
 returns-3 c = drafted-all (rw (c .before .before .before .before .before .before .before .before .before .before .before .top .ensures, c .before .before .before .before .before .before .before .before .before .before .language-in-force .ensures) at (c .before .before .before .before .before .before .before .before .tell .ensures)) (omega (arith, c .before .before .before .before .before .before .before .before .before .before .before .before .before .before .before .before .before .before .before .before .before .before .good)) (omega arith) refl (omega arith) (omega arith) (c .before .before .put .ensures)
@@ -48,7 +48,7 @@ tell-requires-2 : tie.Need-tell-requires-2
 tell-requires-2 c κs = search needs
 
 same-length-2 : tie.Need-same-length-2
-same-length-2 c = search needs
+same-length-2 c = c .before .out2 .given
 
 returns-4 : tie.Need-returns-4
 returns-4 c = drafted-long (rw (c .before .before .before .before .before .before .before .before .before .before .top .ensures, c .before .before .before .before .before .before .before .before .before .language-in-force .ensures) at (c .before .before .before .before .before .before .before .tell .ensures)) (omega (arith, c .before .before .before .before .before .before .before .before .before .before .before .before .before .before .before .before .before .before .before .before .before .good)) (omega arith) (rw (c .before .before .before .before .before .before .before .before .before .before .top .ensures, c .before .before .before .before .before .before .before .before .before .language-in-force .ensures) at (c .before .before .tell2 .ensures)) refl

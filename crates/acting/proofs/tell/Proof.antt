@@ -29,19 +29,19 @@ returns : tie.Need-returns
 returns c = told-nothing _ _ _ _ _ _ _ _ _ _ (c .enum-told .given .1)
 
 same-length : tie.Need-same-length
-same-length c = search needs
+same-length c = c .before .out .given
 
 returns-2 : tie.Need-returns-2
 returns-2 c = told-node _ _ _ _ _ _ _ _ _ _ (c .before .before .before .before .enum-told2 .given .1) (c .before .before .tell-node .ensures)
 
 same-length-2 : tie.Need-same-length-2
-same-length-2 c = search needs
+same-length-2 c = c .before .out2 .given
 
 returns-3 : tie.Need-returns-3
 returns-3 c = told-object _ _ _ _ _ _ _ _ _ _ (c .before .before .before .before .enum-told3 .given .1) (c .before .before .tell-object .ensures)
 
 same-length-3 : tie.Need-same-length-3
-same-length-3 c = search needs
+same-length-3 c = c .before .out3 .given
 
 returns-4 : tie.Need-returns-4
 returns-4 c = told-resource _ _ _ _ _ _ _ _ _ _ (c .before .before .before .before .enum-told4 .given .1) (c .before .before .tell-resource .ensures)

@@ -29,7 +29,7 @@ node-lines-requires : tie.Need-node-lines-requires
 node-lines-requires c κs = search needs
 
 same-length : tie.Need-same-length
-same-length c = search needs
+same-length c = c .before .out .given
 
 returns : tie.Need-returns
 returns c = node-told (c .before .before .before .before .before .before .before .before .before .before .before .before .before .before .before .before .before .before .before .before .args .x) _ _ _ _ _ _ _ _ (c .before .before .before .before .before .before .before .before .is-tagged .ensures) (c .before .before .before .before .before .before .before .language-of .ensures) (c .before .before .before .before .before .before .is-there .ensures) (c .before .before .before .before .before .text2 .ensures) (c .before .before .before .before .before .before .before .before .before .before .node-of .ensures) (c .before .before .before .before .before .before .before .before .before .text .ensures) (c .before .before .before .before .text3 .ensures) (c .before .before .node-lines .ensures)

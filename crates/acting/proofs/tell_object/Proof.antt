@@ -26,7 +26,7 @@ tag-lines-requires : tie.Need-tag-lines-requires
 tag-lines-requires c κs = search needs
 
 same-length : tie.Need-same-length
-same-length c = search needs
+same-length c = c .before .out .given
 
 returns : tie.Need-returns
 returns c = object-told (c .before .before .before .before .before .before .before .before .before .before .before .before .before .before .before .before .before .before .before .before .args .x) _ _ _ _ _ _ _ _ (c .before .before .before .before .before .before .before .is-tagged .ensures) (c .before .before .before .before .before .before .language-of .ensures) (c .before .before .before .before .before .is-there .ensures) (c .before .before .before .before .text2 .ensures) (c .before .before .before .before .before .before .before .before .before .node-of .ensures) (c .before .before .before .before .before .before .before .before .text .ensures) (c .before .before .tag-lines .ensures)

@@ -41,7 +41,7 @@ statement-requires : tie.Need-statement-requires
 statement-requires c κs = search needs
 
 same-length : tie.Need-same-length
-same-length c = search needs
+same-length c = c .before .out .given
 
 returns : tie.Need-returns
 returns c = resource-told (c .before .before .before .before .before .before .before .before .before .before .before .before .before .before .before .before .before .before .before .before .before .args .x) (c .before .before .before .before .before .before .before .before .before .before .before .before .before .before .before .before .before .before .before .before .before .args .around) _ _ _ (c .before .before .before .before .before .before .before .before .before .before .before .before .before .node-of .ensures) (c .before .before .before .before .before .before .before .before .before .before .before .before .main-of .ensures) (c .before .before .before .before .before .before .before .before .before .before .before .is-there .ensures) (c .before .before .before .before .before .before .before .before .before .before .text .ensures) (c .before .before .before .before .before .before .before .before .before .text2 .ensures) (c .before .before .before .before .before .before .before .before .term-of .ensures) (c .before .before .before .before .before .before .before .text3 .ensures) (c .before .before .statement .ensures)

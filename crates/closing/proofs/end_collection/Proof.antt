@@ -1,5 +1,5 @@
 -- `closing::end_collection` meets its contract. Measured, and then written: one law of specs/ for each return.
-use mathlib.Core.Path.{refl}
+use mathlib.Core.Path.{refl, _∙_}
 use Rattle.state.specs.Tests.{yes, no}
 use Rattle.writer.specs.Said.{says-not, says-all}
 use Rattle.closing.specs.Ends.{tells-over, tells-full, tells-done}
@@ -43,7 +43,7 @@ collection-lines-requires : tie.Need-collection-lines-requires
 collection-lines-requires c κs = listed (c .before .before .before .before .before .before .before .before .before .before .before .before .before .pre .0) (c .before .before .before .before .before .before .before .before .before .top .ensures) (c .before .before .before .before .before .before .before .before .before .before .before .before .before .pre .1) (omega (arith, c .before .before .before .before .before .before .before .wide .ensures))
 
 same-length : tie.Need-same-length
-same-length c = search needs
+same-length c = c .before .before .out .given
 
 returns-3 : tie.Need-returns-3
 returns-3 c = tells-full (collection-tells (c .before .before .before .before .before .before .before .before .before .pop .ensures) (c .before .before .before .before .before .before .before .before .before .before .before .before .before .top .ensures) (rw (c .before .before .before .before .before .before .before .before .before .before .before .wide .ensures .0) at (c .before .before .before .before .before .before .before .before .with-labels .ensures)) (c .before .before .before .before .before .before .before .top2 .ensures) (omega (arith, c .before .before .before .before .before .before .before .before .before .before .before .wide .ensures))) (yes (c .before .before .before .before .before .before .holds-no-more .ensures) (c .before .before .before .before .before .if2 .left)) (says-not (c .before .before .before .collection-lines .ensures) refl (omega (arith, c .before .before .before .before .before .before .before .before .before .before .before .before .before .before .before .before .before .good)) (omega arith)) refl
@@ -52,7 +52,7 @@ collection-lines-requires-2 : tie.Need-collection-lines-requires-2
 collection-lines-requires-2 c κs = listed (c .before .before .before .before .before .before .before .before .before .before .before .before .before .before .before .before .before .before .pre .0) (c .before .before .before .before .before .before .before .before .before .before .before .before .before .before .top .ensures) (c .before .before .before .before .before .before .before .before .before .before .before .before .before .before .before .before .before .before .pre .1) (omega (arith, c .before .before .before .before .before .before .before .before .before .before .before .before .wide .ensures, c .before .before .before .before .before .before .before .before .before .before .before .if1 .left))
 
 same-length-2 : tie.Need-same-length-2
-same-length-2 c = search needs
+same-length-2 c = c .before .out2 .given ∙ c .before .before .before .before .before .before .out .given
 
 returns-4 : tie.Need-returns-4
 returns-4 c = tells-done (collection-tells (c .before .before .before .before .before .before .before .before .before .before .before .before .before .pop .ensures) (c .before .before .before .before .before .before .before .before .before .before .before .before .before .before .before .before .before .top .ensures) (rw (c .before .before .before .before .before .before .before .before .before .before .before .before .before .before .before .wide .ensures .0) at (c .before .before .before .before .before .before .before .before .before .before .before .before .with-labels .ensures)) (c .before .before .before .before .before .before .before .before .before .before .before .top2 .ensures) (omega (arith, c .before .before .before .before .before .before .before .before .before .before .before .before .before .before .before .wide .ensures, c .before .before .before .before .before .before .before .before .before .before .before .before .before .before .if1 .left))) (yes (c .before .before .before .before .before .before .before .before .before .before .holds-no-more .ensures) (c .before .before .before .before .before .before .before .before .before .if2 .left)) (says-all (c .before .before .before .before .before .before .before .collection-lines .ensures) refl (omega (arith, c .before .before .before .before .before .before .before .before .before .before .before .before .before .before .before .before .before .before .before .before .before .good)) (c .before .before .collection-lines2 .ensures) refl (omega arith)) refl

@@ -34,7 +34,7 @@ literal-lines-requires : tie.Need-literal-lines-requires
 literal-lines-requires c κs = search needs
 
 same-length : tie.Need-same-length
-same-length c = search needs
+same-length c = c .before .before .out .given
 
 returns-3 : tie.Need-returns-3
 returns-3 c = tells-full (literal-tells (c .before .before .before .before .before .before .before .before .before .pop .ensures) (c .before .before .before .before .before .before .before .before .before .before .before .before .top .ensures) (c .before .before .before .before .before .before .before .top2 .ensures) (empty-not _ (λ z. c .before .before .before .before .before .before .before .before .before .before .if1 .left (c .before .before .before .before .before .before .before .before .before .before .before .tail-size .ensures ∙ z)))) (yes (c .before .before .before .before .before .before .holds-no-more .ensures) (c .before .before .before .before .before .if2 .left)) (says-not (c .before .before .before .literal-lines .ensures) refl (omega arith) (omega arith)) refl
@@ -43,7 +43,7 @@ literal-lines-requires-2 : tie.Need-literal-lines-requires-2
 literal-lines-requires-2 c κs = search needs
 
 same-length-2 : tie.Need-same-length-2
-same-length-2 c = search needs
+same-length-2 c = c .before .out2 .given ∙ c .before .before .before .before .before .before .out .given
 
 returns-4 : tie.Need-returns-4
 returns-4 c = tells-done (literal-tells (c .before .before .before .before .before .before .before .before .before .before .before .before .before .pop .ensures) (c .before .before .before .before .before .before .before .before .before .before .before .before .before .before .before .before .top .ensures) (c .before .before .before .before .before .before .before .before .before .before .before .top2 .ensures) (empty-not _ (λ z. c .before .before .before .before .before .before .before .before .before .before .before .before .before .before .if1 .left (c .before .before .before .before .before .before .before .before .before .before .before .before .before .before .before .tail-size .ensures ∙ z)))) (yes (c .before .before .before .before .before .before .before .before .before .before .holds-no-more .ensures) (c .before .before .before .before .before .before .before .before .before .if2 .left)) (says-all (c .before .before .before .before .before .before .before .literal-lines .ensures) refl (omega (arith, c .before .before .before .before .before .before .before .before .before .before .before .before .before .before .before .before .before .before .before .before .good)) (c .before .before .literal-lines2 .ensures) refl (omega arith)) refl

@@ -18,10 +18,10 @@ close-node-requires : tie.Need-close-node-requires
 close-node-requires c κs = search needs
 
 same-length-2 : tie.Need-same-length-2
-same-length-2 c = search needs
+same-length-2 c = c .before .before .before .before .frames .given
 
 same-length-3 : tie.Need-same-length-3
-same-length-3 c = search needs
+same-length-3 c = c .before .before .work .given
 
 returns-2 : tie.Need-returns-2
 returns-2 c = λ out. node-done (c .before .before .before .before .before .before .before .before .before .held-after .ensures) (omega (arith, c .before .before .before .before .before .before .before .before .if1 .left)) (c .before .before .before .before .before .close-node .ensures)

@@ -1,4 +1,5 @@
 -- `closing::end_outside` meets its contract. 6, or the end tag matches.
+use mathlib.Core.Path.{refl}
 use borrow.Author.Tests.{not-true, not-false}
 use Rattle.state.specs.Tests.{yes, no}
 use Rattle.closing.specs.Kinds.{whole}
@@ -11,7 +12,7 @@ name-requires : tie.Need-name-requires
 name-requires c κs = search needs
 
 same-length : tie.Need-same-length
-same-length c = search needs
+same-length c = refl
 
 returns : tie.Need-returns
 returns c = none-open (c .before .before .before .before .before .before .before .before .before .before .pre .0) _ (c .before .before .name .ensures) (not-true _ (c .if1 .taken))
@@ -23,10 +24,10 @@ equal-requires : tie.Need-equal-requires
 equal-requires c κs = search needs
 
 same-length-2 : tie.Need-same-length-2
-same-length-2 c = search needs
+same-length-2 c = refl
 
 same-length-3 : tie.Need-same-length-3
-same-length-3 c = search needs
+same-length-3 c = refl
 
 returns-2 : tie.Need-returns-2
 returns-2 c = other-name (c .before .before .before .before .before .before .before .before .before .before .before .before .before .before .pre .0) _ (c .before .before .before .before .before .before .name .ensures) (not-false _ (c .before .before .before .before .if1 .left)) (c .before .before .piece .ensures) (no (c .before .equal .ensures) (c .if2 .taken))
@@ -35,13 +36,13 @@ end-state-requires : tie.Need-end-state-requires
 end-state-requires c κs = whole (is-closing (c .before .before .before .before .before .before .before .before .before .before .before .before .before .before .before .before .before .pre .0) (c .before .before .before .before .before .before .before .before .before .before .before .before .before .before .before .before .before .args .name .now) (c .before .before .before .before .before .before .before .before .before .name .ensures) (not-false _ (c .before .before .before .before .before .before .before .if1 .left)) (c .before .before .before .before .before .piece .ensures) (c .before .before .before .before .before .before .before .before .before .before .before .before .before .before .before .before .before .pre .1))
 
 same-length-4 : tie.Need-same-length-4
-same-length-4 c = search needs
+same-length-4 c = c .before .before .before .before .before .frames .given
 
 same-length-5 : tie.Need-same-length-5
-same-length-5 c = search needs
+same-length-5 c = c .before .before .before .work .given
 
 same-length-6 : tie.Need-same-length-6
-same-length-6 c = search needs
+same-length-6 c = c .before .out .given
 
 returns-3 : tie.Need-returns-3
 returns-3 c = matched (c .before .before .before .before .before .before .before .before .before .before .before .before .before .before .before .before .before .before .before .before .before .before .before .before .pre .0) _ (c .before .before .before .before .before .before .before .before .before .before .before .before .before .before .before .before .name .ensures) (not-false _ (c .before .before .before .before .before .before .before .before .before .before .before .before .before .before .if1 .left)) (c .before .before .before .before .before .before .before .before .before .before .before .before .piece .ensures) (c .before .before .before .before .before .before .before .before .before .before .before .before .before .before .before .before .before .before .before .before .before .before .before .before .pre .1) (yes (c .before .before .before .before .before .before .before .before .before .before .before .equal .ensures) (c .before .before .before .before .before .before .before .before .before .before .if2 .left)) (c .before .before .before .before .before .before .end-state .ensures)

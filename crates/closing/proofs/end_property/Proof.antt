@@ -29,13 +29,13 @@ say-property-requires : tie.Need-say-property-requires
 say-property-requires c κs = search needs
 
 same-length : tie.Need-same-length
-same-length c = search needs
+same-length c = c .before .before .before .out .given
 
 returns-2 : tie.Need-returns-2
 returns-2 c = tells-full (property-tells (c .before .before .before .before .before .before .before .before .before .before .before .pop .ensures) (c .before .before .before .before .before .before .before .before .before .before .before .before .top .ensures) (c .before .before .before .before .before .before .before .before .before .top2 .ensures) (c .before .before .before .before .before .before .before .before .language-in-force .ensures)) (yes (c .before .before .before .before .before .before .before .holds-no-more .ensures) (c .before .before .before .before .before .before .if1 .left)) (c .before .before .before .before .say-property .ensures) (not-true _ (c .if2 .taken))
 
 same-length-2 : tie.Need-same-length-2
-same-length-2 c = search needs
+same-length-2 c = c .before .before .before .out .given
 
 returns-3 : tie.Need-returns-3
 returns-3 c = tells-done (property-tells (c .before .before .before .before .before .before .before .before .before .before .before .pop .ensures) (c .before .before .before .before .before .before .before .before .before .before .before .before .top .ensures) (c .before .before .before .before .before .before .before .before .before .top2 .ensures) (c .before .before .before .before .before .before .before .before .language-in-force .ensures)) (yes (c .before .before .before .before .before .before .before .holds-no-more .ensures) (c .before .before .before .before .before .before .if1 .left)) (c .before .before .before .before .say-property .ensures) (not-false _ (c .if2 .left))

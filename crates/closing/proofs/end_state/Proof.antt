@@ -1,5 +1,5 @@
 -- `closing::end_state` meets its contract. One match, one call an arm.
-use mathlib.Core.Path.{sym, ap, _∙_}
+use mathlib.Core.Path.{sym, ap, _∙_, refl}
 use Rattle.frames.specs.declared.Kind.the-variants.{Rdf, ParseTypeOtherPropertyElt}
 use Rattle.frames.specs.declared.Frame.{Frame}
 use Rattle.closing.specs.Ends.{ends-as}
@@ -54,46 +54,46 @@ returns : tie.Need-returns
 returns c = ends-as (c .before .before .before .before .top .ensures) (c .before .before .enum-told .given .1) (c .end-silent .ensures Rdf _ _ rdf-silent)
 
 same-length-2 : tie.Need-same-length-2
-same-length-2 c = search needs
+same-length-2 c = c .before .before .before .frames .given
 
 same-length-3 : tie.Need-same-length-3
-same-length-3 c = search needs
+same-length-3 c = c .before .work .given
 
 returns-2 : tie.Need-returns-2
 returns-2 c = ends-as (c .before .before .before .before .before .before .before .before .before .top .ensures) (c .before .before .before .before .before .before .before .enum-told2 .given .1) (c .before .before .before .before .end-node .ensures _)
 
 same-length-4 : tie.Need-same-length-4
-same-length-4 c = search needs
+same-length-4 c = refl
 
 same-length-5 : tie.Need-same-length-5
-same-length-5 c = search needs
+same-length-5 c = refl
 
 same-length-6 : tie.Need-same-length-6
-same-length-6 c = search needs
+same-length-6 c = c .before .out .given
 
 returns-3 : tie.Need-returns-3
 returns-3 c = ends-as (c .before .before .before .before .before .before .before .before .top .ensures) (c .before .before .before .before .before .before .enum-told3 .given .1) (c .before .before .end-property .ensures)
 
 same-length-7 : tie.Need-same-length-7
-same-length-7 c = search needs
+same-length-7 c = refl
 
 same-length-8 : tie.Need-same-length-8
-same-length-8 c = search needs
+same-length-8 c = refl
 
 same-length-9 : tie.Need-same-length-9
-same-length-9 c = search needs
+same-length-9 c = c .before .out2 .given
 
 returns-4 : tie.Need-returns-4
 returns-4 c = ends-as (c .before .before .before .before .before .before .before .before .top .ensures) (c .before .before .before .before .before .before .enum-told4 .given .1) (c .before .before .end-collection .ensures)
 
 same-length-10 : tie.Need-same-length-10
-same-length-10 c = search needs
+same-length-10 c = refl
 
 same-length-11 : tie.Need-same-length-11
-same-length-11 c = search needs
+same-length-11 c = refl
 
 same-length-12 : tie.Need-same-length-12
-same-length-12 c = search needs
+same-length-12 c = c .before .out3 .given
 
 returns-5 : tie.Need-returns-5
 returns-5 c = ends-as (c .before .before .before .before .before .before .before .before .top .ensures) (c .before .before .before .before .before .before .enum-told5 .given .1) (c .before .before .end-literal .ensures)

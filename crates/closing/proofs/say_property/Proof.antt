@@ -26,7 +26,7 @@ put-requires : tie.Need-put-requires
 put-requires c κs = search needs
 
 same-length : tie.Need-same-length
-same-length c = search needs
+same-length c = c .before .out .given
 
 returns-2 : tie.Need-returns-2
 returns-2 c = drafted-all (c .before .before .before .before .before .before .before .before .property-lines .ensures) (omega arith) (omega arith) refl (omega arith) (omega arith) (c .before .before .put .ensures)
@@ -35,7 +35,7 @@ property-lines-requires-2 : tie.Need-property-lines-requires-2
 property-lines-requires-2 c κs = search needs
 
 same-length-2 : tie.Need-same-length-2
-same-length-2 c = search needs
+same-length-2 c = c .before .out2 .given
 
 returns-3 : tie.Need-returns-3
 returns-3 c = drafted-long (c .before .before .before .before .before .before .before .property-lines .ensures) (omega arith) (omega arith) (c .before .before .property-lines2 .ensures) refl

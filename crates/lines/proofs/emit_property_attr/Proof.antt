@@ -73,38 +73,38 @@ property-line-requires-6 : tie.Need-property-line-requires-6
 property-line-requires-6 c κs = search needs
 
 same-length : tie.Need-same-length
-same-length c = search needs
+same-length c = c .before .out .given
 
 returns-2 : tie.Need-returns-2
 returns-2 c = one-line _ _ _ _ _ _ _ _ (c .before .before .property-line .ensures) (sym (c .before .before .before .before .before .before .before .before .before .is-property .ensures) ∙ not-false _ (c .before .before .before .before .before .before .before .before .if1 .left)) (c .before .before .before .before .before .before .before .load .ensures) (space-declaration _ _ (c .before .before .before .before .before .enum-told .given .1))
 
 same-length-2 : tie.Need-same-length-2
-same-length-2 c = search needs
+same-length-2 c = c .before .out2 .given
 
 returns-3 : tie.Need-returns-3
 returns-3 c = one-line _ _ _ _ _ _ _ _ (c .before .before .property-line2 .ensures) (sym (c .before .before .before .before .before .before .before .before .before .is-property .ensures) ∙ not-false _ (c .before .before .before .before .before .before .before .before .if1 .left)) (c .before .before .before .before .before .before .before .load .ensures) (space-unknown _ _ (c .before .before .before .before .before .enum-told2 .given .1))
 
 same-length-3 : tie.Need-same-length-3
-same-length-3 c = search needs
+same-length-3 c = c .before .out3 .given
 
 returns-4 : tie.Need-returns-4
 returns-4 c = one-line _ _ _ _ _ _ _ _ (c .before .before .property-line3 .ensures) (sym (c .before .before .before .before .before .before .before .before .before .is-property .ensures) ∙ not-false _ (c .before .before .before .before .before .before .before .before .if1 .left)) (c .before .before .before .before .before .before .before .load .ensures) (space-unprefixed _ _ (c .before .before .before .before .before .enum-told3 .given .1))
 
 same-length-4 : tie.Need-same-length-4
-same-length-4 c = search needs
+same-length-4 c = c .before .out4 .given
 
 returns-5 : tie.Need-returns-5
 unfolding xmlName ascii
 returns-5 c = one-line _ _ _ _ _ _ _ _ (c .before .before .property-line4 .ensures) (sym (c .before .before .before .before .before .before .before .before .before .is-property .ensures) ∙ not-false _ (c .before .before .before .before .before .before .before .before .if1 .left)) (c .before .before .before .before .before .before .before .load .ensures) (space-xml _ _ (c .before .before .before .before .before .enum-told4 .given .1))
 
 same-length-5 : tie.Need-same-length-5
-same-length-5 c = search needs
+same-length-5 c = c .before .out5 .given
 
 returns-6 : tie.Need-returns-6
 returns-6 c = one-line _ _ _ _ _ _ _ _ (c .before .before .property-line5 .ensures) (sym (c .before .before .before .before .before .before .before .before .before .before .is-property .ensures) ∙ not-false _ (c .before .before .before .before .before .before .before .before .before .if1 .left)) (c .before .before .before .before .before .before .before .before .load .ensures) (space-own _ _ (c .before .before .before .piece .ensures) (c .before .before .before .before .before .before .class .given .1))
 
 same-length-6 : tie.Need-same-length-6
-same-length-6 c = search needs
+same-length-6 c = c .before .out6 .given
 
 returns-7 : tie.Need-returns-7
 returns-7 c = one-line _ _ _ _ _ _ _ _ (c .before .before .property-line6 .ensures) (sym (c .before .before .before .before .before .before .before .before .before .before .is-property .ensures) ∙ not-false _ (c .before .before .before .before .before .before .before .before .before .if1 .left)) (c .before .before .before .before .before .before .before .before .load .ensures) (space-held _ _ (c .before .before .before .piece2 .ensures) (c .before .before .before .before .before .before .class2 .given .1))

@@ -1,4 +1,5 @@
 -- `lines::node_lines` meets its contract: two rows of lines.
+use mathlib.Core.Path.{_∙_}
 use Rattle.lines.specs.Lines.{lines-then}
 use Rattle.writer.specs.Put.{puts, put-as}
 use borrow.Author.Needs.{needs}
@@ -12,7 +13,7 @@ type-line-requires : tie.Need-type-line-requires
 type-line-requires c κs = search needs
 
 same-length : tie.Need-same-length
-same-length c = search needs
+same-length c = c .before .out2 .given ∙ c .before .before .before .before .before .out .given
 
 returns : tie.Need-returns
 returns c = put-as (puts (c .before .before .before .before .before .before .tag-lines .ensures) (c .before .before .type-line .ensures)) (lines-then _ _)

@@ -21,7 +21,7 @@ line-behind-requires : tie.Need-line-behind-requires
 line-behind-requires c κs = search needs
 
 same-length : tie.Need-same-length
-same-length c = search needs
+same-length c = c .before .out .given
 
 returns : tie.Need-returns
 returns c = put-as (c .before .before .line-behind .ensures) (property-text _ (c .before .before .before .before .before .before .before .before .before .before .before .before .before .before .args .space .now) (c .before .before .before .before .before .before .before .before .before .before .before .before .before .before .args .language .now) (c .before .before .before .before .before .before .before .before .before .before .before .before .before .before .args .scratch .now) (c .before .before .before .before .before .before .before .before .before .before .before .before .before .before .args .spans .now) (c .before .before .before .before .before .before .before .before .before .before .before .before .before .before .args .j) _ (c .before .before .before .before .before .before .before .local-of .ensures) (c .before .before .before .before .before .before .value-of .ensures) (c .before .before .before .before .before .literal-kind .ensures))

@@ -23,7 +23,7 @@ rdf-line-requires : tie.Need-rdf-line-requires
 rdf-line-requires c κs = search needs
 
 same-length : tie.Need-same-length
-same-length c = search needs
+same-length c = c .before .out .given
 
 returns-2 : tie.Need-returns-2
 unfolding ascii

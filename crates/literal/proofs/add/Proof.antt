@@ -37,10 +37,10 @@ add-xml-requires : tie.Need-add-xml-requires
 add-xml-requires c κs = search needs
 
 same-length-2 : tie.Need-same-length-2
-same-length-2 c = search needs
+same-length-2 c = c .before .before .before .before .frames .given
 
 same-length-3 : tie.Need-same-length-3
-same-length-3 c = search needs
+same-length-3 c = c .before .before .work .given
 
 returns-2 : tie.Need-returns-2
 unfolding L.all

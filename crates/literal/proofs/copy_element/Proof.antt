@@ -1,5 +1,5 @@
 -- `literal::copy_element` meets its contract: 7, or the start tag is added and its element entered.
-use mathlib.Core.Path.{refl, ap}
+use mathlib.Core.Path.{refl, ap, _∙_}
 use Prim.Native.Nat.{_+_}
 use Rattle.element.specs.Sizes.{few-declared}
 use Rattle.literal.specs.Added.{xml-in}
@@ -31,28 +31,28 @@ enter-requires : tie.Need-enter-requires
 enter-requires c κs = copy-room (c .before .before .before .before .before .before .before .before .before .before .before .before .before .before .before .before .before .before .before .before .before .before .before .before .before .before .before .before .pre) (xml-in (c .before .before .before .before .before .before .before .before .before .before .before .before .before .before .before .before .before .before .start-tag .ensures) refl (omega (arith, c .before .before .before .before .before .before .before .before .before .before .before .before .before .before .before .before .before .before .before .before .before .before .before .before .before .before .before .before .good))) (ap (_+_ _) (c .before .before .before .before .before .before .before .before .before .before .before .before .before .before .before .declared-size .ensures)) (c .before .before .before .before .before .before .before .before .before .before .before .add .ensures) (c .before .before .before .before .before .added2 .given .1)
 
 same-length : tie.Need-same-length
-same-length c = search needs
+same-length c = c .before .before .before .before .before .before .frames .given
 
 same-length-2 : tie.Need-same-length-2
-same-length-2 c = search needs
+same-length-2 c = c .before .before .before .before .work .given
 
 same-length-3 : tie.Need-same-length-3
-same-length-3 c = search needs
+same-length-3 c = c .before .before .before .before .before .before .before .before .before .before .before .before .before .area .given
 
 returns : tie.Need-returns
 returns c = copy-over (c .before .before .before .before .before .before .before .before .before .before .before .before .before .before .before .before .before .before .before .before .before .before .before .before .pre) (xml-in (c .before .before .before .before .before .before .before .before .before .before .before .before .before .before .start-tag .ensures) refl (omega (arith, c .before .before .before .before .before .before .before .before .before .before .before .before .before .before .before .before .before .before .before .before .before .before .before .before .good))) (ap (_+_ _) (c .before .before .before .before .before .before .before .before .before .before .before .declared-size .ensures)) (c .before .before .before .before .before .before .before .add .ensures) (c .before .added .given .1)
 
 same-length-4 : tie.Need-same-length-4
-same-length-4 c = search needs
+same-length-4 c = c .before .before .before .before .before .before .before .before .before .before .before .before .before .before .before .before .before .frames .given
 
 same-length-5 : tie.Need-same-length-5
-same-length-5 c = search needs
+same-length-5 c = c .before .before .before .before .before .bindings .given
 
 same-length-6 : tie.Need-same-length-6
-same-length-6 c = search needs
+same-length-6 c = c .before .before .before .inners .given
 
 same-length-7 : tie.Need-same-length-7
-same-length-7 c = search needs
+same-length-7 c = c .before .work2 .given ∙ c .before .before .before .before .before .before .before .before .before .before .before .before .before .before .before .work .given
 
 same-length-8 : tie.Need-same-length-8
 same-length-8 c = c .before .before .before .before .before .before .before .before .before .before .before .before .before .before .before .before .before .before .before .before .before .before .before .before .before .start-tag .ensures .same

@@ -1,4 +1,5 @@
 -- `literal::start_tag` meets its contract: three pieces.
+use mathlib.Core.Path.{_∙_}
 use Rattle.literal.specs.Copied.{tag-put}
 use borrow.Author.Needs.{needs}
 use Rattle.literal.proofs.start_tag.Statement.{statement}
@@ -14,7 +15,7 @@ close-tag-requires : tie.Need-close-tag-requires
 close-tag-requires c κs = search needs
 
 same-length : tie.Need-same-length
-same-length c = search needs
+same-length c = c .before .area3 .given ∙ c .before .before .before .before .before .area2 .given ∙ c .before .before .before .before .before .before .before .before .before .area .given
 
 returns : tie.Need-returns
 returns c = tag-put _ _ (c .before .before .before .before .before .before .before .before .before .before .open-tag .ensures) (c .before .before .before .before .before .before .attributes .ensures) (c .before .before .close-tag .ensures)

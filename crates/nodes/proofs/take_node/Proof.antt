@@ -15,10 +15,10 @@ take-object-requires : tie.Need-take-object-requires
 take-object-requires c κs = search needs
 
 same-length : tie.Need-same-length
-same-length c = search needs
+same-length c = c .before .before .before .frames .given
 
 same-length-2 : tie.Need-same-length-2
-same-length-2 c = search needs
+same-length-2 c = c .before .work .given
 
 returns : tie.Need-returns
 returns c = took-object (c .before .before .before .before .before .before .before .before .before .top .ensures) (sym (c .before .before .before .before .before .before .before .before .same-kind .ensures) ∙ c .before .before .before .before .before .before .before .if1 .taken) (c .before .before .before .before .take-object .ensures)
@@ -30,10 +30,10 @@ take-child-requires : tie.Need-take-child-requires
 take-child-requires c κs = search needs
 
 same-length-3 : tie.Need-same-length-3
-same-length-3 c = search needs
+same-length-3 c = c .before .before .before .frames2 .given
 
 same-length-4 : tie.Need-same-length-4
-same-length-4 c = search needs
+same-length-4 c = c .before .work2 .given
 
 returns-2 : tie.Need-returns-2
 returns-2 c = took-child (c .before .before .before .before .before .before .before .before .before .before .before .top .ensures) (sym (c .before .before .before .before .before .before .before .before .before .before .same-kind .ensures) ∙ c .before .before .before .before .before .before .before .before .before .if1 .left) (sym (c .before .before .before .before .before .before .before .before .same-kind2 .ensures) ∙ c .before .before .before .before .before .before .before .if2 .taken) (c .before .before .before .before .take-child .ensures)

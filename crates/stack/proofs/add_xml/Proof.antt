@@ -1,7 +1,7 @@
 -- `stack::add_xml` meets its contract. A law of specs/ for each return, with the tests that led there.
 use Rattle.stack.specs.Calls.{xml-dropped, xml-other, xml-done}
 use Rattle.state.specs.Tests.{yes, no}
-use mathlib.Core.Path.{_∙_, sym}
+use mathlib.Core.Path.{_∙_, sym, refl}
 use borrow.Author.Needs.{needs}
 use Rattle.stack.proofs.add_xml.Statement.{statement}
 use Rattle.stack.proofs.add_xml.Tie as tie
@@ -22,7 +22,7 @@ same-kind-requires-2 : tie.Need-same-kind-requires-2
 same-kind-requires-2 c κs = search needs
 
 same-length-2 : tie.Need-same-length-2
-same-length-2 c = search needs
+same-length-2 c = refl
 
 returns-2 : tie.Need-returns-2
 returns-2 c = xml-other (c .before .before .before .before .before .before .top .ensures) (sym (c .before .before .before .same-kind .ensures) ∙ c .before .before .if1 .left) (no (c .before .same-kind2 .ensures) (c .if2 .taken))
@@ -40,10 +40,10 @@ write-tail-requires : tie.Need-write-tail-requires
 write-tail-requires c κs = search needs
 
 same-length-3 : tie.Need-same-length-3
-same-length-3 c = search needs
+same-length-3 c = c .before .before .before .frames .given
 
 same-length-4 : tie.Need-same-length-4
-same-length-4 c = search needs
+same-length-4 c = c .before .work .given
 
 returns-3 : tie.Need-returns-3
 returns-3 c = xml-done (c .before .before .before .before .before .before .before .before .before .before .before .before .before .before .top .ensures) (sym (c .before .before .before .before .before .before .before .before .before .before .before .same-kind .ensures) ∙ c .before .before .before .before .before .before .before .before .before .before .if1 .left) (yes (c .before .before .before .before .before .before .before .before .before .same-kind2 .ensures) (c .before .before .before .before .before .before .before .before .if2 .left)) (rw (c .before .before .before .before .before .wide .ensures .0) at (c .before .before .before .before .write-tail .ensures))

@@ -1,4 +1,5 @@
 -- `stack::count_li` meets its contract. A law of specs/ for each return, with the tests that led there.
+use mathlib.Core.Path.{refl}
 use Rattle.stack.specs.Calls.{count-other, count-empty, count-spent, count-done}
 use Rattle.state.specs.Tests.{yes, no}
 use native.Mathlib.Omega.{arith}
@@ -31,7 +32,7 @@ cast-if3 : tie.Need-cast-if3
 cast-if3 c = search needs
 
 same-length-3 : tie.Need-same-length-3
-same-length-3 c = search needs
+same-length-3 c = refl
 
 returns-3 : tie.Need-returns-3
 returns-3 c = count-spent (c .before .before .before .before .before .before .before .top .ensures) (yes (c .before .before .before .before .same-kind .ensures) (c .before .before .before .if1 .left)) (c .before .if2 .left) (omega arith)

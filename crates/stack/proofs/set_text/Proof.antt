@@ -27,10 +27,10 @@ write-tail-requires : tie.Need-write-tail-requires
 write-tail-requires c κs = search needs
 
 same-length-2 : tie.Need-same-length-2
-same-length-2 c = search needs
+same-length-2 c = c .before .before .before .frames .given
 
 same-length-3 : tie.Need-same-length-3
-same-length-3 c = search needs
+same-length-3 c = c .before .work .given
 
 returns-2 : tie.Need-returns-2
 returns-2 c = text-done (c .before .before .before .before .before .before .before .before .before .before .before .top .ensures) (yes (c .before .before .before .before .before .before .before .before .before .same-kind .ensures) (c .before .before .before .before .before .before .before .before .if1 .left)) (rw (c .before .before .before .before .before .wide .ensures .0) at (c .before .before .before .before .write-tail .ensures))

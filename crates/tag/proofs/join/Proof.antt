@@ -1,4 +1,5 @@
 -- `tag::join` meets its contract: two stores in a row.
+use mathlib.Core.Path.{_∙_}
 use Rattle.tag.specs.Made.{space-long, both-long, joined}
 use borrow.Author.Needs.{needs}
 use Rattle.tag.proofs.join.Statement.{statement}
@@ -23,7 +24,7 @@ add-t6 : tie.Need-add-t6
 add-t6 c = search needs
 
 same-length : tie.Need-same-length
-same-length c = search needs
+same-length c = c .before .area2 .given ∙ c .before .before .before .before .before .area .given
 
 returns-3 : tie.Need-returns-3
 returns-3 c = joined (c .before .before .before .before .before .before .before .before .before .before .before .before .before .args .space .now) (c .before .before .before .before .before .before .before .before .before .before .before .before .before .args .local .now) (c .before .before .before .before .before .before .before .before .before .before .before .before .before .pre) (c .before .before .before .before .before .before .before .before .before .if1 .left) (c .before .before .before .before .before .before .before .before .if2 .left) (c .before .before .before .before .before .before .put .ensures) (c .before .before .put2 .ensures)

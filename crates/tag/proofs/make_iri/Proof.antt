@@ -44,20 +44,20 @@ returns : tie.Need-returns
 returns c = made-none (c .before .before .before .before .before .before .before .args .scratch .now) (c .before .before .before .before .before .before .before .args .work .now) (backOf (c .before .before .before .before .before .before .before .args .c) (c .before .before .before .before .before .before .before .args .name .now)) (c .enum-told .given .1)
 
 same-length : tie.Need-same-length
-same-length c = search needs
+same-length c = c .before .area .given
 
 returns-2 : tie.Need-returns-2
 unfolding xmlName ascii
 returns-2 c = made-xml (c .before .before .before .before .before .before .before .before .before .before .before .before .args .scratch .now) (c .before .before .before .before .before .before .before .before .before .before .before .before .args .work .now) (backOf (c .before .before .before .before .before .before .before .before .before .before .before .before .args .c) (c .before .before .before .before .before .before .before .before .before .before .before .before .args .name .now)) (c .before .before .before .before .before .before .before .back-of .ensures) (c .before .before .before .before .before .enum-told2 .given .1) (c .before .before .join .ensures)
 
 same-length-2 : tie.Need-same-length-2
-same-length-2 c = search needs
+same-length-2 c = c .before .area2 .given
 
 returns-3 : tie.Need-returns-3
 returns-3 c = made-own (c .before .before .before .before .before .before .before .before .before .before .before .before .before .args .scratch .now) (c .before .before .before .before .before .before .before .before .before .before .before .before .before .args .work .now) (backOf (c .before .before .before .before .before .before .before .before .before .before .before .before .before .args .c) (c .before .before .before .before .before .before .before .before .before .before .before .before .before .args .name .now)) (c .before .before .before .before .before .before .before .before .back-of .ensures) (c .before .before .before .before .before .before .found .given .1) (c .before .before .before .before .piece .ensures) (c .before .before .join2 .ensures)
 
 same-length-3 : tie.Need-same-length-3
-same-length-3 c = search needs
+same-length-3 c = c .before .area3 .given
 
 returns-4 : tie.Need-returns-4
 returns-4 c = made-held (c .before .before .before .before .before .before .before .before .before .before .before .before .before .args .scratch .now) (c .before .before .before .before .before .before .before .before .before .before .before .before .before .args .work .now) (backOf (c .before .before .before .before .before .before .before .before .before .before .before .before .before .args .c) (c .before .before .before .before .before .before .before .before .before .before .before .before .before .args .name .now)) (c .before .before .before .before .before .before .before .before .back-of .ensures) (c .before .before .before .before .before .before .found2 .given .1) (c .before .before .before .before .piece2 .ensures) (c .before .before .join3 .ensures)

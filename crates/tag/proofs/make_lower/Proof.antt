@@ -14,7 +14,7 @@ lowercase-into-requires : tie.Need-lowercase-into-requires
 lowercase-into-requires c κs = search needs
 
 same-length : tie.Need-same-length
-same-length c = search needs
+same-length c = c .before .area .given
 
 returns-2 : tie.Need-returns-2
 returns-2 c = language-lowered (c .before .before .before .before .before .before .before .before .before .args .scratch .now) (c .before .before .before .before .before .before .before .before .before .args .spans .now) (c .before .before .before .before .before .before .before .before .before .pre) (c .before .before .before .value-of .ensures) (c .before .before .lowercase-into .ensures)

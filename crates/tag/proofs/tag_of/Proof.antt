@@ -1,4 +1,5 @@
 -- `tag::tag_of` meets its contract: the parts of the tag, each from the call that made it.
+use mathlib.Core.Path.{_∙_}
 use Rattle.tag.specs.Made.{finished}
 use borrow.Author.Needs.{needs}
 use Rattle.tag.proofs.tag_of.Statement.{statement}
@@ -29,7 +30,7 @@ is-short-requires : tie.Need-is-short-requires
 is-short-requires c κs = search needs
 
 same-length : tie.Need-same-length
-same-length c = search needs
+same-length c = c .before .before .before .before .before .area2 .given ∙ c .before .before .before .before .before .before .before .before .before .before .before .area .given
 
 returns : tie.Need-returns
 returns c = finished (c .before .before .before .before .before .before .before .before .before .before .before .before .make-iri .ensures) (c .before .before .before .before .before .before .make-lower .ensures) (c .before .before .before .before .before .before .before .before .before .first-in .ensures) (c .before .before .before .before .before .before .before .before .first-in2 .ensures) (c .before .before .first-in4 .ensures) (c .before .first-in5 .ensures) (c .before .before .before .first-in3 .ensures) (c .is-short .ensures)
