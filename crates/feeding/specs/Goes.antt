@@ -18,9 +18,9 @@ use Rattle.state.specs.declared.Registers.{Registers}
 use Rattle.event.specs.declared.Advance.{Advance}
 use Rattle.event.specs.Progress.{Lent, lent, docIn, Lawful}
 use Rattle.parser.specs.Asked.{Asks, Roomy, Areas}
-use Rattle.stream.specs.declared.Taken.{Taken}
-use Rattle.stream.specs.declared.Taken.the-variants as taken
-use Rattle.stream.specs.Core.{firstAccepted, Accepts, Takes}
+use Rattle.parser.specs.declared.stream.Taken.{Taken}
+use Rattle.parser.specs.declared.stream.Taken.the-variants as taken
+use Rattle.parser.specs.Core.{firstAccepted, Accepts, Takes}
 use Rattle.feeding.specs.declared.Pause.{Pause}
 use Rattle.feeding.specs.declared.Pause.the-variants.{Full, Stop}
 use Rattle.feeding.specs.declared.Fed.{Fed}

@@ -26,7 +26,7 @@ use Rattle.spec.proofs.Division.{pyx2nt-in-pieces}
 use Rattle.copy.specs.Copy.{wrote-front}
 use Rattle.state.specs.declared.Registers.{Registers}
 use Rattle.event.specs.Progress.{Lent, docIn}
-use Rattle.stream.specs.Core.{firstAccepted}
+use Rattle.parser.specs.Core.{firstAccepted}
 use Rattle.feeding.specs.declared.Pause.the-variants.{Stop}
 use Rattle.feeding.specs.declared.Fed.{Fed}
 use Rattle.feeding.specs.Goes.{Does, none, one, Goes}

@@ -5,9 +5,9 @@ ghost use Rattle.parser.specs.Asked.{Asks, Roomy, Areas};
 ghost use Rattle.feeding.specs.Goes.{nothing, further, Counts, stopped, Goes};
 use event::Advance;
 use ids::IdTable;
+use parser::stream::Taken;
 use spec::Refusal;
 use state::Registers;
-use stream::Taken;
 
 // Why no further event was done: the output is too full to give it its room, or it is refused.
 pub enum Pause {
@@ -113,7 +113,7 @@ pub fn feed(
         let from = fed.consumed;
         let at = fed.written;
         let end = at + Fed::ROOM;
-        let taken = stream::core(
+        let taken = parser::stream::core(
             registers,
             fed.count,
             fed.used,

@@ -20,7 +20,7 @@ use Rattle.spec.specs.StartTag.{Tag, readTag, isShort}
 use Rattle.spec.specs.Productions.{Opened, openNode, openProperty, openRoot}
 use Rattle.spec.specs.Opening.{Step, isSecondRoot, countsFit, opened, openElement, openIn, isXml, repeated, onOpening}
 
--- the production of a place
+-- the production of a place outside Literal content; the last line is for a place that `by-production` leaves out
 unfoldable pub productionIn : Place → Tag → ℕ → Answer Opened
 productionIn outside t n = openRoot t n
 productionIn nodes t n = openNode t n

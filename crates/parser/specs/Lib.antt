@@ -6,3 +6,5 @@ pub mod Dispatch
 pub mod Tags
 -- The arms of `parse_event`.
 pub mod Arms
+-- What `core` asks, and what it does.
+pub mod Core

@@ -13,6 +13,9 @@ ghost use Rattle.event.specs.Progress.{lent, docIn, Progresses, HandlesAll};
 ghost use Rattle.parser.specs.Asked.{Asks, Roomy, Areas, Tagged};
 ghost use Rattle.parser.specs.Tags.{isLiteral};
 ghost use Rattle.parser.specs.Dispatch.{withIds};
+
+pub mod stream;
+
 use event::Advance;
 use event::Outcome;
 use event::Place;

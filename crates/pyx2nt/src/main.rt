@@ -18,9 +18,9 @@ use ids::IdTable;
 use label::Decimal;
 use libc::STDIN_FILENO;
 use libc::STDOUT_FILENO;
+use parser::stream::Taken;
 use spec::Refusal;
 use state::Registers;
-use stream::Taken;
 
 // Where the program stands: what is behind the events so far, the number of the next one, which bytes of the input are at hand, and whether
 // no more follow.

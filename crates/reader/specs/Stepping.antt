@@ -15,11 +15,11 @@ use Rattle.event.specs.Progress.{Lent, lent, docIn}
 use Rattle.reader.specs.declared.State.{State}
 use Rattle.reader.specs.declared.Answer.the-variants.{Done}
 use Rattle.reader.specs.declared.Report.{Report}
-use Rattle.stream.specs.declared.Taken.{Taken}
-use Rattle.stream.specs.declared.Taken.the-variants.{Stop, Did}
+use Rattle.parser.specs.declared.stream.Taken.{Taken}
+use Rattle.parser.specs.declared.stream.Taken.the-variants.{Stop, Did}
 use Rattle.reader.specs.Meaning.{lentBy, lawfulState, docFrom, meaningOf, closedState, marked, means-unlawful, means-closed, means-open, facts-lawful}
 use Rattle.reader.specs.Meets.{Steps, refusing, meets-marked}
-use Rattle.stream.specs.Core.{firstAccepted, Accepts, Takes}
+use Rattle.parser.specs.Core.{firstAccepted, Accepts, Takes}
 
 -- ---- the mark
 

@@ -9,10 +9,10 @@ use event::Advance;
 use frames::Frame;
 use frames::Row;
 use ids::IdTable;
+use parser::stream::Taken;
 use resolve::Resolved;
 use spec::Refusal;
 use state::Registers;
-use stream::Taken;
 
 // What is kept of a document between calls, beside the work store and the ID store: docs/STATE.md.
 pub struct State {
@@ -117,7 +117,7 @@ pub fn step(
     let mut scratch = [0u8; Taken::SCRATCH];
     let mut spans = [0u32; Taken::SPANS];
     let mut area = [0u8; Taken::AREA];
-    let taken = stream::core(
+    let taken = parser::stream::core(
         registers,
         table.count,
         table.used,

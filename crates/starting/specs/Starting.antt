@@ -33,10 +33,10 @@ use Rattle.tag.specs.Tag as T
 use Rattle.tag.specs.Tag.{Tells, Reads}
 use Rattle.plan.specs.declared.Start.{Start}
 use Rattle.plan.specs.Goes.{Goes}
-use Rattle.judging.specs.declared.Verdict.{Verdict}
-use Rattle.judging.specs.declared.Verdict.the-variants.{Stop, Go}
-use Rattle.judging.specs.Judges.{Known, Rules, Judges}
-use Rattle.judging.specs.Nodes.{Ready}
+use Rattle.starting.specs.declared.judging.Verdict.{Verdict}
+use Rattle.starting.specs.declared.judging.Verdict.the-variants.{Stop, Go}
+use Rattle.starting.specs.Judges.{Known, Rules, Judges}
+use Rattle.starting.specs.Nodes.{Ready}
 
 -- a lawful state, and a decoded start tag that stands outside Literal content
 pub record Asks (r : Registers) (count used : ℕ) (l : Lent) (e v : List ℕ) (m c k : ℕ) (a : List ℕ) : Type 0 where

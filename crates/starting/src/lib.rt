@@ -7,9 +7,13 @@ ghost use Rattle.spec.specs.Pyx.{opening};
 ghost use Rattle.names.specs.Tag.{attributesOf};
 ghost use Rattle.event.specs.Progress.{lent, HandlesAll};
 ghost use Rattle.starting.specs.Starting.{Asks, Roomy, JudgesStart};
+
+mod giving;
+mod judging;
+
+use crate::judging::Verdict;
 use event::Progress;
 use ids::IdTable;
-use judging::Verdict;
 use names::Class;
 use opening::Form;
 use state::Registers;

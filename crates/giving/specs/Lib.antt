@@ -1,2 +1,0 @@
--- Where each thing that a tag says stands.
-pub mod Giving

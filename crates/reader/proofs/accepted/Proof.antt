@@ -1,0 +1,10 @@
+-- `reader::accepted` meets its contract: the fields are those of the definition.
+use borrow.Author.Needs.{needs}
+use Rattle.reader.proofs.accepted.Statement.{statement}
+use Rattle.reader.proofs.accepted.Tie as tie
+
+returns : tie.Need-returns
+returns c = search needs
+
+pub accepted-spec : {M : Type 1} → statement M
+accepted-spec = tie.close (tie.spec returns)

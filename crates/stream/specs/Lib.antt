@@ -1,2 +1,0 @@
--- What `core` asks, and what it does.
-pub mod Core
