@@ -1,7 +1,7 @@
 #!/usr/bin/env python3
-"""documents.py ORACLE CONVERTER GENERATOR > crates/test_documents/data/documents
+"""documents.py ORACLE CONVERTER GENERATOR > crates/test_reader/data/documents
 
-The documents of test_documents: the sample, those of document 01, refusals that the Rust does not have, and generated ones, good and
+The documents of test_reader: the sample, those of document 01, refusals that the Rust does not have, and generated ones, good and
 damaged. Lines are the Rust's, the numbers of damaged documents the generator's. README.md says what the three commands are.
 """
 import pathlib

@@ -1,5 +1,5 @@
 #!/usr/bin/env python3
-"""w3c.py ORACLE CONVERTER SUITE.. > crates/test_w3c/data/tests
+"""w3c.py ORACLE CONVERTER SUITE.. > crates/test_reader/data/w3c/tests
 
 The tests of the W3C's RDF/XML suites, in the order of their manifests, each with its retrieval IRI as the base. Lines are the
 Rust's, and the number is what document 01 has for the Rust's error. On standard error: positive tests whose lines are not the

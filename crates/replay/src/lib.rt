@@ -6,6 +6,7 @@ ghost use Rattle.reader.specs.Meaning.{baseOf, meaningOf};
 ghost use Rattle.reader.specs.Meets.{lengthsRight};
 ghost use Rattle.replay.specs.Lines.{partOf, Within, Behind};
 ghost use Rattle.replay.specs.Ways.{Ends, Runs, Turns, Finished, wayOf, advanced, stopped, endedOf};
+use feeding::Fed;
 use ids::IdTable;
 use libc::STDOUT_FILENO;
 use reader::Report;
@@ -37,8 +38,6 @@ struct Way {
 }
 
 impl Ended {
-    // The output room of an event, as pyx2nt gives it.
-    pub const ROOM: usize = 65_536;
     // The longest file of vectors.
     pub const FILE: usize = 1_048_576;
 }
@@ -185,7 +184,7 @@ fn replay_all(text: &[u8]) -> Tally
 {
     let mut work = [0u8; Registers::STORE];
     let mut ids = [0u8; IdTable::BYTES];
-    let mut out = [0u8; Ended::ROOM];
+    let mut out = [0u8; Fed::ROOM];
     let tally = replay_each(text, &mut work, &mut ids, &mut out);
     print_number(tally.same);
     print(b" the same of ");

@@ -124,17 +124,30 @@ fn tag(out: &mut [u8], on: bool) -> usize {
     xmltext::end_tag(out, to, on, b"e:a")
 }
 
-fn terms() {
+fn names() {
     let n = Node::Named;
-    let b = Node::Blank;
-    let low =
-        b"\x00\x01\x02\x03\x04\x05\x06\x07\x08\x09\x0a\x0b\x0c\x0d\x0e\x0f\x10\x11\x12\x13\x14\x15\x16\x17\x18\x19\x1a\x1b\x1c\x1d\x1e\x1f\x20";
     let marks = b"a<b>c\"d{e}f|g^h`i\\j";
-    line(n, b"http://e/s", b"p", Term::Named, low, marks, b"");
+    line(
+        n,
+        b"http://e/s",
+        b"p",
+        Term::Named,
+        b"\x00\x01\x02\x03\x04\x05\x06\x07\x08\x09\x0a\x0b\x0c\x0d\x0e\x0f\x10\x11\x12\x13\x14\x15\x16\x17\x18\x19\x1a\x1b\x1c\x1d\x1e\x1f\x20",
+        marks,
+        b"",
+    );
     line(n, marks, b"p q", Term::Named, b"", b"", b"");
+}
+
+fn texts() {
+    let b = Node::Blank;
     line(b, b"s", b"p", Term::Blank, b"o", b"1", b"");
     line(b, b"s", b"p", Term::Plain, b"\"\\\n\r", b"plain", b"");
     line(b, b"s", b"p", Term::Plain, b"", b"a\"b\\c\nd\re", b"");
+}
+
+fn marked_texts() {
+    let b = Node::Blank;
     line(b, b"s", b"p", Term::Tagged, b"chat", b"", b"fr-be");
     line(b, b"s", b"p", Term::Typed, b"1", b"2", b"http://e/t t");
 }
@@ -160,7 +173,7 @@ fn xml() {
     say(b"\n");
 }
 
-// Room for all, one short, and a count that stays at its largest.
+// Room for all, and one short.
 fn bounds() {
     let mut exact = *b"......";
     let n = writer::quoted::write(&mut exact, 1, true, b"a\"bc");
@@ -171,15 +184,22 @@ fn bounds() {
     if n == m {
         say(b" as counted");
     }
-    if writer::bytes(&mut exact, writer::MOST - 1, true, b"abc") == writer::MOST {
+}
+
+// A count stays at its largest.
+fn most() {
+    if writer::bytes(&mut [0u8; 6], writer::MOST - 1, true, b"abc") == writer::MOST {
         say(b" most");
     }
     say(b"\n");
 }
 
 fn main() {
-    terms();
+    names();
+    texts();
+    marked_texts();
     rows();
     xml();
     bounds();
+    most();
 }

@@ -112,23 +112,21 @@ fn event(s: &[u8], scratch: &mut [u8], spans: &mut [u32]) {
         Event::NoScratch => print(b"  no scratch"),
         Event::Instruction => print(b"  instruction"),
         Event::Crowded => print(b"  crowded"),
-        Event::Text(n) => {
-            print(b"  text ");
-            print_part(scratch, 0, n);
-        }
-        Event::Closing(n) => {
-            print(b"  closing ");
-            print_part(scratch, 0, n);
-        }
+        Event::Text(n) => print_named(b"  text ", scratch, n),
+        Event::Closing(n) => print_named(b"  closing ", scratch, n),
         Event::Opening(n, colon, k) => {
-            print(b"  opening ");
-            print_part(scratch, 0, n);
+            print_named(b"  opening ", scratch, n);
             print(b" ");
             print_number(colon);
             print_attributes(scratch, spans, k);
         }
     }
     print(b"\n");
+}
+
+fn print_named(what: &[u8], scratch: &[u8], n: usize) {
+    print(what);
+    print_part(scratch, 0, n);
 }
 
 fn print_attributes(scratch: &[u8], spans: &[u32], k: usize) {
@@ -196,22 +194,36 @@ fn show_byte(b: u8) {
 // Events of the most bytes, and of one more.
 fn longest() {
     let mut s = [97u8; Event::MOST_BYTES + 3];
-    let mut scratch = [0u8; Event::MOST_BYTES];
-    let mut spans = [0u32; 8];
     s[0] = b'-';
     s[Event::MOST_BYTES - 1] = b'\n';
     print(b"longest:");
-    print_change(32_768, cut(&s[..32_768], false), 0);
-    print_change(32_768, cut(&s[..32_768], true), 0);
-    print_change(32_769, cut(&s[..32_769], false), 0);
+    print_front(&s, 32_768, false);
+    print_front(&s, 32_768, true);
+    print_front(&s, 32_769, false);
     s[Event::MOST_BYTES] = b'-';
-    print_change(32_769, cut(&s[..32_769], false), 0);
-    s[Event::MOST_BYTES - 1] = b'a';
-    print_change(32_768, cut(&s[..32_768], true), 0);
-    print_change(32_769, cut(&s[..32_769], true), 0);
-    print_change(32_771, cut(&s, true), 0);
+    print_front(&s, 32_769, false);
+    unended();
+}
+
+// And a line that does not end there.
+fn unended() {
+    let mut s = [97u8; Event::MOST_BYTES + 3];
+    let mut scratch = [0u8; Event::MOST_BYTES];
+    let mut spans = [0u32; 8];
+    s[0] = b'-';
+    s[Event::MOST_BYTES] = b'-';
+    print_front(&s, 32_768, true);
+    print_front(&s, 32_769, true);
+    print_front(&s, 32_771, true);
     print(b"\n");
     event(&s[..32_769], &mut scratch, &mut spans);
+}
+
+// Where the first event of the first n bytes ends.
+fn print_front(s: &[u8], n: usize, last: bool) {
+    if n <= s.len() {
+        print_change(n, cut(&s[..n], last), 0);
+    }
 }
 
 // A scratch that is just long enough, one that is too short, and a line that no event has.

@@ -1,4 +1,5 @@
 -- `replay::run` meets its contract: start is refused, or the document goes on from it.
+use mathlib.Core.Path.{_∙_, refl}
 use borrow.Author.Needs.{needs}
 use Rattle.replay.specs.Ways.{run-refused, run-done}
 use Rattle.replay.proofs.run.Statement.{statement}
@@ -14,10 +15,10 @@ number-requires : tie.Need-number-requires
 number-requires c κs = search needs
 
 same-length : tie.Need-same-length
-same-length c = search needs
+same-length c = c .before .before .before .before .work .given
 
 same-length-2 : tie.Need-same-length-2
-same-length-2 c = search needs
+same-length-2 c = refl
 
 returns : tie.Need-returns
 returns c = run-refused (c .before .before .before .before .before .start .ensures) (c .before .number .ensures) (c .if1 .taken)
@@ -26,13 +27,13 @@ go-on-requires : tie.Need-go-on-requires
 go-on-requires c κs = search needs
 
 same-length-3 : tie.Need-same-length-3
-same-length-3 c = search needs
+same-length-3 c = c .before .before .before .before .before .work2 .given ∙ c .before .before .before .before .before .before .before .before .before .before .before .before .before .before .work .given
 
 same-length-4 : tie.Need-same-length-4
-same-length-4 c = search needs
+same-length-4 c = c .before .before .before .ids .given
 
 same-length-5 : tie.Need-same-length-5
-same-length-5 c = search needs
+same-length-5 c = c .before .out .given
 
 returns-2 : tie.Need-returns-2
 returns-2 c = run-done (c .before .before .before .before .before .before .before .before .before .before .before .before .before .before .before .start .ensures) (c .before .before .before .before .before .before .before .before .before .before .before .number .ensures) (c .before .before .before .before .before .before .before .before .before .before .if1 .left) (c .before .before .before .before .before .before .go-on .ensures)

@@ -17,13 +17,13 @@ advance-requires : tie.Need-advance-requires
 advance-requires c κs = search needs
 
 same-length : tie.Need-same-length
-same-length c = search needs
+same-length c = c .before .before .before .before .before .before .before .before .before .work .given
 
 same-length-2 : tie.Need-same-length-2
-same-length-2 c = search needs
+same-length-2 c = c .before .before .before .before .before .before .before .ids .given
 
 same-length-3 : tie.Need-same-length-3
-same-length-3 c = search needs
+same-length-3 c = c .before .before .before .before .before .out .given
 
 returns : tie.Need-returns
 returns c = turn-done _ _ (c .before .before .before .before .before .before .before .before .before .before .before .before .before .before .part .ensures) (c .before .before .before .before .before .before .before .before .before .before .step .ensures) (c .before .before .before .number .ensures) (c .before .before .if1 .taken) (c .advance .ensures)
@@ -32,13 +32,13 @@ stop-requires : tie.Need-stop-requires
 stop-requires c κs = search needs
 
 same-length-4 : tie.Need-same-length-4
-same-length-4 c = search needs
+same-length-4 c = c .before .before .before .before .before .before .before .before .before .before .work .given
 
 same-length-5 : tie.Need-same-length-5
-same-length-5 c = search needs
+same-length-5 c = c .before .before .before .before .before .before .before .before .ids .given
 
 same-length-6 : tie.Need-same-length-6
-same-length-6 c = search needs
+same-length-6 c = c .before .before .before .before .before .before .out .given
 
 returns-2 : tie.Need-returns-2
 returns-2 c = turn-refused _ _ (c .before .before .before .before .before .before .before .before .before .before .before .before .before .before .before .part .ensures) (c .before .before .before .before .before .before .before .before .before .before .before .step .ensures) (c .before .before .before .before .number .ensures) (c .before .if2 .taken) (c .stop .ensures)
@@ -47,13 +47,13 @@ end-requires : tie.Need-end-requires
 end-requires c κs = search needs
 
 same-length-7 : tie.Need-same-length-7
-same-length-7 c = search needs
+same-length-7 c = c .before .before .before .before .before .before .before .before .before .before .before .before .work .given
 
 same-length-8 : tie.Need-same-length-8
-same-length-8 c = search needs
+same-length-8 c = c .before .before .before .before .before .before .before .before .before .before .ids .given
 
 same-length-9 : tie.Need-same-length-9
-same-length-9 c = search needs
+same-length-9 c = c .before .before .before .before .before .before .before .before .out .given
 
 returns-3 : tie.Need-returns-3
 returns-3 c = turn-over _ _ (c .before .before .before .before .before .before .before .before .before .before .before .before .before .before .before .before .before .part .ensures) (c .before .before .before .before .before .before .before .before .before .before .before .before .before .step .ensures) (c .before .before .before .before .before .before .number .ensures) (c .before .before .before .before .before .if1 .left) (c .before .before .before .if2 .left) (c .end .ensures)

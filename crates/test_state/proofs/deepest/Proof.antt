@@ -8,16 +8,16 @@ use Rattle.test_state.proofs.deepest.Statement.{statement}
 use Rattle.test_state.proofs.deepest.Tie as tie
 
 abbrev Inv-loop : tie.InvT-loop
-Inv-loop bindings inners work frames₀ r₀ n₀ at₀ t9 t10 frames r n at = (n ≤ 70) × (length frames ≡ 1152)
+Inv-loop frames₀ r₀ n₀ at₀ t6 t7 frames r n at = (n ≤ 70) × (length frames ≡ 1152)
 
 abbrev μ-loop : tie.MeasureT-loop
-μ-loop bindings inners work frames₀ r₀ n₀ at₀ t9 t10 frames r n at = 70 - n
+μ-loop frames₀ r₀ n₀ at₀ t6 t7 frames r n at = 70 - n
 
 started-requires : tie.Need-started-requires Inv-loop μ-loop
 started-requires c κs = search needs
 
 loop-holds : tie.Need-loop-holds Inv-loop μ-loop
-loop-holds c = (omega arith, search needs)
+loop-holds c = search needs
 
 slice-aggregate-push : tie.Need-slice-aggregate-push Inv-loop μ-loop
 slice-aggregate-push c = search needs
@@ -37,20 +37,11 @@ write-number-requires c κs = search needs
 slice-aggregate-write-answer : tie.Need-slice-aggregate-write-answer Inv-loop μ-loop
 slice-aggregate-write-answer c = search needs
 
-slice-aggregate-valid : tie.Need-slice-aggregate-valid Inv-loop μ-loop
-slice-aggregate-valid c = search needs
+slice-aggregate-is-valid : tie.Need-slice-aggregate-is-valid Inv-loop μ-loop
+slice-aggregate-is-valid c = search needs
 
-slice-aggregate-valid-2 : tie.Need-slice-aggregate-valid-2 Inv-loop μ-loop
-slice-aggregate-valid-2 c = search needs
-
-slice-aggregate-valid-3 : tie.Need-slice-aggregate-valid-3 Inv-loop μ-loop
-slice-aggregate-valid-3 c = search needs
-
-slice-aggregate-valid-4 : tie.Need-slice-aggregate-valid-4 Inv-loop μ-loop
-slice-aggregate-valid-4 c = search needs
-
-valid-requires : tie.Need-valid-requires Inv-loop μ-loop
-valid-requires c κs = search needs
+is-valid-requires : tie.Need-is-valid-requires Inv-loop μ-loop
+is-valid-requires c κs = search needs
 
 write-answer-requires : tie.Need-write-answer-requires Inv-loop μ-loop
 write-answer-requires c κs = search needs
@@ -87,11 +78,8 @@ deepest-spec =
     slice-aggregate-write-number
     write-number-requires
     slice-aggregate-write-answer
-    slice-aggregate-valid
-    slice-aggregate-valid-2
-    slice-aggregate-valid-3
-    slice-aggregate-valid-4
-    valid-requires
+    slice-aggregate-is-valid
+    is-valid-requires
     write-answer-requires
     returns
     wrapping-add-u32-requires

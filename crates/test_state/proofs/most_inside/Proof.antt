@@ -8,25 +8,22 @@ use Rattle.test_state.proofs.most_inside.Statement.{statement}
 use Rattle.test_state.proofs.most_inside.Tie as tie
 
 abbrev Inv-loop : tie.InvT-loop
-Inv-loop inners₀ r₀ n₀ t7 t8 inners r n = (n ≤ 70) × (length inners ≡ 192)
+Inv-loop inners₀ r₀ n₀ t6 t7 inners r n = (n ≤ 70) × (length inners ≡ 192)
 
 abbrev μ-loop : tie.MeasureT-loop
-μ-loop inners₀ r₀ n₀ t7 t8 inners r n = 70 - n
+μ-loop inners₀ r₀ n₀ t6 t7 inners r n = 70 - n
 
 started-requires : tie.Need-started-requires Inv-loop μ-loop
 started-requires c κs = search needs
 
-slice-aggregate-push : tie.Need-slice-aggregate-push Inv-loop μ-loop
-slice-aggregate-push c = search needs
+slice-aggregate-pushed : tie.Need-slice-aggregate-pushed Inv-loop μ-loop
+slice-aggregate-pushed c = search needs
 
-element-requires : tie.Need-element-requires Inv-loop μ-loop
-element-requires c κs = search needs
-
-push-requires : tie.Need-push-requires Inv-loop μ-loop
-push-requires c κs = search needs
+pushed-requires : tie.Need-pushed-requires Inv-loop μ-loop
+pushed-requires c κs = search needs
 
 loop-holds : tie.Need-loop-holds Inv-loop μ-loop
-loop-holds c = (omega arith, search needs)
+loop-holds c = search needs
 
 slice-aggregate-open-inside : tie.Need-slice-aggregate-open-inside Inv-loop μ-loop
 slice-aggregate-open-inside c = search needs
@@ -71,9 +68,8 @@ most-inside-spec =
     Inv-loop
     μ-loop
     started-requires
-    slice-aggregate-push
-    element-requires
-    push-requires
+    slice-aggregate-pushed
+    pushed-requires
     loop-holds
     slice-aggregate-open-inside
     sub-open-inside

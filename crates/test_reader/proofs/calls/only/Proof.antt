@@ -1,9 +1,9 @@
--- `test_limits::only` ends: the measure is what is left.
+-- `calls::only` ends: the measure is what is left.
 use Prim.Native.Nat.{_-_}
 use lib.ListN.{length}
 use borrow.Author.Needs.{needs}
-use Rattle.test_limits.proofs.only.Statement.{statement}
-use Rattle.test_limits.proofs.only.Tie as tie
+use Rattle.test_reader.proofs.calls.only.Statement.{statement}
+use Rattle.test_reader.proofs.calls.only.Tie as tie
 
 abbrev Inv-loop : tie.InvT-loop
 Inv-loop s b i₀ i = Unit {0}

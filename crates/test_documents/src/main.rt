@@ -1,4 +1,0 @@
-// Replays the documents of data/: see the README there.
-fn main() {
-    replay::replay_file(b"documents");
-}
