@@ -64,7 +64,7 @@ def noise(command, rng, letters):
 
 
 def endless(command):
-    """Too long (7), at the first event or, behind a start tag, at the second."""
+    """Too long (7), and no line."""
     for front, more in (b'-', b'x'), (b'(', b'x'), (b'(e:a\nAe:p ', b'x'), (b'?', b'x'), (b'x', b'x'), (b'(e:a\n', b'Ae:p v\n'):
         lines, number = run(command, front + more * (MEGABYTE // len(more)))
         assert (lines, number) == ([], 7), (front, number)

@@ -26,7 +26,7 @@ def ids(n):
 
 
 def id_bytes(n):
-    """IRIs of 64 bytes, n in all: the last is longer, or one byte longer than fits."""
+    """IRIs of n bytes in all: 64 each, the last with what is over."""
     base = 'http://e/' + 49 * 'x'
     count, more = divmod(n, 64)
     names = [f'i{k:04}' for k in range(count)]
