@@ -2,7 +2,7 @@
 """damage.py PYX2NT
 
 Damaged input for pyx2nt: the sample cut at every byte, with each of its bytes changed, with its lines in another order; noise; lines and
-events without end. Whatever comes in, the program must end by itself, write lines of N-Triples only, and say at last by which number it
+events without end; the sample in pieces. Whatever comes in, the program must end by itself, write lines of N-Triples only, and say at last by which number it
 refused, if it did. Prints how many trials ended in which number; stops at the first that is not as it must be.
 """
 import collections
@@ -23,8 +23,12 @@ def run(command, text):
     """The lines, and the number that it was refused by, or 0."""
     done = subprocess.run(command, input=text, stdout=subprocess.PIPE, stderr=subprocess.PIPE, timeout=60)
     assert done.returncode == 0 and not done.stderr, (done.returncode, done.stderr, text[:200])
-    assert done.stdout == b'' or done.stdout.endswith(b'\n'), text[:200]
-    lines = done.stdout.split(b'\n')[:-1]
+    return verdict(done.stdout, text)
+
+
+def verdict(out, text):
+    assert out == b'' or out.endswith(b'\n'), text[:200]
+    lines = out.split(b'\n')[:-1]
     refused = REFUSED.fullmatch(lines[-1]) if lines else None
     if refused:
         lines.pop()
@@ -63,9 +67,24 @@ def noise(command, rng, letters):
         yield number
 
 
+def in_pieces(command, text, whole, rng):
+    """However the input is divided, the lines are the same: the program waits for what is not there yet."""
+    for k in range(40):
+        longest = rng.choice((1, 7, 60, 500))
+        program = subprocess.Popen(command, bufsize=0, stdin=subprocess.PIPE, stdout=subprocess.PIPE)
+        at = 0
+        while at < len(text):
+            size = rng.randrange(1, longest + 1)
+            program.stdin.write(text[at:at + size])
+            at += size
+        out, _ = program.communicate(timeout=60)
+        assert verdict(out, text) == (whole, 0), k
+        yield 0
+
+
 def endless(command):
     """Too long (7), and no line."""
-    for front, more in (b'-', b'x'), (b'(', b'x'), (b'(e:a\nAe:p ', b'x'), (b'?', b'x'), (b'x', b'x'), (b'(e:a\n', b'Ae:p v\n'):
+    for front, more in (b'-', b'x'), (b'-', b'x\n-'), (b'(', b'x'), (b'(e:a\nAe:p ', b'x'), (b'?', b'x'), (b'x', b'x'), (b'(e:a\n', b'Ae:p v\n'):
         lines, number = run(command, front + more * (MEGABYTE // len(more)))
         assert (lines, number) == ([], 7), (front, number)
         yield number
@@ -84,6 +103,7 @@ def main(program):
         ('noise', noise(command, rng, range(256))),
         ('noise of few characters', noise(command, rng, b'(A)-?\n\n\n :eaxr.\\')),
         ('without end', endless(command)),
+        ('in pieces', in_pieces(command, text, whole, rng)),
     ):
         counts = collections.Counter(numbers)
         print(f'{what}: {sum(counts.values())} trials;', ', '.join(f'{number}: {n}' for number, n in sorted(counts.items())), flush=True)

@@ -1,4 +1,4 @@
-"""What the scripts beside it share: the oracle, the converter, and a document in the form that crate `replay` reads."""
+"""What the scripts beside it share: the oracle, the converter, and a document in the form that `test_reader` reads."""
 import subprocess
 
 

@@ -121,8 +121,9 @@ module _ {s d : Bytes} (c : Crowd s d) where
 -- ---- by whether it is well-formed
 
 -- what `is_well_formed` asks
-pub ready : {s e v : List ℕ} {k : ℕ} → Reread s e v k → Splits e v k × (k ≤ 8_192)
-ready a = (a .splits, a .few)
+pub ready : {s e v : List ℕ} {k : ℕ} → Reread s e v k → Splits e v k × (4 * k ≤ mostEventBytes)
+unfolding mostEventBytes
+ready a = (a .splits, omega (arith, a .few))
 
 pub refuses : {s e v : List ℕ} {k : ℕ} {r : Registers} {fs bs w : List ℕ} {b : Bool} → Reread s e v k → Forms b r fs bs w e v k → (t : Bool) → b ≡ t → Refuses (refusalBy t) s r fs bs w
 unfolding onEvent

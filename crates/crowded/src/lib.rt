@@ -1,6 +1,7 @@
 // Start tags with more attributes than an element may have. They are refused, but 6 comes before 7: so all of their attributes are looked at.
 ghost use mathlib.Core.Path.{_≡_};
-ghost use Prim.Native.Nat.{_≤_};
+ghost use Prim.Native.Nat.{_*_, _≤_};
+ghost use Rattle.spec.specs.Limits.{mostEventBytes};
 ghost use Rattle.names.specs.Tag.{Splits};
 ghost use Rattle.crowded.specs.Form.{isSecond, isXmlAt, Repeats, Forms};
 ghost use Rattle.crowded.specs.Crowd.{Crowd, countOf, Refuses};
@@ -59,7 +60,7 @@ fn is_well_formed(
     spans: &[u32],
     k: usize,
 ) -> bool
-    requires { ⌜ Splits (now scratch) (now spans) k × (k ≤ 8_192) ⌝ }
+    requires { ⌜ Splits (now scratch) (now spans) k × (4 * k ≤ mostEventBytes) ⌝ }
     ensures { λ b. ⌜ Forms b r (now (frames .entry)) (now (bindings .entry)) (now (work .entry)) (now (scratch .entry)) (now (spans .entry)) k ⌝ }
 {
     if is_second_root(r) {
@@ -87,7 +88,7 @@ fn repeats(
     spans: &[u32],
     k: usize,
 ) -> bool
-    requires { ⌜ Splits (now scratch) (now spans) k × (k ≤ 8_192) ⌝ }
+    requires { ⌜ Splits (now scratch) (now spans) k × (4 * k ≤ mostEventBytes) ⌝ }
     ensures { λ b. ⌜ Repeats b r (now (frames .entry)) (now (bindings .entry)) (now (work .entry)) (now (scratch .entry)) (now (spans .entry)) k ⌝ }
 {
     let place = event::place_at(r, frames);

@@ -3,6 +3,7 @@ ghost use mathlib.Core.Path.{_≡_};
 ghost use Prim.Native.Nat.{_+_, _-_, _*_, _≤_, _<_};
 ghost use lib.ListN.{length};
 ghost use Rattle.spec.specs.Bytes.{total};
+ghost use Rattle.spec.specs.Limits.{mostAttributes, mostBindings};
 ghost use Rattle.spec.specs.Namespaces.{declared};
 ghost use Rattle.spec.specs.Document.{bindingBytes};
 ghost use Rattle.names.specs.Tag.{attributeAt, attributesOf};
@@ -56,7 +57,7 @@ pub fn text<'a>(source: Source, scratch: &'a [u8], area: &'a [u8]) -> &'a [u8]
 
 // How many bytes the new element holds: its name is the first m bytes of the event, and it has k attributes.
 pub fn size(scratch: &[u8], spans: &[u32], m: usize, k: usize, area: &[u8], parts: Parts) -> usize
-    requires { ⌜ (Short (now scratch) (now area)) × (k ≤ 65536) × (Fitting parts) ⌝ }
+    requires { ⌜ (Short (now scratch) (now area)) × (k ≤ mostAttributes) × (Fitting parts) ⌝ }
     ensures { λ r. ⌜ Measures (now (scratch .entry)) (now (spans .entry)) m k (now (area .entry)) parts r ⌝ }
 {
     let name = names::piece(scratch, 0, m).len();
@@ -66,7 +67,7 @@ pub fn size(scratch: &[u8], spans: &[u32], m: usize, k: usize, area: &[u8], part
 
 // The bytes of the bindings that the first k attributes declare.
 pub fn declared_size(scratch: &[u8], spans: &[u32], k: usize) -> usize
-    requires { ⌜ (length (now scratch) ≤ 65536) × (k ≤ 65536) ⌝ }
+    requires { ⌜ (length (now scratch) ≤ 65536) × (k ≤ mostAttributes) ⌝ }
     ensures { λ r. ⌜ r ≡ total bindingBytes (declared (attributesOf (now (scratch .entry)) (now (spans .entry)) k)) ⌝ }
 {
     let mut n: usize = 0;
@@ -289,7 +290,7 @@ fn append(work: &mut [u8], at: usize, s: &[u8]) -> usize
 
 // The marks of the frame, whose first binding is row `first`.
 fn marks(parts: Parts, first: usize) -> [u32; 8]
-    requires { ⌜ first ≤ 128 ⌝ }
+    requires { ⌜ first ≤ mostBindings ⌝ }
     ensures { λ r. ⌜ r ≡ marksOf parts first ⌝ }
 {
     let base = parts.base;

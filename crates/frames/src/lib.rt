@@ -92,7 +92,7 @@ impl Frame {
         let mut has = [0u32; 8];
         let a = from + 1;
         let h = from + 10;
-        let e = from + 18;
+        let e = from + Self::WORDS;
         put_words(&mut at, 0, &frames[a..h]);
         put_words(&mut has, 0, &frames[h..e]);
         Frame { kind, at, has }

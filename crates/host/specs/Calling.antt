@@ -7,10 +7,10 @@ use native.Mathlib.Omega.{arith}
 use lib.ListN.{length}
 use Rattle.spec.specs.Bytes.{Bytes}
 use Rattle.spec.proofs.Calls.{number-positive}
-use Rattle.reader.specs.declared.State.{State}
-use Rattle.reader.specs.declared.Report.{Report}
-use Rattle.reader.specs.Meaning.{Nothing}
-use Rattle.reader.specs.Meets.{numberOf, Starts, Steps, Finishes}
+use Rattle.report.specs.declared.State.{State}
+use Rattle.report.specs.declared.Report.{Report}
+use Rattle.report.specs.Meaning.{Nothing}
+use Rattle.report.specs.Meets.{numberOf, Starts, Steps, Finishes}
 use Rattle.host.specs.Image.{stateBytes, decode}
 use Rattle.host.specs.Meets.{Stands, StartsIn, StepsIn, FinishesIn}
 

@@ -13,7 +13,7 @@ use Rattle.spec.specs.Bytes.{Bytes}
 use Rattle.spec.proofs.Booleans.{and-left, and-right}
 use Rattle.frames.specs.Words.{pick}
 use Rattle.state.specs.declared.Registers.{Registers}
-use Rattle.reader.specs.declared.State.{State}
+use Rattle.report.specs.declared.State.{State}
 use Rattle.host.specs.Little.{valueOf, rows, rowsAt, unrow, Below, length-rows, read-rows, rows-read, below-drop}
 
 -- ---- there

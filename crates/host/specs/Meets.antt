@@ -8,11 +8,11 @@ use lib.Dec.{eqb}
 use lib.ListN.{length}
 use Rattle.spec.specs.Bytes.{Bytes}
 use Rattle.spec.specs.declared.Refusal.{Refusal}
-use Rattle.reader.specs.declared.State.{State}
-use Rattle.reader.specs.declared.Report.{Report}
-use Rattle.reader.specs.declared.Answer.the-variants.{Done, Refused}
-use Rattle.reader.specs.Meaning.{Nothing}
-use Rattle.reader.specs.Meets.{numberOf, Starts, Steps, Finishes}
+use Rattle.report.specs.declared.State.{State}
+use Rattle.report.specs.declared.Report.{Report}
+use Rattle.report.specs.declared.Answer.the-variants.{Done, Refused}
+use Rattle.report.specs.Meaning.{Nothing}
+use Rattle.report.specs.Meets.{numberOf, Starts, Steps, Finishes}
 use Rattle.host.specs.declared.Image.{Image}
 use Rattle.host.specs.Image.{stateBytes, encode, decode}
 

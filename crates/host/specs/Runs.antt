@@ -10,9 +10,9 @@ use lib.ListN.{length, take}
 use borrow.Author.Tests.{eqb-true, eqb-false}
 use Rattle.spec.specs.Bytes.{Bytes}
 use Rattle.spec.specs.NTriplesGrammar.{isNTriples}
-use Rattle.reader.specs.declared.State.{State}
-use Rattle.reader.specs.declared.Answer.the-variants.{Done}
-use Rattle.reader.specs.Unique.{number-tells}
+use Rattle.report.specs.declared.State.{State}
+use Rattle.report.specs.declared.Answer.the-variants.{Done}
+use Rattle.report.specs.Unique.{number-tells}
 use Rattle.runs.specs.Runs.{Ran, step-never-three, finish-never-three}
 use Rattle.runs.specs.Runs as reader
 use Rattle.runs.specs.Whole.{run-n-triples}

@@ -11,7 +11,7 @@ use Rattle.spec.specs.Bytes.{Bytes}
 use Rattle.copy.specs.Copy.{Wrote, then, wrote-front}
 use Rattle.ids.specs.declared.IdTable.{IdTable}
 use Rattle.state.specs.declared.Registers.{Registers}
-use Rattle.reader.specs.declared.State.{State}
+use Rattle.report.specs.declared.State.{State}
 use Rattle.host.specs.declared.Image.{Image}
 use Rattle.host.specs.Little.{rows, rowsAt, Below}
 use Rattle.host.specs.Image.{stateBytes, numbersOf, encode, registersOf, flagsOk, stateOf, decode, Words, Typed, decode-encode, decode-good, encode-decode}

@@ -18,12 +18,12 @@ use Rattle.spec.specs.Calls.{unlawful, markedBy, refused, refusedIn, mayStart, 
 use Rattle.spec.specs.Calls as calls
 use Rattle.spec.proofs.Calls.{number-positive}
 use Rattle.copy.specs.Copy.{Wrote, wrote-none}
-use Rattle.reader.specs.declared.State.{State}
-use Rattle.reader.specs.declared.Answer.{Answer}
-use Rattle.reader.specs.declared.Answer.the-variants.{Done}
-use Rattle.reader.specs.Meaning.{baseOf, meaningOf}
-use Rattle.reader.specs.Meets.{lengthsRight}
-use Rattle.reader.specs.Unique.{number-tells}
+use Rattle.report.specs.declared.State.{State}
+use Rattle.report.specs.declared.Answer.{Answer}
+use Rattle.report.specs.declared.Answer.the-variants.{Done}
+use Rattle.report.specs.Meaning.{baseOf, meaningOf}
+use Rattle.report.specs.Meets.{lengthsRight}
+use Rattle.report.specs.Unique.{number-tells}
 use Rattle.host.specs.Image.{stateBytes, decode}
 use Rattle.host.specs.Meets.{StartsIn, StepsIn, FinishesIn}
 use Rattle.host.specs.Use.{markedBytes, by-state, start-leaves, step-leaves, finish-leaves}

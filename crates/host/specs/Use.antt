@@ -19,12 +19,12 @@ use Rattle.spec.specs.Calls as calls
 use Rattle.spec.proofs.Calls.{step-by-table, zero-counts}
 use Rattle.spec.proofs.Refusals.{Why, no-event, given-only-when}
 use Rattle.frames.specs.Words.{pick}
-use Rattle.reader.specs.declared.State.{State}
-use Rattle.reader.specs.declared.Report.{Report}
-use Rattle.reader.specs.declared.Answer.{Answer}
-use Rattle.reader.specs.declared.Answer.the-variants.{Done, Refused}
-use Rattle.reader.specs.Meaning.{closedState, marked, meaningOf}
-use Rattle.reader.specs.Meets.{numberOf, closing-numbers, Meets}
+use Rattle.report.specs.declared.State.{State}
+use Rattle.report.specs.declared.Report.{Report}
+use Rattle.report.specs.declared.Answer.{Answer}
+use Rattle.report.specs.declared.Answer.the-variants.{Done, Refused}
+use Rattle.report.specs.Meaning.{closedState, marked, meaningOf}
+use Rattle.report.specs.Meets.{numberOf, closing-numbers, Meets}
 use Rattle.host.specs.Little.{little, rows}
 use Rattle.host.specs.Image.{flag, numbersOf, encode, decode}
 use Rattle.host.specs.Meets.{Stands, StartsIn, StepsIn, FinishesIn}

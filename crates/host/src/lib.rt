@@ -14,7 +14,7 @@ ghost use Rattle.host.specs.Saving.{PutIds};
 use frames::Frame;
 use frames::Row;
 use ids::IdTable;
-use reader::State;
+use report::State;
 use state::Registers;
 
 // A state as it was read from bytes, if they stand for one. There it has fixed places: its numbers, eight bytes each, then its tables,

@@ -8,6 +8,7 @@ use native.Mathlib.Omega.{arith}
 use lib.ListN.{length}
 use borrow.Author.Tests.{le-leb, lt-ltb}
 use Rattle.spec.specs.Limits as L
+use Rattle.spec.specs.Limits.{mostAttributes, mostHeldBytes}
 use Rattle.spec.specs.Bytes.{Bytes, total, sizeOf}
 use Rattle.spec.specs.declared.Refusal.{Refusal}
 use Rattle.spec.specs.Pyx.{Attribute, opening}
@@ -115,14 +116,14 @@ module _ {r : Registers} {bs w : List ℕ} {n : Bytes} {all : List Binding} {mor
 -- a start tag that was judged good
 pub record Ready (r : Registers) (fs bs is w e sp : List ℕ) (n : Bytes) (k : ℕ) (area : List ℕ) : Type 0 where
   pub asks : Asks r fs bs is w
-  pub wide : 49_152 ≤ length area
+  pub wide : mostHeldBytes ≤ length area
   pub short : length e ≤ 65_536
   pub named : length n ≤ 65_536
-  pub few : k ≤ 65_536
+  pub few : k ≤ mostAttributes
   pub counts : Counted r (attributesOf e sp k)
   pub quiet : Quiet (opening n (attributesOf e sp k)) r fs bs is w (copied n (attributesOf e sp k) ∷ withXml r fs bs is w (startTagXml n (attributesOf e sp k)))
 
-pub ready : {r : Registers} {fs bs is w e sp : List ℕ} {n : Bytes} {m c k : ℕ} {area : List ℕ} {j : Judged} → Asks r fs bs is w → 49_152 ≤ length area → placeIn (elementsOf r fs bs is w) ≡ xml
+pub ready : {r : Registers} {fs bs is w e sp : List ℕ} {n : Bytes} {m c k : ℕ} {area : List ℕ} {j : Judged} → Asks r fs bs is w → mostHeldBytes ≤ length area → placeIn (elementsOf r fs bs is w) ≡ xml
     → Tag e sp m c k → n ≡ part e 0 m → Judges r bs w n (attributesOf e sp k) j → j ≡ Go → Ready r fs bs is w e sp n k area
 ready {e = e} {m = m} a l p t q h g =
     record {

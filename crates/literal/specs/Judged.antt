@@ -35,7 +35,7 @@ use Rattle.literal.specs.Quiet.{Quietly, Quiet, quiet-refused}
 -- what is known of a decoded start tag: its name is the first m bytes, with the colon's place plus 1, or 0, in c, and it has k attributes
 pub record Tag (e w : List ℕ) (m c k : ℕ) : Type 0 where
   pub short : length e ≤ 65_536
-  pub few : k ≤ 65_536
+  pub few : k ≤ mostAttributes
   pub name : Split c (take m e)
   pub names : Splits e w k
 

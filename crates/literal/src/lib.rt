@@ -47,7 +47,7 @@ pub fn text_inside(
     area: &mut [u8],
     s: &[u8],
 ) -> Outcome
-    requires { ⌜ Asks r (now frames) (now bindings) (now inners) (now work) × (49_152 ≤ length (now area)) × (placeIn (elementsOf r (now frames) (now bindings) (now inners) (now work)) ≡ xml) ⌝ }
+    requires { ⌜ Asks r (now frames) (now bindings) (now inners) (now work) × (mostHeldBytes ≤ length (now area)) × (placeIn (elementsOf r (now frames) (now bindings) (now inners) (now work)) ≡ xml) ⌝ }
     ensures { λ o. ⌜ Quietly (text (now (s .entry))) r o (now (frames .entry)) (now (bindings .entry)) (now (inners .entry)) (now (work .entry)) (now (frames .exit)) (now (bindings .entry)) (now (inners .entry)) (now (work .exit)) ⌝ }
 {
     let n = xmltext::text(area, 0, true, s);
@@ -64,7 +64,7 @@ pub fn end_inside(
     area: &mut [u8],
     name: &[u8],
 ) -> Outcome
-    requires { ⌜ Asks r (now frames) (now bindings) (now inners) (now work) × (49_152 ≤ length (now area)) × (0 < r .inner) ⌝ }
+    requires { ⌜ Asks r (now frames) (now bindings) (now inners) (now work) × (mostHeldBytes ≤ length (now area)) × (0 < r .inner) ⌝ }
     ensures { λ o. ⌜ Quietly (closing (now (name .entry))) r o (now (frames .entry)) (now (bindings .entry)) (now (inners .entry)) (now (work .entry)) (now (frames .exit)) (now (bindings .entry)) (now (inners .entry)) (now (work .exit)) ⌝ }
 {
     let c = inside::close_inside(r, inners);
@@ -92,7 +92,7 @@ pub fn start_inside(
     k: usize,
     area: &mut [u8],
 ) -> Outcome
-    requires { ⌜ Asks r (now frames) (now bindings) (now inners) (now work) × (49_152 ≤ length (now area)) × (placeIn (elementsOf r (now frames) (now bindings) (now inners) (now work)) ≡ xml) × Tag (now scratch) (now spans) m c k ⌝ }
+    requires { ⌜ Asks r (now frames) (now bindings) (now inners) (now work) × (mostHeldBytes ≤ length (now area)) × (placeIn (elementsOf r (now frames) (now bindings) (now inners) (now work)) ≡ xml) × Tag (now scratch) (now spans) m c k ⌝ }
     ensures { λ o. ⌜ Quietly (opening (take m (now (scratch .entry))) (attributesOf (now (scratch .entry)) (now (spans .entry)) k)) r o (now (frames .entry)) (now (bindings .entry)) (now (inners .entry)) (now (work .entry)) (now (frames .exit)) (now (bindings .exit)) (now (inners .exit)) (now (work .exit)) ⌝ }
 {
     let name = names::piece(scratch, 0, m);
@@ -124,7 +124,7 @@ fn add(
     n: usize,
     more: usize,
 ) -> Outcome
-    requires { ⌜ 49_152 ≤ length (now area) ⌝ }
+    requires { ⌜ mostHeldBytes ≤ length (now area) ⌝ }
     ensures { λ o. ⌜ Adds r (now (frames .entry)) (now (work .entry)) (now (area .entry)) n more o (now (frames .exit)) (now (work .exit)) ⌝ }
 {
     let size = kept(r, frames, n);

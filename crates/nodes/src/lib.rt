@@ -2,6 +2,7 @@
 ghost use mathlib.Core.Path.{_≡_};
 ghost use Prim.Native.Nat.{_+_, _-_, _*_, _≤_, _<_};
 ghost use lib.ListN.{length};
+ghost use Rattle.spec.specs.Limits.{workStoreBytes};
 ghost use Rattle.copy.specs.Copy.{part, storedAt};
 ghost use Rattle.nodes.specs.Take.{mayTake, objectWord, blankByte, TakesObject, TakesChild, TakesNode, ClosesNode, childIn};
 use frames::Frame;
@@ -9,6 +10,9 @@ use frames::Kind;
 use frames::wide;
 use stack::Changed;
 use state::Registers;
+
+// Each child of a Collection takes bytes of the store.
+const MOST_CHILDREN: u32 = Registers::STORE as u32;
 
 // A child of a Collection in the work store.
 pub struct Child {
@@ -73,7 +77,7 @@ pub fn child_at(work: &[u8], e: usize) -> Child
 
 // By the element around it, which is now on top.
 fn take_node(r: Registers, frames: &mut [u32], work: &mut [u8], n: Frame) -> Changed
-    requires { ⌜ length (now work) ≡ 65536 ⌝ }
+    requires { ⌜ length (now work) ≡ workStoreBytes ⌝ }
     ensures { λ c. ⌜ TakesNode r (now (frames .entry)) (now (work .entry)) n c (now (frames .exit)) (now (work .exit)) ⌝ }
 {
     let f = stack::top(r, frames);
@@ -92,7 +96,7 @@ fn take_node(r: Registers, frames: &mut [u32], work: &mut [u8], n: Frame) -> Cha
 
 // The main part of `n` as the object of `f`.
 fn take_object(r: Registers, frames: &mut [u32], work: &mut [u8], f: Frame, n: Frame) -> Changed
-    requires { ⌜ length (now work) ≡ 65536 ⌝ }
+    requires { ⌜ length (now work) ≡ workStoreBytes ⌝ }
     ensures { λ c. ⌜ TakesObject r (now (frames .entry)) (now (work .entry)) f n c (now (frames .exit)) (now (work .exit)) ⌝ }
 {
     let mut at = f.at;
@@ -121,7 +125,7 @@ fn take_object(r: Registers, frames: &mut [u32], work: &mut [u8], f: Frame, n: F
 
 // The main part of `n` as the next child of `f`, and behind it its length and whether it is a blank node.
 fn take_child(r: Registers, frames: &mut [u32], work: &mut [u8], f: Frame, n: Frame) -> Changed
-    requires { ⌜ length (now work) ≡ 65536 ⌝ }
+    requires { ⌜ length (now work) ≡ workStoreBytes ⌝ }
     ensures { λ c. ⌜ TakesChild r (now (frames .entry)) (now (work .entry)) f n c (now (frames .exit)) (now (work .exit)) ⌝ }
 {
     let mut at = f.at;
@@ -139,7 +143,7 @@ fn take_child(r: Registers, frames: &mut [u32], work: &mut [u8], f: Frame, n: Fr
             registers: r,
         };
     }
-    if count >= 65_536 {
+    if count >= MOST_CHILDREN {
         return Changed {
             ok: false,
             registers: r,

@@ -5,6 +5,7 @@ use mathlib.Core.Bool.{false}
 use mathlib.Core.List.{List}
 use native.Mathlib.Omega.{arith}
 use lib.ListN.{length, replicate, length-replicate}
+use Rattle.spec.specs.Limits.{mostHeldBytes}
 use Rattle.state.specs.declared.Registers.{Registers}
 use Rattle.event.specs.Result as handler
 use Rattle.event.specs.Progress.{Lent, Lawful}
@@ -23,11 +24,12 @@ handler-asks a = record { valid = a .lawful .valid; mark = a .mark }
 pub record Roomy (texts words room : List ℕ) : Type 0 where
   pub scratch : length texts ≡ 32_768
   pub spans : length words ≡ 256
-  pub area : 49_152 ≤ length room
+  pub area : mostHeldBytes ≤ length room
   pub most : length room ≤ 65_536
 
 -- arrays of their own
 pub roomy : Roomy (replicate 32_768 0) (replicate 256 0) (replicate 49_152 0)
+unfolding mostHeldBytes
 roomy =
     record {
       scratch = length-replicate {A = ℕ} 32_768 0;
@@ -47,5 +49,5 @@ pub record Tagged (e v : List ℕ) (m c k : ℕ) (room : List ℕ) : Type 0 wher
   pub tag : Decoded e v m c k
   pub texts : length e ≤ 32_768
   pub words : k * 4 ≤ length v
-  pub area : 49_152 ≤ length room
+  pub area : mostHeldBytes ≤ length room
   pub most : length room ≤ 65_536

@@ -7,6 +7,7 @@ use native.Mathlib.Omega.{arith}
 use lib.Dec.{eqb}
 use lib.ListN.{length, take}
 use borrow.Author.Tests.{ne-eqb}
+use Rattle.spec.specs.Limits.{mostAttributes}
 use Rattle.spec.specs.NTriples.{Subject}
 use Rattle.spec.specs.Document as D
 use Rattle.spec.specs.Document.{placeIn}
@@ -71,4 +72,5 @@ module _ (r : Registers) (fs : List ℕ) {b : Bool} (e : b ≡ isLiteral (placeA
 -- ---- what is asked of a start tag in Literal content
 
 pub inside-tag : {e v room : List ℕ} {m c k : ℕ} → Tagged e v m c k room → Tag e v m c k
+unfolding mostAttributes
 inside-tag t = record { short = omega (arith, t .texts); few = omega (arith, t .tag .few); name = t .tag .colon; names = t .tag .splits }

@@ -3,6 +3,7 @@ ghost use mathlib.Core.Path.{_≡_};
 ghost use mathlib.Core.Bool.{false};
 ghost use Prim.Native.Nat.{_≤_};
 ghost use lib.ListN.{length, take};
+ghost use Rattle.spec.specs.Limits.{mostHeldBytes};
 ghost use Rattle.spec.specs.Pyx.{opening, closing};
 ghost use Rattle.pyx.specs.Decode.{unread};
 ghost use Rattle.names.specs.Tag.{attributesOf};
@@ -180,7 +181,7 @@ fn parse_end_event(
     name: &[u8],
     out: &mut [u8],
 ) -> Outcome
-    requires { ⌜ handler.Asks r (now frames) (now bindings) (now inners) (now work) × (49_152 ≤ length (now area)) ⌝ }
+    requires { ⌜ handler.Asks r (now frames) (now bindings) (now inners) (now work) × (mostHeldBytes ≤ length (now area)) ⌝ }
     ensures { λ o. ⌜ Handles (closing (now (name .entry))) r o (now (frames .entry)) (now (bindings .entry)) (now (inners .entry)) (now (work .entry)) (now (out .entry)) (now (frames .exit)) (now (bindings .entry)) (now (inners .entry)) (now (work .exit)) (now (out .exit)) ⌝ }
 {
     if r.inner > 0 {

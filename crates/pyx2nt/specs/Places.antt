@@ -18,7 +18,7 @@ use Rattle.parser.specs.Asked.{Asks}
 use Rattle.feeding.specs.declared.Pause.{Pause}
 use Rattle.feeding.specs.declared.Pause.the-variants.{Full, Stop}
 use Rattle.feeding.specs.declared.Fed.{Fed}
-use Rattle.reader.specs.Starting.{overIn}
+use Rattle.report.specs.Meaning.{overIn}
 use Rattle.pyx2nt.specs.declared.Place.{Place}
 use Rattle.pyx2nt.specs.declared.Next.{Next}
 use Rattle.pyx2nt.specs.declared.Next.the-variants.{On, Over}

@@ -27,9 +27,8 @@ use Rattle.feeding.specs.declared.Pause.the-variants.{Full, Stop}
 use Rattle.feeding.specs.declared.Fed.{Fed}
 use Rattle.feeding.specs.Goes.{Goes}
 use Rattle.feeding.specs.Waiting.{waits-short}
-use Rattle.reader.specs.declared.State.{State}
-use Rattle.reader.specs.Meaning.{docFrom}
-use Rattle.reader.specs.Starting.{overIn, over-read}
+use Rattle.report.specs.declared.State.{State}
+use Rattle.report.specs.Meaning.{docFrom, overIn, over-read}
 use Rattle.pyx2nt.specs.declared.Place.{Place}
 use Rattle.pyx2nt.specs.declared.Next.{Next}
 use Rattle.pyx2nt.specs.declared.Next.the-variants.{On, Over}

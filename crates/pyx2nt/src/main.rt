@@ -234,7 +234,7 @@ fn follow(place: Place, pause: Pause, input: &mut [u8]) -> Next
     match pause {
         Pause::Full => Next::On(place),
         Pause::Stop(why) => {
-            let number = reader::number_of(why);
+            let number = report::number_of(why);
             if number != 1 {
                 return Next::Over(number, place.event);
             }
@@ -250,10 +250,10 @@ fn follow(place: Place, pause: Pause, input: &mut [u8]) -> Next
 fn finish(registers: Registers) -> u8
     ensures { λ n. ⌜ n ≡ finishing registers ⌝ }
 {
-    if reader::may_finish(registers) {
+    if report::may_finish(registers) {
         return 0;
     }
-    reader::number_of(Refusal::NotWellFormed)
+    report::number_of(Refusal::NotWellFormed)
 }
 
 // A block behind the rest. A read that fails is the end of the input, as one that gives no bytes.

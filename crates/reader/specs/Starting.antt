@@ -1,16 +1,16 @@
 -- How start and finish come to their answers.
-use Prim.Native.Nat.{ℕ, zero, suc, _≤_, _<_}
+use Prim.Native.Nat.{ℕ, _≤_, _<_}
 use mathlib.Core.Path.{_≡_, refl, sym, ap, _∙_}
-use mathlib.Core.Bool.{Bool, true, false, _&&_}
+use mathlib.Core.Bool.{Bool, true, false}
 use mathlib.Core.Option.{some}
-use mathlib.Core.List.{List, _++_}
+use mathlib.Core.List.{List}
 use native.Mathlib.Omega.{arith}
 use lib.Dec.{eqb, leb}
 use lib.ListN.{length, take}
 use lib.Seq.{take-length}
-use borrow.Author.Tests.{eqb-true, leb-true, le-leb, lt-leb, ne-eqb}
+use borrow.Author.Tests.{eqb-true, leb-true, le-leb, lt-leb}
 use Rattle.spec.specs.Limits.{workStoreBytes, idStoreBytes, mostNameBytes}
-use Rattle.spec.specs.Bytes.{Bytes, isEmpty, _>>_, require_or_}
+use Rattle.spec.specs.Bytes.{Bytes, _>>_, require_or_}
 use Rattle.spec.specs.Numbers.{refuse, good}
 use Rattle.spec.specs.Numbers as numbers
 use Rattle.spec.specs.declared.Refusal.{Refusal}
@@ -22,15 +22,12 @@ use Rattle.spec.specs.Calls.{isOpen, markClosed, mayStart, started, callStart, 
 use Rattle.spec.proofs.Booleans.{and-left, and-right}
 use Rattle.copy.specs.Copy.{Put, part, put-fits, wrote-part, wrote-none}
 use Rattle.frames.specs.Words.{pick}
-use Rattle.state.specs.declared.Registers.{Registers}
-use Rattle.state.specs.Meaning.{framesOf, innersOf, elementsOf, docOf}
-use Rattle.event.specs.Progress.{docIn}
-use Rattle.reader.specs.declared.State.{State}
-use Rattle.reader.specs.declared.Answer.{Answer}
-use Rattle.reader.specs.declared.Answer.the-variants.{Done, Refused}
-use Rattle.reader.specs.declared.Report.{Report}
-use Rattle.reader.specs.Meaning.{baseOf, lawfulState, docFrom, meaningOf, closedState, marked, meaning-closed, means-unlawful, means-closed, means-open, Fresh, fresh-means}
-use Rattle.reader.specs.Meets.{Starts, Finishes, lengthsRight, refusing, doing, meets-refused, meets-marked}
+use Rattle.report.specs.declared.State.{State}
+use Rattle.report.specs.declared.Answer.{Answer}
+use Rattle.report.specs.declared.Answer.the-variants.{Done, Refused}
+use Rattle.report.specs.declared.Report.{Report}
+use Rattle.report.specs.Meaning.{baseOf, lawfulState, meaningOf, closedState, marked, meaning-closed, means-unlawful, means-closed, means-open, overIn, over-read, Fresh, fresh-means}
+use Rattle.report.specs.Meets.{Starts, Finishes, lengthsRight, refusing, doing, meets-refused, meets-marked}
 
 -- an answer, in the definitions' words
 abbrev pub told : Answer → numbers.Answer (Unit {0})
@@ -44,10 +41,6 @@ pub record Judges (a : Answer) (lengths based : Bool) (base : Bytes) : Type 0 wh
 -- how many bytes of `base` are the start base
 unfoldable pub sizeOfBase : Bool → Bytes → ℕ
 sizeOfBase based b = pick based (length b) 0
-
--- no element is open, and there was a root
-unfoldable pub overIn : Registers → Bool
-overIn r = eqb (r .inner) 0 && (eqb (r .depth) 0 && r .rooted)
 
 -- ---- the refusals of start, in order
 
@@ -160,17 +153,6 @@ module _ (based : Bool) (base : Bytes) (s : State) (w i : List ℕ) {a : Answer}
           })
 
 -- ---- finish
-
--- no element is open, and there was a root
-pub over-read : (s : State) (w i : List ℕ) → (isEmpty (docFrom s w i .frames) && docFrom s w i .rooted) ≡ overIn (s .registers)
-unfolding docFrom docIn docOf elementsOf innersOf framesOf isEmpty overIn
-over-read s w i = go (s .registers .inner) (s .registers .depth)
-  where
-    go : (n d : ℕ) → (isEmpty (innersOf (s .inners) (s .bindings) w n (s .registers .bindings) ++ framesOf (s .frames) (s .bindings) w d (s .registers .outer)) && s .registers .rooted)
-        ≡ (eqb n 0 && (eqb d 0 && s .registers .rooted))
-    go zero zero = refl
-    go zero (suc d) = rw (ne-eqb (suc d) 0 (λ z. omega arith))
-    go (suc n) d = rw (ne-eqb (suc n) 0 (λ z. omega arith))
 
 module _ {s : State} {w i : List ℕ} {r : Report} where
   pub finish-unlawful : lawfulState s w i ≡ false → r ≡ refusing s BadState → Finishes s w i r

@@ -6,31 +6,19 @@ use mathlib.Core.List.{List}
 use native.Mathlib.Omega.{arith}
 use lib.ListN.{length}
 use Rattle.spec.specs.Bytes.{Bytes}
-use Rattle.spec.specs.Numbers.{closes, refuse}
+use Rattle.spec.specs.Numbers.{refuse}
 use Rattle.spec.specs.declared.Refusal.{Refusal}
 use Rattle.spec.specs.declared.Refusal.the-variants.{BadState, Closed}
 use Rattle.spec.specs.Calls.{isOpen, stepped, callStep}
 use Rattle.event.specs.declared.Advance.{Advance}
 use Rattle.event.specs.Progress.{Lent, lent, docIn}
-use Rattle.reader.specs.declared.State.{State}
-use Rattle.reader.specs.declared.Answer.the-variants.{Done}
-use Rattle.reader.specs.declared.Report.{Report}
+use Rattle.report.specs.declared.State.{State}
+use Rattle.report.specs.declared.Report.{Report}
 use Rattle.parser.specs.declared.stream.Taken.{Taken}
 use Rattle.parser.specs.declared.stream.Taken.the-variants.{Stop, Did}
-use Rattle.reader.specs.Meaning.{lentBy, lawfulState, docFrom, meaningOf, closedState, marked, means-unlawful, means-closed, means-open, facts-lawful}
-use Rattle.reader.specs.Meets.{Steps, refusing, meets-marked}
+use Rattle.report.specs.Meaning.{lentBy, lawfulState, docFrom, meaningOf, marked, means-unlawful, means-closed, means-open, facts-lawful}
+use Rattle.report.specs.Meets.{Steps, refusing, stateOf, accepting, meets-marked}
 use Rattle.parser.specs.Core.{firstAccepted, Accepts, Takes}
-
--- ---- the mark
-
-module _ (s : State) (n : Refusal) where
-  pub mark-set : {s′ : State} → closes n ≡ true → s′ ≡ closedState s → s′ ≡ marked n s
-  unfolding marked
-  mark-set h e = rw h e
-
-  pub mark-not : closes n ≡ false → s ≡ marked n s
-  unfolding marked
-  mark-not h = rw h
 
 -- ---- 3 and 4
 
@@ -44,14 +32,6 @@ module _ {last : Bool} {input : Bytes} {s : State} {w i out : List ℕ} {r : Rep
   step-closed h c e = rw e (record { meets = meets-marked s Closed (rw (means-closed s w i h c)) })
 
 -- ---- an event
-
--- the state that is made of what `core` left, and the report of it
-abbrev pub stateOf : Advance → List ℕ → List ℕ → List ℕ → List ℕ → List ℕ → State
-stateOf a fs bs is ia il =
-    record { registers = a .registers; frames = fs; bindings = bs; inners = is; ids = record { count = a .count; used = a .used; at = ia; len = il } }
-
-abbrev pub accepting : ℕ → Advance → List ℕ → List ℕ → List ℕ → List ℕ → List ℕ → Report
-accepting n a fs bs is ia il = record { state = stateOf a fs bs is ia il; answer = Done; consumed = n; written = a .written }
 
 module _ {last : Bool} {input : Bytes} (s : State) {w i out : List ℕ} (h : lawfulState s w i ≡ true) (c : s .registers .closed ≡ false) {o : Taken} {fs bs is w′ ia il i′ out′ : List ℕ}
     (t : Takes last input (s .registers) (s .ids .count) o (lentBy s w i out) (lent fs bs is w′ ia il i′ out′)) where

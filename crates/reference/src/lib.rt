@@ -4,10 +4,13 @@ ghost use mathlib.Core.Bool.{true};
 ghost use mathlib.Core.Option.{none, some};
 ghost use Prim.Native.Nat.{_≤_};
 ghost use lib.ListN.{length};
+ghost use Rattle.spec.specs.Limits.{mostNameBytes};
 ghost use Rattle.spec.specs.Rfc3987.{isIriReference};
 ghost use Rattle.spec.specs.StartTag.{resolved, withHash};
 ghost use Rattle.reference.specs.Reference.{given, Resolves, Room, RoomForId, isBad, isLong};
+use pyx::Event;
 use resolve::Resolved;
+use state::Registers;
 
 // What is made for an event stands in one lent area, each thing at its place. Resolving takes room behind a place, so later places are written later.
 pub struct Area {}
@@ -21,14 +24,14 @@ pub enum Reference {
 }
 
 // "#" and the longest value of an event.
-const HASHED: usize = 32_769;
+const HASHED: usize = Event::MOST_BYTES + 1;
 
 // What resolving that takes on the longest base that a work store may hold.
-const FAR: usize = 98_306;
+const FAR: usize = Registers::STORE + HASHED + 1;
 
 impl Area {
     // The whole, in bytes.
-    pub const BYTES: usize = 49_152;
+    pub const BYTES: usize = Registers::MOST_HELD;
     // Resolved: rdf:ID, rdf:about, rdf:resource, rdf:datatype, rdf:type.
     pub const ID: usize = 0;
 
@@ -44,9 +47,9 @@ impl Area {
     // A generated label.
     pub const LABEL: usize = Self::IRI + Resolved::MOST_BYTES;
     // A numbered property, for rdf:li.
-    pub const PROPERTY: usize = 6_160;
+    pub const PROPERTY: usize = Self::LABEL + 16;
     // xml:lang in lower case.
-    pub const TAG: usize = 6_224;
+    pub const TAG: usize = Self::PROPERTY + 64;
 }
 
 impl Reference {
@@ -139,7 +142,7 @@ fn absolute(reference: &[u8], area: &mut [u8], at: usize) -> Reference
 
 // On a base that is no longer than a base may be, in the area itself.
 fn near(base: &[u8], reference: &[u8], area: &mut [u8], at: usize) -> Reference
-    requires { ⌜ Room (now base) (now reference) (now area) at × (length (now base) ≤ 1024) × (isIriReference (now reference) ≡ true) ⌝ }
+    requires { ⌜ Room (now base) (now reference) (now area) at × (length (now base) ≤ mostNameBytes) × (isIriReference (now reference) ≡ true) ⌝ }
     ensures { λ r. ⌜ Resolves (resolved (some (now (base .entry))) (some (now (reference .entry)))) (now (area .entry)) (now (area .exit)) at r ⌝ }
 {
     match resolve::resolve(base, reference, &mut area[at..]) {

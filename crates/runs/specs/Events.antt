@@ -18,9 +18,9 @@ use Rattle.spec.specs.Calls as calls
 use Rattle.spec.specs.Lists.{After, here, event}
 use Rattle.spec.specs.Inside.{Element}
 use Rattle.spec.proofs.Always.{Always, always-bind, always-require, always-self}
-use Rattle.reader.specs.declared.State.{State}
-use Rattle.reader.specs.declared.Answer as called
-use Rattle.reader.specs.declared.Answer.the-variants.{Done, Refused}
+use Rattle.report.specs.declared.State.{State}
+use Rattle.report.specs.declared.Answer as called
+use Rattle.report.specs.declared.Answer.the-variants.{Done, Refused}
 use Rattle.runs.specs.Runs.{Ran, started, stepped, ended, declined}
 
 -- ---- of the calls

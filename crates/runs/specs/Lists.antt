@@ -15,11 +15,11 @@ use Rattle.spec.specs.RdfXml.{next}
 use Rattle.spec.specs.Lists.{Cell, Reads}
 use Rattle.spec.specs.Inside.{innermost, children}
 use Rattle.spec.proofs.Children.{collections-read-back, no-cell-in-two-collections}
-use Rattle.reader.specs.declared.State.{State}
-use Rattle.reader.specs.declared.Answer.the-variants.{Done}
-use Rattle.reader.specs.declared.Report.{Report}
-use Rattle.reader.specs.Meaning.{baseOf}
-use Rattle.reader.specs.Meets.{Steps}
+use Rattle.report.specs.declared.State.{State}
+use Rattle.report.specs.declared.Answer.the-variants.{Done}
+use Rattle.report.specs.declared.Report.{Report}
+use Rattle.report.specs.Meaning.{baseOf}
+use Rattle.report.specs.Meets.{Steps}
 use Rattle.runs.specs.Runs.{Ran, stepped, now, Later}
 use Rattle.runs.specs.Events.{firstOf, taken, runEvents, last-same}
 use Rattle.runs.specs.Whole.{run-lines, more-lines, more-bytes, run-further}

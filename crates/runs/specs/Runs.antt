@@ -28,11 +28,11 @@ use Rattle.copy.specs.Copy.{wrote-front}
 use Rattle.ids.specs.Ids.{validIds}
 use Rattle.state.specs.Valid.{validState}
 use Rattle.state.specs.Valid as state
-use Rattle.reader.specs.declared.State.{State}
-use Rattle.reader.specs.declared.Answer.the-variants.{Done, Refused}
-use Rattle.reader.specs.declared.Report.{Report}
-use Rattle.reader.specs.Meaning.{baseOf, lawfulState, meaningOf, means-unlawful}
-use Rattle.reader.specs.Meets.{numberOf, lengthsRight, Starts, Steps, Finishes}
+use Rattle.report.specs.declared.State.{State}
+use Rattle.report.specs.declared.Answer.the-variants.{Done, Refused}
+use Rattle.report.specs.declared.Report.{Report}
+use Rattle.report.specs.Meaning.{baseOf, lawfulState, meaningOf, means-unlawful}
+use Rattle.report.specs.Meets.{numberOf, lengthsRight, Starts, Steps, Finishes}
 
 -- ---- what the calls of `spec` leave
 

@@ -27,12 +27,12 @@ use Rattle.spec.proofs.NewLabels as labels
 use Rattle.spec.proofs.Fine as fine
 use Rattle.spec.proofs.NTriplesGrammar.{GoodBase, started-base, all-n-triples}
 use Rattle.copy.specs.Copy.{wrote-front}
-use Rattle.reader.specs.declared.State.{State}
-use Rattle.reader.specs.declared.Report.{Report}
-use Rattle.reader.specs.declared.Answer as called
-use Rattle.reader.specs.declared.Answer.the-variants.{Done, Refused}
-use Rattle.reader.specs.Meaning.{baseOf, meaningOf}
-use Rattle.reader.specs.Meets.{numberOf, Starts, Steps, Finishes}
+use Rattle.report.specs.declared.State.{State}
+use Rattle.report.specs.declared.Report.{Report}
+use Rattle.report.specs.declared.Answer as called
+use Rattle.report.specs.declared.Answer.the-variants.{Done, Refused}
+use Rattle.report.specs.Meaning.{baseOf, meaningOf}
+use Rattle.report.specs.Meets.{numberOf, Starts, Steps, Finishes}
 use Rattle.runs.specs.Runs.{Ran, started, stepped, ended, declined, now, and-stepped, and-ended, and-declined, Later, follows, start-opens, finish-closes}
 use Rattle.runs.specs.Events.{firstOf, taken, runEvents, eventsOf, same-events, one-more, Reported, did, gave, reported}
 

@@ -9,7 +9,7 @@ use lib.Dec.{leb, ltb}
 use lib.ListN.{length, getD}
 use borrow.Author.Tests.{le-leb, lt-leb, leb-true, leb-false, lt-ltb, le-ltb, not-true, not-false}
 use Rattle.spec.specs.Bytes.{Bytes, isSome, present}
-use Rattle.spec.specs.Limits.{mostNameBytes}
+use Rattle.spec.specs.Limits.{mostNameBytes, mostHeldBytes}
 use Rattle.spec.proofs.Booleans.{and-left, and-right}
 use Rattle.spec.specs.Numbers.{Answer, refuse, good}
 use Rattle.spec.specs.Document.{Doc}
@@ -151,7 +151,7 @@ pub record Keeps (a b : List ℕ) : Type 0 where
   pub before : Kept a b 0 6144
   pub behind : Kept a b 6224 (length a)
   pub same : length b ≡ length a
-  pub room : 49_152 ≤ length a
+  pub room : mostHeldBytes ≤ length a
 
 -- a reference that is short is there still
 pub reference-says : (e : List ℕ) {a b : List ℕ} (at : ℕ) (o : Option Bytes) (r : Reference) → Refers r a at (good o) → Keeps a b → at + 1024 ≤ 6144 → shortIf o ≡ true → maybe (madeAt at r) e b ≡ o
@@ -163,6 +163,7 @@ module _ {t : Tag} {e w : List ℕ} {m k : ℕ} {v cs rs a : List ℕ} {d : Doc}
   all-short = shorts (y .is) (sym (y .short) ∙ short)
 
   pub given-says : {g : Given} → Gives t e w k g → Says g e b (y .is)
+  unfolding mostHeldBytes
   given-says {g} x =
       let z = all-short in
       record {

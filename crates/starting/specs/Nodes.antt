@@ -14,7 +14,7 @@ use Rattle.label.specs.Label.{length-label}
 use Rattle.spec.specs.Numbers.{Answer, refuse, good}
 use Rattle.spec.specs.declared.Refusal.{Refusal}
 use Rattle.spec.specs.declared.Refusal.the-variants.{OverLimit, Reserved}
-use Rattle.spec.specs.Limits.{mostLabels}
+use Rattle.spec.specs.Limits.{mostLabels, mostHeldBytes}
 use Rattle.spec.specs.Rdf.{rdf, mayBeNode}
 use Rattle.spec.specs.Rdf as F
 use Rattle.spec.specs.NTriples.{label}
@@ -54,7 +54,7 @@ use Rattle.starting.specs.Judges.{Known, Waits, Drafted, Measurable, sta
 pub record Ready (e v : List ℕ) (k : ℕ) (a : List ℕ) : Type 0 where
   pub event : length e ≤ 32_768
   pub words : k * 4 ≤ length v
-  pub room : 49_152 ≤ length a
+  pub room : mostHeldBytes ≤ length a
   pub small : length a ≤ 65_536
   pub few : k ≤ 64
 
@@ -68,7 +68,7 @@ pub record MakesNode (x : Start) (t : Tag) (named : Bool) (labels : ℕ) (e v : 
   pub wrote : Wrote a b 6144 6156 (label (labels + 1))
 
 -- all that was made before stays
-pub label-keeps : {a b : List ℕ} {n : ℕ} {l : Bytes} → 49_152 ≤ length a → n ≤ 6224 → Wrote a b 6144 n l → Keeps a b
+pub label-keeps : {a b : List ℕ} {n : ℕ} {l : Bytes} → mostHeldBytes ≤ length a → n ≤ 6224 → Wrote a b 6144 n l → Keeps a b
 label-keeps {a} {b} h u w = record { before = kept-before w; behind = kept-less (kept-behind (length a) w) u (omega arith); same = wrote-same w; room = h }
 
 pub label-made : {a b : List ℕ} (n : ℕ) → Wrote a b 6144 6156 (label (n + 1)) → part b 6144 12 ≡ label (suc n)
@@ -195,8 +195,8 @@ module _ {t : Tag} {r : Registers} {e v : List ℕ} {k : ℕ} {a : List ℕ} {i 
 
 -- ---- what the calls ask, and what they tell
 
-pub label-asks : {e v : List ℕ} {k : ℕ} {a : List ℕ} {n : ℕ} → Ready e v k a → n < 99_999_999 → (n < mostLabels) × (6144 + 12 ≤ length a)
-unfolding mostLabels
+pub label-asks : {e v : List ℕ} {k : ℕ} {a : List ℕ} {n : ℕ} → Ready e v k a → n < mostLabels → (n < mostLabels) × (6144 + 12 ≤ length a)
+unfolding mostHeldBytes
 label-asks rd l = (l, omega (arith, rd .room))
 
 pub node-made : {x : Start} {t : Tag} {named : Bool} {labels n : ℕ} {e v : List ℕ} {k : ℕ} {a b : List ℕ} {g : Given} {p : Plan} → Gives t e v k g → p ≡ nodePlan g n → (n ≡ labels + 1) × Wrote a b 6144 (6144 + 12) (label (labels + 1))

@@ -6,6 +6,7 @@ use mathlib.Core.List.{List, []}
 use native.Mathlib.Omega.{arith}
 use lib.Dec.{eqb}
 use borrow.Author.Tests.{eq-eqb, ne-eqb}
+use Rattle.spec.specs.Limits.{mostAttributes}
 use Rattle.spec.specs.Bytes.{Bytes, same}
 use Rattle.spec.specs.Numbers.{good}
 use Rattle.spec.specs.declared.Refusal.{Refusal}
@@ -224,7 +225,8 @@ module _ {q : Verdict} {t : Tag} {r : Registers} {fs e v : List ℕ} {k : ℕ} {
   tag-refused {ids} {used} {m} {w} h = record { cases = λ bs is ia il st cs rs y. rw h at (d .cases ids used m bs is w ia il st cs rs y); same = d .same }
 
   module _ {x : Start} (h : q ≡ Go x) where
-    pub fits-asks : Ready e v k a → (Short e b) × (k ≤ 65_536) × (Fitting (x .plan .parts))
+    pub fits-asks : Ready e v k a → (Short e b) × (k ≤ mostAttributes) × (Fitting (x .plan .parts))
+    unfolding mostAttributes
     fits-asks rd = (record { event = omega (arith, rd .event); area = omega (arith, rd .small, d .same) }, omega (arith, rd .few), rw h at (d .measurable))
 
     module _ {u : Bool} {ids used m : ℕ} (f : Fits u (x .plan .parts) (x .id) (r .top) ids used e v m k b) {w : List ℕ} where

@@ -13,7 +13,7 @@ use Rattle.spec.proofs.Bytes.{same-true}
 use Rattle.spec.specs.Numbers.{good}
 use Rattle.spec.specs.declared.Refusal.{Refusal}
 use Rattle.spec.specs.declared.Refusal.the-variants.{OverLimit, Reserved}
-use Rattle.spec.specs.Limits.{mostLabels}
+use Rattle.spec.specs.Limits.{mostLabels, mostHeldBytes}
 use Rattle.spec.specs.Rdf.{rdf, mayBeProperty}
 use Rattle.spec.specs.Rdf as F
 use Rattle.spec.specs.NTriples.{Subject, node, label, decimal}
@@ -388,11 +388,11 @@ pub record Left (takes li : Bool) (labels c : ℕ) : Type 0 where
   pub label : takes ≡ true → labels < 99_999_999
   pub number : li ≡ true → c < 99_999_999
 
-pub labels-asks : {e v : List ℕ} {k : ℕ} {a : List ℕ} {takes li : Bool} {n c : ℕ} → Ready e v k a → Left takes li n c → (49_152 ≤ length a) × (takes ≡ true → n < mostLabels)
+pub labels-asks : {e v : List ℕ} {k : ℕ} {a : List ℕ} {takes li : Bool} {n c : ℕ} → Ready e v k a → Left takes li n c → (mostHeldBytes ≤ length a) × (takes ≡ true → n < mostLabels)
 unfolding mostLabels
 labels-asks rd l = (rd .room, l .label)
 
-pub numbers-asks : {e v : List ℕ} {k : ℕ} {a d : List ℕ} {takes li : Bool} {n c m : ℕ} → Ready e v k a → Left takes li n c → Labels takes n a d m → (49_152 ≤ length d) × (li ≡ true → c < mostLabels)
+pub numbers-asks : {e v : List ℕ} {k : ℕ} {a d : List ℕ} {takes li : Bool} {n c m : ℕ} → Ready e v k a → Left takes li n c → Labels takes n a d m → (mostHeldBytes ≤ length d) × (li ≡ true → c < mostLabels)
 unfolding mostLabels
 numbers-asks rd l lb = (omega (arith, rd .room, lb .same), l .number)
 

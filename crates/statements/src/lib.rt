@@ -5,6 +5,7 @@ ghost use mathlib.Core.List.{[], _++_};
 ghost use Prim.Native.Nat.{_+_, _-_, _≤_, _<_};
 ghost use lib.Dec.{eqb};
 ghost use lib.ListN.{length};
+ghost use Rattle.spec.specs.Limits.{mostLabels};
 ghost use Rattle.spec.specs.Rdf.{rdf};
 ghost use Rattle.spec.specs.NTriples.{node, typed, label, write};
 ghost use Rattle.spec.specs.Productions.{statement};
@@ -127,7 +128,7 @@ fn cells(out: &mut [u8], on: bool, f: Frame, labels: u64, work: &[u8]) -> usize
 
 // The cell of child `c`, where the labels of the list's cells follow `first`, and `n` were generated before this one.
 fn cell(out: &mut [u8], at: usize, on: bool, c: Child, first: u64, n: u64, work: &[u8]) -> usize
-    requires { ⌜ (first ≤ n) × (n < 99_999_999) ⌝ }
+    requires { ⌜ (first ≤ n) × (n < mostLabels) ⌝ }
     ensures { λ r. ⌜ Put on (now (out .entry)) (now (out .exit)) at r (write (cellOf (label (n + 1)) (childNode c (now (work .entry))) (listAt first n))) ⌝ }
 {
     let own = label_of(n + 1);
@@ -153,7 +154,7 @@ fn cell(out: &mut [u8], at: usize, on: bool, c: Child, first: u64, n: u64, work:
 
 // The label that `n` counts to.
 fn label_of(n: u64) -> BlankNodeId
-    requires { ⌜ (0 < n) × (n ≤ 99_999_999) ⌝ }
+    requires { ⌜ (0 < n) × (n ≤ mostLabels) ⌝ }
     ensures { λ r. ⌜ r .id ≡ label n ⌝ }
 {
     let generator = BlankNodeIdGenerator { counter: n - 1 };

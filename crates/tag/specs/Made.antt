@@ -11,7 +11,7 @@ use borrow.Author.Tests.{le-leb, lt-leb, lt-ltb, le-ltb, leb-true, leb-false}
 use Rattle.spec.specs.Bytes.{Bytes, every}
 use Rattle.spec.specs.Numbers.{Answer, refuse, good}
 use Rattle.spec.specs.declared.Refusal.the-variants.{NoNamespace}
-use Rattle.spec.specs.Limits.{mostNameBytes}
+use Rattle.spec.specs.Limits.{mostNameBytes, mostHeldBytes}
 use Rattle.spec.specs.Abnf.{lower}
 use Rattle.spec.specs.Namespaces.{xmlName}
 use Rattle.spec.specs.StartTag.{xml-base, xml-lang, rdf-nodeID, rdf-parseType, property}
@@ -111,7 +111,7 @@ module _ (e v : List ℕ) (l : Bytes) {area after : List ℕ} {f : Found} {t : B
 
 pub record RoomToMake (e area : List ℕ) : Type 0 where
   pub event : length e ≤ 32_768
-  pub room : 49_152 ≤ length area
+  pub room : mostHeldBytes ≤ length area
 
 -- xml:lang is at place j of k
 pub record Lowered (e w : List ℕ) (k j : ℕ) (area after : List ℕ) : Type 0 where
@@ -124,6 +124,7 @@ no-language e w h = record { tag = λ l. absurd (omega arith); before = kept-all
 
 pub language-lowered : (e w : List ℕ) {k j : ℕ} {area after : List ℕ} {s : Bytes} {t : Bool} → RoomToMake e area → s ≡ valueAt e w j → Put area 6224 (map lower s) after t
     → Lowered e w k j area after
+unfolding mostHeldBytes
 language-lowered e w {k} {j} {area} {after} {s} m q p =
     let z : length (map lower s) ≡ length s = length-map s lower in
     let y : length s ≡ length (valueAt e w j) = ap length q in

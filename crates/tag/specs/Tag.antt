@@ -12,7 +12,7 @@ use Rattle.spec.specs.Bytes.{Bytes, isEmpty, each, present, orElse, _>>=_, _>>_
 use Rattle.spec.specs.Numbers.{Answer, refuse, good}
 use Rattle.spec.specs.declared.Refusal.{Refusal}
 use Rattle.spec.specs.declared.Refusal.the-variants.{NoNamespace, RepeatedId}
-use Rattle.spec.specs.Limits.{mostNameBytes}
+use Rattle.spec.specs.Limits.{mostNameBytes, mostHeldBytes}
 use Rattle.spec.specs.Abnf.{lower}
 use Rattle.spec.specs.Pyx.{Attribute}
 use Rattle.spec.specs.Namespaces.{declared, namespace, expandElement, expandedNames}
@@ -58,7 +58,7 @@ pub record Asks (e w : List ℕ) (m c k : ℕ) (v bs : List ℕ) (n : ℕ) (cs r
   pub event : length e ≤ 32_768
   pub store : length v ≤ 65_536
   pub places : k ≤ length rs
-  pub room : 49_152 ≤ length area
+  pub room : mostHeldBytes ≤ length area
   pub name : Split c (take m e)
   pub splits : Splits e w k
   pub classified : Classified e w k v bs n cs k

@@ -4,10 +4,10 @@ use feeding::Fed;
 use frames::Frame;
 use ids::IdTable;
 use libc::STDOUT_FILENO;
-use reader::Report;
-use reader::State;
-use replay::ahead;
-use replay::part;
+use report::Report;
+use report::State;
+use crate::replay::ahead;
+use crate::replay::part;
 use state::Registers;
 
 // What is made of a state by hand: nothing; another number of open elements, end of what is held, number of labels; another word of the
@@ -228,7 +228,7 @@ fn state(what: &[u8], change: Change, input: &[u8]) {
     let mut ids = [0u8; IdTable::BYTES];
     let mut out = [0u8; Fed::ROOM];
     let state = change.of(opened(&mut work, &mut ids));
-    let ended = replay::go_on(state, input, b"", &mut work, &mut ids, &mut out);
+    let ended = crate::replay::go_on(state, input, b"", &mut work, &mut ids, &mut out);
     line(what, ended.number);
     behind(what, ended.state, &mut work, &mut ids);
 }

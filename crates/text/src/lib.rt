@@ -27,7 +27,7 @@ pub fn parse_text_event(
     area: &mut [u8],
     s: &[u8],
 ) -> Outcome
-    requires { ⌜ Asks r (now frames) (now bindings) (now inners) (now work) × (49_152 ≤ length (now area)) ⌝ }
+    requires { ⌜ Asks r (now frames) (now bindings) (now inners) (now work) × (mostHeldBytes ≤ length (now area)) ⌝ }
     ensures { λ o. ⌜ Quietly (text (now (s .entry))) r o (now (frames .entry)) (now (bindings .entry)) (now (inners .entry)) (now (work .entry)) (now (frames .exit)) (now (bindings .entry)) (now (inners .entry)) (now (work .exit)) ⌝ }
 {
     let place = event::place_at(r, frames);

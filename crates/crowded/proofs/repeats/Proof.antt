@@ -1,4 +1,5 @@
 -- `crowded::repeats` meets its contract: by the place, a law for each return.
+use Rattle.spec.specs.Limits.{mostEventBytes}
 use Rattle.crowded.specs.Form.{repeats-written, repeats-expanded}
 use native.Mathlib.Omega.{arith}
 use borrow.Author.Needs.{needs}
@@ -30,6 +31,7 @@ repeated-expanded-requires : tie.Need-repeated-expanded-requires
 repeated-expanded-requires c κs = search needs
 
 returns-2 : tie.Need-returns-2
+unfolding mostEventBytes
 returns-2 c = repeats-expanded _ _ _ (c .before .before .before .before .before .before .before .place-at .ensures) (c .before .before .before .before .before .before .is-xml .ensures) (c .before .before .before .before .before .if1 .left) (c .before .before .before .before .before .before .before .before .before .before .before .before .before .pre .0) (c .before .before .before .classify .ensures) (omega arith) (c .repeated-expanded .ensures)
 
 pub repeats-spec : {M : Type 1} → statement M

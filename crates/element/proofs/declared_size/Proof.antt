@@ -1,5 +1,6 @@
 -- `element::declared_size` meets its contract. The loop's invariant: the first `j` attributes have `n` bytes.
 use Prim.Native.Nat.{_-_}
+use Rattle.spec.specs.Limits.{mostAttributes}
 use Rattle.element.specs.Sizes.{Summed, summed-begins, summed-more, summed-done, few-bytes}
 use native.Mathlib.Omega.{arith}
 use borrow.Author.Needs.{needs}
@@ -19,6 +20,7 @@ bytes-at-requires : tie.Need-bytes-at-requires Inv-loop μ-loop
 bytes-at-requires c κs = search needs
 
 add-n : tie.Need-add-n Inv-loop μ-loop
+unfolding mostAttributes
 add-n c = omega (arith, c .bytes-at .ensures, few-bytes (c .before .before .before .before .before .args .scratch .now) (c .before .before .before .before .before .args .spans .now) (c .before .before .loop .j) (c .before .before .before .before .before .pre .0))
 
 add-j : tie.Need-add-j Inv-loop μ-loop

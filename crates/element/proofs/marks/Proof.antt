@@ -1,4 +1,5 @@
 -- `element::marks` meets its contract. Mark by mark.
+use Rattle.spec.specs.Limits.{mostBindings}
 use Rattle.element.specs.Places.{marks-are}
 use borrow.Author.Needs.{needs}
 use Rattle.element.proofs.marks.Statement.{statement}
@@ -20,6 +21,7 @@ mark-requires-4 : tie.Need-mark-requires-4
 mark-requires-4 c κs = search needs
 
 cast-t12 : tie.Need-cast-t12
+unfolding mostBindings
 cast-t12 c = search needs
 
 returns : tie.Need-returns

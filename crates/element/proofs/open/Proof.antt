@@ -1,5 +1,6 @@
 -- `element::open` meets its contract. Each call has its room from what was judged; one law makes the whole of what they ensure.
 use mathlib.Core.Path.{_∙_}
+use Rattle.spec.specs.Limits.{mostBindings}
 use Rattle.element.specs.Laws.{name-room, bind-room, lay-room, opens}
 use native.Mathlib.Omega.{arith}
 use borrow.Author.Needs.{needs}
@@ -22,6 +23,7 @@ lay-requires : tie.Need-lay-requires
 lay-requires c κs = lay-room (c .before .before .before .before .before .before .before .before .before .before .before .before .before .before .before .before .before .before .before .pre) (c .before .before .before .before .before .before .before .before .before .before .before .before .piece .ensures) (c .before .before .before .before .before .before .before .before .before .before .put .ensures) (c .before .before .before .before .before .bind-all .ensures)
 
 marks-requires : tie.Need-marks-requires
+unfolding mostBindings
 marks-requires c κs = omega (arith, c .before .before .before .before .before .before .before .before .before .before .before .before .before .before .before .before .before .before .before .before .before .before .pre .bindings)
 
 push-requires : tie.Need-push-requires

@@ -1,6 +1,7 @@
 -- `element::size` meets its contract. The lengths of all parts, which are the bytes of the element.
 use mathlib.Core.Path.{ap}
 use lib.ListN.{length}
+use Rattle.spec.specs.Limits.{mostAttributes}
 use Rattle.element.specs.Sizes.{length-part-of, few-parts, few-declared, measured}
 use native.Mathlib.Omega.{arith}
 use borrow.Author.Needs.{needs}
@@ -14,12 +15,14 @@ declared-size-requires : tie.Need-declared-size-requires
 declared-size-requires c κs = search needs
 
 add-result : tie.Need-add-result
+unfolding mostAttributes
 add-result c = omega (arith, ap length (c .before .piece .ensures), length-part-of (c .before .before .before .before .before .args .scratch .now) 0 (c .before .before .before .before .before .args .m), few-declared (c .before .before .before .before .before .args .scratch .now) (c .before .before .before .before .before .pre .0 .event) (c .before .before .before .before .before .args .spans .now) 0 (c .before .before .before .before .before .args .k))
 
 parts-size-requires : tie.Need-parts-size-requires
 parts-size-requires c κs = search needs
 
 add-result-2 : tie.Need-add-result-2
+unfolding mostAttributes
 add-result-2 c = omega (arith, ap length (c .before .before .piece .ensures), length-part-of (c .before .before .before .before .before .before .args .scratch .now) 0 (c .before .before .before .before .before .before .args .m), few-declared (c .before .before .before .before .before .before .args .scratch .now) (c .before .before .before .before .before .before .pre .0 .event) (c .before .before .before .before .before .before .args .spans .now) 0 (c .before .before .before .before .before .before .args .k), few-parts (c .before .before .before .before .before .before .pre .0) (c .before .before .before .before .before .before .args .parts) (c .parts-size .ensures))
 
 returns : tie.Need-returns

@@ -1,6 +1,7 @@
 -- `literal::copy_element` meets its contract: 7, or the start tag is added and its element entered.
 use mathlib.Core.Path.{refl, ap, _∙_}
 use Prim.Native.Nat.{_+_}
+use Rattle.spec.specs.Limits.{mostAttributes}
 use Rattle.element.specs.Sizes.{few-declared}
 use Rattle.literal.specs.Added.{xml-in}
 use Rattle.literal.specs.Entered.{copy-over, copy-room, copy-done}
@@ -16,6 +17,7 @@ declared-size-requires : tie.Need-declared-size-requires
 declared-size-requires c κs = search needs
 
 add-more : tie.Need-add-more
+unfolding mostAttributes
 add-more c = record { fits = omega (arith, c .declared-size .ensures, few-declared (c .before .before .before .before .before .before .before .before .before .before .before .before .before .args .scratch .now) (c .before .before .before .before .before .before .before .before .before .before .before .before .before .pre .short) (c .before .before .before .before .before .before .before .before .before .before .before .before .before .args .spans .now) 0 (c .before .before .before .before .before .before .before .before .before .before .before .before .before .args .k), c .before .before .before .before .before .before .before .before .before .before .before .before .before .pre) }
 
 add-requires : tie.Need-add-requires

@@ -1,5 +1,6 @@
 -- `nodes::close_node` meets its contract. A law of specs/ for each return, with the tests that led there.
 use mathlib.Core.Path.{refl}
+use Rattle.spec.specs.Limits.{workStoreBytes}
 use Rattle.nodes.specs.Take.{close-store, close-other, close-none, close-full, close-done}
 use borrow.Author.Tests.{not-true, not-false}
 use Rattle.state.specs.Tests.{yes, no}
@@ -33,6 +34,7 @@ returns-3 : tie.Need-returns-3
 returns-3 c = close-none (omega arith) (c .before .before .before .before .before .before .top .ensures) (yes (c .before .before .before .before .before .same-kind .ensures) (c .before .before .before .before .if2 .left)) (c .before .before .pop .ensures) (not-true _ (c .if3 .taken))
 
 take-node-requires : tie.Need-take-node-requires
+unfolding workStoreBytes
 take-node-requires c κs = search needs
 
 same-length-3 : tie.Need-same-length-3

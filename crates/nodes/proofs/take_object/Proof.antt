@@ -1,4 +1,5 @@
 -- `nodes::take_object` meets its contract. A law of specs/ for each return, with the tests that led there.
+use Rattle.spec.specs.Limits.{workStoreBytes}
 use Rattle.nodes.specs.Take.{movable, object-none, object-made}
 use Rattle.state.specs.Tests.{yes, no}
 use mathlib.Core.Path.{_∙_}
@@ -62,6 +63,7 @@ store-requires : tie.Need-store-requires
 store-requires c κs = search needs
 
 shift-requires : tie.Need-shift-requires
+unfolding workStoreBytes
 shift-requires c κs = let m = movable _ _ _ _ _ _ (yes (c .before .before .before .before .before .before .before .before .may-take .ensures) (c .before .before .before .before .before .before .before .if1 .left)) in omega arith
 
 add-with-top : tie.Need-add-with-top
@@ -77,6 +79,7 @@ same-length-2 : tie.Need-same-length-2
 same-length-2 c = search needs
 
 returns-2 : tie.Need-returns-2
+unfolding workStoreBytes
 returns-2 c = object-made (c .before .before .before .before .before .before .before .before .before .before .before .before .before .before .before .before .wide .ensures .0) (c .before .before .before .before .before .before .before .before .before .before .before .before .before .before .minus .ensures ∙ rw (c .before .before .before .before .before .before .before .before .before .before .before .before .before .before .before .before .wide .ensures .0, c .before .before .before .before .before .before .before .before .before .before .before .before .before .before .before .wide2 .ensures .0)) (c .before .before .before .before .before .before .before .before .before .before .before .before .before .wide3 .ensures .0) (c .before .before .before .before .before .before .before .before .before .before .object-word .ensures) (c .before .before .before .before .before .before .before .before .before .before .before .before .before .before .before .before .before .before .before .before .before .before .before .pre) (yes (c .before .before .before .before .before .before .before .before .before .before .before .before .may-take .ensures) (c .before .before .before .before .before .before .before .before .before .before .before .if1 .left)) (c .before .before .before .before .before .before .before .store .ensures) (c .before .before .before .shift .ensures) (c .with-top .ensures)
 
 pub take-object-spec : {M : Type 1} → statement M

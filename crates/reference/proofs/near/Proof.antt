@@ -1,5 +1,6 @@
 -- `reference::near` meets its contract: the part of the area that was lent is back.
 use lib.ListN.{length-drop}
+use Rattle.spec.specs.Limits.{mostNameBytes}
 use Rattle.copy.specs.Copy.{rest-of}
 use Rattle.reference.specs.Reference.{near-made, near-formless, near-long, answers}
 use Rattle.resolve.specs.Resolve.{need}
@@ -54,7 +55,7 @@ same-length-4 : tie.Need-same-length-4
 same-length-4 c = search needs
 
 returns-4 : tie.Need-returns-4
-unfolding need
+unfolding need mostNameBytes
 returns-4 c = absurd (answers (c .before .before .before .before .before .before .before .before .before .args .base .now) (c .before .before .before .before .before .before .before .before .before .args .reference .now) (c .before .before .before .before .before .before .before .before .before .pre .2) (c .before .before .before .before .resolve .ensures) (rw (rest-of (c .before .before .before .before .before .before .before .before .before .args .area .now) (c .before .before .before .before .before .before .before .before .before .args .at), length-drop) (omega (arith, c .before .before .before .before .before .before .before .before .before .pre .0, c .before .before .before .before .before .before .before .before .before .pre .1))) (c .enum-told3 .given .1))
 
 pub near-spec : {M : Type 1} → statement M

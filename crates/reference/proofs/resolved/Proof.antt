@@ -1,6 +1,7 @@
 -- `reference::resolved` meets its contract.
 use mathlib.Core.Path.{sym, _∙_}
 use borrow.Author.Tests.{not-true, not-false}
+use Rattle.spec.specs.Limits.{mostNameBytes}
 use Rattle.reference.specs.Reference.{given, none-there, no-reference, without-base, on-base}
 use borrow.Author.Needs.{needs}
 use Rattle.reference.proofs.resolved.Statement.{statement}
@@ -25,6 +26,7 @@ returns-3 : tie.Need-returns-3
 returns-3 c = on-base (c .before .before .before .before .before .before .before .args .base .now) (c .before .before .before .before .before .before .before .args .reference .now) (not-false _ (c .before .before .before .if1 .left)) (not-false _ (c .before .before .if2 .left)) (no-reference (c .before .before .before .before .before .before .before .args .reference .now) (c .before .before .before .before .before .before .before .args .base .now) (sym (c .before .is-iri-reference .ensures) ∙ not-true _ (c .if3 .taken)))
 
 near-requires : tie.Need-near-requires
+unfolding mostNameBytes
 near-requires c κs = (c .before .before .before .before .before .before .before .before .before .pre, c .before .if4 .taken, sym (c .before .before .before .is-iri-reference .ensures) ∙ not-false _ (c .before .before .if3 .left))
 
 same-length-2 : tie.Need-same-length-2

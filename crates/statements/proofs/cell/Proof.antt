@@ -1,5 +1,6 @@
 -- `statements::cell` meets its contract. Two lines; what follows the cell is the list so far, or rdf:nil.
 use mathlib.Core.Path.{ap, _∙_}
+use Rattle.spec.specs.Limits.{mostLabels}
 use Rattle.spec.specs.Bytes.{ascii}
 use Rattle.spec.specs.Rdf.{rdf}
 use Rattle.spec.specs.NTriples.{blank}
@@ -11,6 +12,7 @@ use Rattle.statements.proofs.cell.Statement.{statement}
 use Rattle.statements.proofs.cell.Tie as tie
 
 add-label-of : tie.Need-add-label-of
+unfolding mostLabels
 add-label-of c = search needs
 
 label-of-requires : tie.Need-label-of-requires

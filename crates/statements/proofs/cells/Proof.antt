@@ -1,5 +1,6 @@
 -- `statements::cells` meets its contract. The loop's invariant: what is written, and the cells of the children that are left, are the cells of all.
 use mathlib.Core.Path.{refl}
+use Rattle.spec.specs.Limits.{mostLabels}
 use Rattle.statements.specs.Cells.{Celled, celled-begins, celled-more, celled-done}
 use native.Mathlib.Omega.{arith}
 use borrow.Author.Needs.{needs}
@@ -28,6 +29,7 @@ child-at-requires : tie.Need-child-at-requires Inv-loop μ-loop
 child-at-requires c κs = search needs
 
 cell-requires : tie.Need-cell-requires Inv-loop μ-loop
+unfolding mostLabels
 cell-requires c κs = let h = c .before .before .before .loop .inv in (h .from, omega (arith, h .counts, h .few))
 
 add-n : tie.Need-add-n Inv-loop μ-loop

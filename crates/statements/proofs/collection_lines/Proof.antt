@@ -1,6 +1,7 @@
 -- `statements::collection_lines` meets its contract. The cells, and then the statement with their head.
 use Prim.Native.Nat.{_+_}
 use mathlib.Core.Path.{ap, _∙_}
+use Rattle.spec.specs.Limits.{mostLabels}
 use Rattle.spec.specs.Bytes.{Bytes, ascii}
 use Rattle.spec.specs.Rdf.{rdf}
 use Rattle.spec.specs.NTriples.{blank, node}
@@ -42,6 +43,7 @@ add-label-of : tie.Need-add-label-of
 add-label-of c = search needs
 
 label-of-requires : tie.Need-label-of-requires
+unfolding mostLabels
 label-of-requires c κs = search needs
 
 slice-aggregate-statement-3 : tie.Need-slice-aggregate-statement-3

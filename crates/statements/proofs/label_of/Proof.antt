@@ -1,4 +1,5 @@
 -- `statements::label_of` meets its contract. The next label behind `n - 1`.
+use Rattle.spec.specs.Limits.{mostLabels}
 use Rattle.statements.specs.Cells.{next-label}
 use native.Mathlib.Omega.{arith}
 use borrow.Author.Needs.{needs}
@@ -12,6 +13,7 @@ generate-requires : tie.Need-generate-requires
 generate-requires c κs = search needs
 
 returns : tie.Need-returns
+unfolding mostLabels
 returns c = next-label _ (c .before .generate .ensures) (omega arith) (omega arith)
 
 pub label-of-spec : {M : Type 1} → statement M

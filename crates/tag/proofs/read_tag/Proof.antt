@@ -1,5 +1,6 @@
 -- `tag::read_tag` meets its contract, by what stops it first: the name, an attribute, a reference; or nothing.
 use mathlib.Core.Path.{sym, _∙_}
+use Rattle.spec.specs.Limits.{mostHeldBytes}
 use Rattle.tag.specs.Tag.{unknown-name, wrong-attribute, wrong-reference, tag-read}
 use native.Mathlib.Omega.{arith}
 use borrow.Author.Needs.{needs}
@@ -34,6 +35,7 @@ enum-told : tie.Need-enum-told
 enum-told c = search needs
 
 resolve-references-requires : tie.Need-resolve-references-requires
+unfolding mostHeldBytes
 resolve-references-requires c κs = search needs
 
 enum-known-resolutions : tie.Need-enum-known-resolutions

@@ -1,11 +1,13 @@
 -- `tag::tag_of` meets its contract: the parts of the tag, each from the call that made it.
 use mathlib.Core.Path.{_∙_}
+use Rattle.spec.specs.Limits.{mostHeldBytes}
 use Rattle.tag.specs.Made.{finished}
 use borrow.Author.Needs.{needs}
 use Rattle.tag.proofs.tag_of.Statement.{statement}
 use Rattle.tag.proofs.tag_of.Tie as tie
 
 make-iri-requires : tie.Need-make-iri-requires
+unfolding mostHeldBytes
 make-iri-requires c κs = search needs
 
 first-in-requires : tie.Need-first-in-requires

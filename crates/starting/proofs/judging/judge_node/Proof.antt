@@ -1,4 +1,5 @@
 -- `judging::judge_node` meets its contract.
+use Rattle.spec.specs.Limits.{mostLabels}
 use Rattle.starting.specs.Nodes.{node-refused, node-long, node-left, node-judged}
 use borrow.Author.Tests.{not-true, not-false}
 use borrow.Author.Needs.{needs}
@@ -36,6 +37,7 @@ returns : tie.Need-returns
 returns c = node-long (c .before .before .before .before .before .before .before .before .before .before .iri-text .ensures) (c .before .before .before .before .before .before .before .before .before .is-reserved-node .ensures) (c .before .before .before .before .before .before .before .before .is-description .ensures) (c .before .before .before .before .before .before .before .is-missing .ensures) (c .before .before .before .before .before .before .is-missing2 .ensures) (c .before .before .before .before .judge-node .ensures) (c .before .before .enum-told .given .1) (not-true _ (c .if1 .taken))
 
 make-node-requires : tie.Need-make-node-requires
+unfolding mostLabels
 make-node-requires c κs = ((c .before .before .before .before .before .before .before .before .before .before .before .before .before .before .before .before .pre), node-left (c .before .before .before .before .before .judge-node .ensures) (c .before .before .before .enum-told .given .1))
 
 same-length-2 : tie.Need-same-length-2

@@ -1,4 +1,5 @@
 -- `judging::label_if` meets its contract.
+use Rattle.spec.specs.Limits.{mostHeldBytes}
 use Rattle.starting.specs.Properties.{no-label, one-label}
 use borrow.Author.Tests.{not-true, not-false}
 use native.Mathlib.Omega.{arith}
@@ -10,6 +11,7 @@ returns : tie.Need-returns
 returns c = no-label (not-true _ (c .if1 .taken))
 
 make-label-requires : tie.Need-make-label-requires
+unfolding mostHeldBytes
 make-label-requires c κs = ((c .before .before .before .pre .1) (not-false _ (c .before .if1 .left)), omega (arith, (c .before .before .before .pre .0)))
 
 same-length : tie.Need-same-length

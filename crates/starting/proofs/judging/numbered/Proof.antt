@@ -1,4 +1,5 @@
 -- `judging::numbered` meets its contract.
+use Rattle.spec.specs.Limits.{mostHeldBytes}
 use Rattle.starting.specs.Properties.{not-numbered, is-numbered}
 use borrow.Author.Tests.{not-true, not-false}
 use native.Mathlib.Omega.{arith}
@@ -13,6 +14,7 @@ returns : tie.Need-returns
 returns c = not-numbered _ (not-true _ (c .before .if1 .taken)) (c .made .ensures)
 
 property-iri-requires : tie.Need-property-iri-requires
+unfolding mostHeldBytes
 property-iri-requires c κs = ((c .before .before .before .pre .1) (not-false _ (c .before .if1 .left)), omega (arith, (c .before .before .before .pre .0)))
 
 same-length : tie.Need-same-length

@@ -1,4 +1,0 @@
--- What the contracts of `replay` cite.
-pub mod Lines
-pub mod Ends
-pub mod Ways
