@@ -21,51 +21,16 @@ use Rattle.parser.specs.Asked.{Asks, Roomy, Areas}
 use Rattle.parser.specs.declared.stream.Taken.{Taken}
 use Rattle.parser.specs.declared.stream.Taken.the-variants as taken
 use Rattle.parser.specs.Core.{firstAccepted, Accepts, Takes}
-use Rattle.feeding.specs.declared.Pause.{Pause}
-use Rattle.feeding.specs.declared.Pause.the-variants.{Full, Stop}
-use Rattle.feeding.specs.declared.Fed.{Fed}
+use Rattle.report.specs.declared.fed.Pause.{Pause}
+use Rattle.report.specs.declared.fed.Pause.the-variants.{Full, Stop}
+use Rattle.report.specs.declared.fed.Fed.{Fed}
+use Rattle.report.specs.Fed.{nothing, further, Counts, stopped}
 
 -- k events from the front of s, one behind the other, each done within its room: n bytes of s, output o, from the document d to d′
 pub data Does (last : Bool) (s : Bytes) (d : Doc) : ℕ → ℕ → Bytes → Doc → Type 0 where
   none : Does last s d 0 0 [] d
   one : {k n : ℕ} {o : Bytes} {d′ : Doc} → Does last s d k n o d′ → (a : Accepted) → firstAccepted last (drop n s) programRoom d′ ≡ good a
       → Does last s d (suc k) (n + a .size) (o ++ a .lines) (a .behind)
-
--- no event yet, one event more, and none further
-abbrev pub nothing : Registers → ℕ → ℕ → Fed
-nothing r count used = record { registers = r; count = count; used = used; events = 0; consumed = 0; written = 0; pause = Full }
-
-abbrev pub further : Fed → ℕ → Advance → Fed
-further f n a =
-    record {
-      registers = a .registers;
-      count = a .count;
-      used = a .used;
-      events = f .events + 1;
-      consumed = f .consumed + n;
-      written = f .written + a .written;
-      pause = Full;
-    }
-
--- its counts fit a word, since they are those of bytes at hand
-pub record Counts (f : Fed) (n : ℕ) (a : Advance) : Type 0 where
-  pub events : f .events < 9_223_372_036_854_775_808
-  pub consumed : f .consumed < 9_223_372_036_854_775_808
-  pub written : f .written < 9_223_372_036_854_775_808
-  pub size : n < 9_223_372_036_854_775_808
-  pub lines : a .written < 9_223_372_036_854_775_808
-
-abbrev pub stopped : Fed → Refusal → Fed
-stopped f n =
-    record {
-      registers = f .registers;
-      count = f .count;
-      used = f .used;
-      events = f .events;
-      consumed = f .consumed;
-      written = f .written;
-      pause = Stop n;
-    }
 
 -- why no further event was done, in a document d, with the input s and `free` bytes of output left
 abbrev pub Ends : Bool → Bytes → Doc → ℕ → Pause → Type 0

@@ -15,9 +15,9 @@ use Rattle.state.specs.declared.Registers.{Registers}
 use Rattle.state.specs.Live.{startedWith}
 use Rattle.event.specs.Progress.{Lent, docIn}
 use Rattle.parser.specs.Asked.{Asks}
-use Rattle.feeding.specs.declared.Pause.{Pause}
-use Rattle.feeding.specs.declared.Pause.the-variants.{Full, Stop}
-use Rattle.feeding.specs.declared.Fed.{Fed}
+use Rattle.report.specs.declared.fed.Pause.{Pause}
+use Rattle.report.specs.declared.fed.Pause.the-variants.{Full, Stop}
+use Rattle.report.specs.declared.fed.Fed.{Fed}
 use Rattle.report.specs.Meaning.{overIn}
 use Rattle.pyx2nt.specs.declared.Place.{Place}
 use Rattle.pyx2nt.specs.declared.Next.{Next}

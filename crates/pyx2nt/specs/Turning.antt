@@ -22,9 +22,9 @@ use Rattle.frames.specs.Words.{pick}
 use Rattle.state.specs.declared.Registers.{Registers}
 use Rattle.event.specs.Progress.{Lent, docIn}
 use Rattle.parser.specs.Asked.{Asks}
-use Rattle.feeding.specs.declared.Pause.{Pause}
-use Rattle.feeding.specs.declared.Pause.the-variants.{Full, Stop}
-use Rattle.feeding.specs.declared.Fed.{Fed}
+use Rattle.report.specs.declared.fed.Pause.{Pause}
+use Rattle.report.specs.declared.fed.Pause.the-variants.{Full, Stop}
+use Rattle.report.specs.declared.fed.Fed.{Fed}
 use Rattle.feeding.specs.Goes.{Goes}
 use Rattle.feeding.specs.Waiting.{waits-short}
 use Rattle.report.specs.declared.State.{State}

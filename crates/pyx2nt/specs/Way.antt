@@ -16,7 +16,7 @@ use Rattle.spec.specs.Pyx2nt.{lastLine, pyx2nt}
 use Rattle.state.specs.declared.Registers.{Registers}
 use Rattle.event.specs.Progress.{Lent, docIn}
 use Rattle.parser.specs.Core.{firstAccepted}
-use Rattle.feeding.specs.declared.Fed.{Fed}
+use Rattle.report.specs.declared.fed.Fed.{Fed}
 use Rattle.feeding.specs.Goes.{Goes}
 use Rattle.feeding.specs.Prints.{Prints, reads, refused, over, goes-on, prints-pyx2nt}
 

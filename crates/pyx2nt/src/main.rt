@@ -10,8 +10,6 @@ ghost use Rattle.event.specs.Progress.{lent};
 ghost use Rattle.parser.specs.Asked.{Roomy, Areas};
 ghost use Rattle.pyx2nt.specs.Way.{start, Ended};
 ghost use Rattle.pyx2nt.specs.Places.{firstPlace, Sums, behindOf, withMore, finishing, Moves, Readable, Reads, Paused, Follows, Stands, Turns, Made};
-use feeding::Fed;
-use feeding::Pause;
 use frames::Frame;
 use frames::Row;
 use ids::IdTable;
@@ -19,6 +17,8 @@ use label::Decimal;
 use libc::STDIN_FILENO;
 use libc::STDOUT_FILENO;
 use parser::stream::Taken;
+use report::fed::Fed;
+use report::fed::Pause;
 use spec::Refusal;
 use state::Registers;
 

@@ -5,3 +5,5 @@ pub mod Meaning
 pub mod Meets
 -- ---- what the contracts determine
 pub mod Unique
+-- ---- many events
+pub mod Fed

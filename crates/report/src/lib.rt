@@ -3,6 +3,9 @@ ghost use mathlib.Core.Path.{_≡_};
 ghost use Rattle.spec.specs.Numbers.{number, closes};
 ghost use Rattle.report.specs.Meaning.{lawfulState, closedState, marked, overIn, Fresh, Nothing};
 ghost use Rattle.report.specs.Meets.{numberOf, bare, refusing, doing, accepting};
+
+pub mod fed;
+
 use event::Advance;
 use frames::Frame;
 use frames::Row;

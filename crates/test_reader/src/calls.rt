@@ -2,12 +2,12 @@
 // not the reader's, and the last label. What each is, and the number that a call gives.
 use crate::replay::ahead;
 use crate::replay::part;
-use feeding::Fed;
 use frames::Frame;
 use ids::IdTable;
 use libc::STDOUT_FILENO;
 use report::Report;
 use report::State;
+use report::fed::Fed;
 use state::Registers;
 
 // What is made of a state by hand: nothing; another number of open elements, end of what is held, number of labels; another word of the

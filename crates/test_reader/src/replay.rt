@@ -6,11 +6,11 @@ ghost use Rattle.report.specs.Meaning.{baseOf, meaningOf};
 ghost use Rattle.report.specs.Meets.{lengthsRight};
 ghost use Rattle.test_reader.specs.Lines.{partOf, Within, Behind};
 ghost use Rattle.test_reader.specs.Ways.{Ends, Runs, Turns, Finished, wayOf, advanced, stopped, endedOf};
-use feeding::Fed;
 use ids::IdTable;
 use libc::STDOUT_FILENO;
 use report::Report;
 use report::State;
+use report::fed::Fed;
 use state::Registers;
 
 // How a document ended: its state, the number of its last call, and whether its lines were the expected ones.

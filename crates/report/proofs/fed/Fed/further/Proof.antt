@@ -1,7 +1,7 @@
 -- `Fed::further` meets its contract: the sums fit, and the fields are those of the definition.
 use borrow.Author.Needs.{needs}
-use Rattle.feeding.proofs.Fed.further.Statement.{statement}
-use Rattle.feeding.proofs.Fed.further.Tie as tie
+use Rattle.report.proofs.fed.Fed.further.Statement.{statement}
+use Rattle.report.proofs.fed.Fed.further.Tie as tie
 
 add-t6 : tie.Need-add-t6
 add-t6 c = search needs
