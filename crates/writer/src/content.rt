@@ -5,38 +5,18 @@ ghost use mathlib.Core.List.{[], _∷_};
 ghost use Rattle.spec.specs.NTriples.{coded};
 ghost use Rattle.spec.specs.XmlLiteral.{textByte};
 ghost use Rattle.writer.specs.Put.{Put};
-ghost use Rattle.writer.specs.Coded.{Plain};
+ghost use Rattle.writer.specs.Rules.{Spells};
+use crate::coded::Rule;
+use crate::coded::Word;
 
 pub fn write(out: &mut [u8], at: usize, on: bool, s: &[u8]) -> usize
     ensures { λ r. ⌜ Put on (now (out .entry)) (now (out .exit)) at r (coded textByte (now (s .entry))) ⌝ }
 {
-    let mut i = run(s);
-    let mut to = crate::bytes(out, at, on, &s[..i]);
-    while i < s.len() {
-        to = escape(out, to, on, s[i]);
-        let next = i + 1;
-        i = next + run(&s[next..]);
-        to = crate::bytes(out, to, on, &s[next..i]);
-    }
-    to
-}
-
-// How many bytes are written as they are, up to one that is not.
-fn run(s: &[u8]) -> usize
-    ensures { λ r. ⌜ Plain textByte (now (s .entry)) r ⌝ }
-{
-    let mut i = 0;
-    while i < s.len() {
-        if !plain(s[i]) {
-            return i;
-        }
-        i += 1;
-    }
-    i
+    crate::coded::write(out, at, on, s, Rule::Content)
 }
 
 // Is the byte written as it is?
-fn plain(b: u8) -> bool
+pub fn is_plain_byte(b: u8) -> bool
     ensures { λ r. ⌜ (r ≡ true → textByte b ≡ b ∷ []) ⌝ }
 {
     match b {
@@ -45,16 +25,33 @@ fn plain(b: u8) -> bool
     }
 }
 
-// One byte.
-fn escape(out: &mut [u8], at: usize, on: bool, b: u8) -> usize
-    ensures { λ r. ⌜ Put on (now (out .entry)) (now (out .exit)) at r (textByte b) ⌝ }
+pub fn spell(b: u8) -> Word
+    ensures { λ w. ⌜ Spells w (textByte b) ⌝ }
 {
     match b {
-        b'&' => crate::bytes(out, at, on, b"&amp;"),
-        b'<' => crate::bytes(out, at, on, b"&lt;"),
-        b'>' => crate::bytes(out, at, on, b"&gt;"),
-        b'"' => crate::bytes(out, at, on, b"&quot;"),
-        b'\'' => crate::bytes(out, at, on, b"&apos;"),
-        _ => crate::byte(out, at, on, b),
+        b'&' => Word {
+            bytes: *b"&amp; ",
+            len: 5,
+        },
+        b'<' => Word {
+            bytes: *b"&lt;  ",
+            len: 4,
+        },
+        b'>' => Word {
+            bytes: *b"&gt;  ",
+            len: 4,
+        },
+        b'"' => Word {
+            bytes: *b"&quot;",
+            len: 6,
+        },
+        b'\'' => Word {
+            bytes: *b"&apos;",
+            len: 6,
+        },
+        _ => Word {
+            bytes: [b; 6],
+            len: 1,
+        },
     }
 }

@@ -6,7 +6,10 @@ ghost use Prim.Native.Nat.{_<_, _≤_};
 ghost use lib.ListN.{length};
 ghost use Rattle.spec.specs.NTriples.{coded, iriByte, forbidden, hexDigit};
 ghost use Rattle.writer.specs.Put.{Put};
-ghost use Rattle.writer.specs.Coded.{Plain, Clean};
+ghost use Rattle.writer.specs.Rules.{Spells};
+ghost use Rattle.writer.specs.Coded.{Clean};
+use crate::coded::Rule;
+use crate::coded::Word;
 
 pub fn write(out: &mut [u8], at: usize, on: bool, s: &[u8]) -> usize
     ensures { λ r. ⌜ Put on (now (out .entry)) (now (out .exit)) at r (coded iriByte (now (s .entry))) ⌝ }
@@ -17,7 +20,7 @@ pub fn write(out: &mut [u8], at: usize, on: bool, s: &[u8]) -> usize
     if is_plain(s) {
         return crate::bytes(out, at, on, s);
     }
-    runs(out, at, on, s)
+    crate::coded::write(out, at, on, s, Rule::Iri)
 }
 
 // Is all of it surely written as it is? Most texts are. The last sixteen bytes may begin among those tested before them.
@@ -60,33 +63,24 @@ fn is_marked(b: u8) -> bool
     ((b & 0x9D) == 0x1C) | (b == b'`') | (b <= b'"') | (b'{' <= b)
 }
 
-// A run of bytes that are written as they are, one that is not, and so on.
-fn runs(out: &mut [u8], at: usize, on: bool, s: &[u8]) -> usize
-    ensures { λ r. ⌜ Put on (now (out .entry)) (now (out .exit)) at r (coded iriByte (now (s .entry))) ⌝ }
+// Is the byte written as it is?
+pub fn is_plain_byte(b: u8) -> bool
+    ensures { λ r. ⌜ (r ≡ true → iriByte b ≡ b ∷ []) ⌝ }
 {
-    let mut i = run(s);
-    let mut to = crate::bytes(out, at, on, &s[..i]);
-    while i < s.len() {
-        to = escape(out, to, on, s[i]);
-        let next = i + 1;
-        i = next + run(&s[next..]);
-        to = crate::bytes(out, to, on, &s[next..i]);
-    }
-    to
+    !is_forbidden(b)
 }
 
-// How many bytes are written as they are, up to one that is not.
-fn run(s: &[u8]) -> usize
-    ensures { λ r. ⌜ Plain iriByte (now (s .entry)) r ⌝ }
+pub fn spell(b: u8) -> Word
+    ensures { λ w. ⌜ Spells w (iriByte b) ⌝ }
 {
-    let mut i = 0;
-    while i < s.len() {
-        if is_forbidden(s[i]) {
-            return i;
-        }
-        i += 1;
+    if !is_forbidden(b) {
+        return Word {
+            bytes: [b; 6],
+            len: 1,
+        };
     }
-    i
+    let bytes = [b'\\', b'u', b'0', b'0', hex(b / 16), hex(b % 16)];
+    Word { bytes, len: 6 }
 }
 
 // 00 to 20 hex and nine marks.
@@ -100,17 +94,6 @@ fn is_forbidden(b: u8) -> bool
         b'<' | b'>' | b'"' | b'{' | b'}' | b'|' | b'^' | b'`' | b'\\' => true,
         _ => false,
     }
-}
-
-// One byte.
-fn escape(out: &mut [u8], at: usize, on: bool, b: u8) -> usize
-    ensures { λ r. ⌜ Put on (now (out .entry)) (now (out .exit)) at r (iriByte b) ⌝ }
-{
-    if !is_forbidden(b) {
-        return crate::byte(out, at, on, b);
-    }
-    let word = [b'\\', b'u', b'0', b'0', hex(b / 16), hex(b % 16)];
-    crate::bytes(out, at, on, &word)
 }
 
 fn hex(n: u8) -> u8

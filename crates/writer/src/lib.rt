@@ -4,6 +4,7 @@ ghost use mathlib.Core.Path.{_≡_};
 ghost use mathlib.Core.List.{[], _∷_};
 ghost use Rattle.writer.specs.Put.{counted, Put};
 
+pub mod coded;
 pub mod content;
 pub mod iriref;
 pub mod quoted;

@@ -4,10 +4,12 @@ ghost use mathlib.Core.Bool.{true, false};
 ghost use mathlib.Core.List.{[], _∷_};
 ghost use Prim.Native.Nat.{_≤_};
 ghost use lib.ListN.{length};
-ghost use Rattle.spec.specs.NTriples.{coded};
-ghost use Rattle.spec.specs.NTriples.{literalByte};
+ghost use Rattle.spec.specs.NTriples.{coded, literalByte};
 ghost use Rattle.writer.specs.Put.{Put};
-ghost use Rattle.writer.specs.Coded.{Plain, Clean};
+ghost use Rattle.writer.specs.Rules.{Spells};
+ghost use Rattle.writer.specs.Coded.{Clean};
+use crate::coded::Rule;
+use crate::coded::Word;
 
 pub fn write(out: &mut [u8], at: usize, on: bool, s: &[u8]) -> usize
     ensures { λ r. ⌜ Put on (now (out .entry)) (now (out .exit)) at r (coded literalByte (now (s .entry))) ⌝ }
@@ -18,7 +20,7 @@ pub fn write(out: &mut [u8], at: usize, on: bool, s: &[u8]) -> usize
     if is_plain(s) {
         return crate::bytes(out, at, on, s);
     }
-    runs(out, at, on, s)
+    crate::coded::write(out, at, on, s, Rule::Quoted)
 }
 
 // Is all of it surely written as it is? Most texts are. The last sixteen bytes may begin among those tested before them.
@@ -54,44 +56,15 @@ fn has_marked(s: &[u8], from: usize, to: usize) -> bool
     marked
 }
 
-// Coarser than `plain`: a test less.
+// Coarser than `is_plain_byte`: a test less.
 fn is_marked(b: u8) -> bool
     ensures { λ r. ⌜ (r ≡ false → literalByte b ≡ b ∷ []) ⌝ }
 {
     (b <= b'\r') | (b == b'"') | (b == b'\\')
 }
 
-// A run of bytes that are written as they are, one that is not, and so on.
-fn runs(out: &mut [u8], at: usize, on: bool, s: &[u8]) -> usize
-    ensures { λ r. ⌜ Put on (now (out .entry)) (now (out .exit)) at r (coded literalByte (now (s .entry))) ⌝ }
-{
-    let mut i = run(s);
-    let mut to = crate::bytes(out, at, on, &s[..i]);
-    while i < s.len() {
-        to = escape(out, to, on, s[i]);
-        let next = i + 1;
-        i = next + run(&s[next..]);
-        to = crate::bytes(out, to, on, &s[next..i]);
-    }
-    to
-}
-
-// How many bytes are written as they are, up to one that is not.
-fn run(s: &[u8]) -> usize
-    ensures { λ r. ⌜ Plain literalByte (now (s .entry)) r ⌝ }
-{
-    let mut i = 0;
-    while i < s.len() {
-        if !plain(s[i]) {
-            return i;
-        }
-        i += 1;
-    }
-    i
-}
-
 // Is the byte written as it is?
-fn plain(b: u8) -> bool
+pub fn is_plain_byte(b: u8) -> bool
     ensures { λ r. ⌜ (r ≡ true → literalByte b ≡ b ∷ []) ⌝ }
 {
     match b {
@@ -100,15 +73,29 @@ fn plain(b: u8) -> bool
     }
 }
 
-// One byte.
-fn escape(out: &mut [u8], at: usize, on: bool, b: u8) -> usize
-    ensures { λ r. ⌜ Put on (now (out .entry)) (now (out .exit)) at r (literalByte b) ⌝ }
+pub fn spell(b: u8) -> Word
+    ensures { λ w. ⌜ Spells w (literalByte b) ⌝ }
 {
     match b {
-        b'"' => crate::bytes(out, at, on, b"\\\""),
-        b'\\' => crate::bytes(out, at, on, b"\\\\"),
-        b'\n' => crate::bytes(out, at, on, b"\\n"),
-        b'\r' => crate::bytes(out, at, on, b"\\r"),
-        _ => crate::byte(out, at, on, b),
+        b'"' => Word {
+            bytes: *b"\\\"    ",
+            len: 2,
+        },
+        b'\\' => Word {
+            bytes: *b"\\\\    ",
+            len: 2,
+        },
+        b'\n' => Word {
+            bytes: *b"\\n    ",
+            len: 2,
+        },
+        b'\r' => Word {
+            bytes: *b"\\r    ",
+            len: 2,
+        },
+        _ => Word {
+            bytes: [b; 6],
+            len: 1,
+        },
     }
 }

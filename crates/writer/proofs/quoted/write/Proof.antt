@@ -23,14 +23,14 @@ same-length c = search needs
 returns-2 : tie.Need-returns-2
 returns-2 c = put-as (c .before .before .bytes .ensures) (sym (c .before .before .before .before .before .is-plain .ensures (c .before .before .before .before .if2 .taken)))
 
-runs-requires : tie.Need-runs-requires
-runs-requires c κs = search needs
+write-requires : tie.Need-write-requires
+write-requires c κs = search needs
 
 same-length-2 : tie.Need-same-length-2
 same-length-2 c = search needs
 
 returns-3 : tie.Need-returns-3
-returns-3 c = c .before .before .runs .ensures
+returns-3 c = c .before .before .write .ensures
 
 pub write-spec : {M : Type 1} → statement M
 write-spec =
@@ -41,6 +41,6 @@ write-spec =
     bytes-requires
     same-length
     returns-2
-    runs-requires
+    write-requires
     same-length-2
     returns-3)

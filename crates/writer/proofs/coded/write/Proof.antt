@@ -1,18 +1,18 @@
--- `writer::value::write` meets its contract. The loop's invariant: whoever wrote the first run has written the first `i` bytes now.
+-- `coded::write` meets its contract. The loop's invariant: whoever wrote the first run has written the first `i` bytes now.
 use Prim.Native.Nat.{_-_}
 use lib.ListN.{length, length-take}
-use Rattle.spec.specs.XmlLiteral.{valueByte}
+use Rattle.writer.specs.Rules.{byteOf}
 use Rattle.writer.specs.Coded.{Going, going-begins, going-more, going-done, going-less}
 use native.Mathlib.Omega.{arith}
 use borrow.Author.Needs.{needs}
-use Rattle.writer.proofs.value.write.Statement.{statement}
-use Rattle.writer.proofs.value.write.Tie as tie
+use Rattle.writer.proofs.coded.write.Statement.{statement}
+use Rattle.writer.proofs.coded.write.Tie as tie
 
 abbrev Inv-loop : tie.InvT-loop
-Inv-loop out₀ at on s i₀ to₀ out i to = Going valueByte on out₀ out to₀ to s i₀ i
+Inv-loop out₀ at on s rule i₀ to₀ out i to = Going (byteOf rule) on out₀ out to₀ to s i₀ i
 
 abbrev μ-loop : tie.MeasureT-loop
-μ-loop out₀ at on s i₀ to₀ out i to = length s - i
+μ-loop out₀ at on s rule i₀ to₀ out i to = length s - i
 
 run-requires : tie.Need-run-requires Inv-loop μ-loop
 run-requires c κs = search needs
