@@ -52,6 +52,7 @@ impl Change {
 
 pub fn try_all() {
     rooms();
+    room_of_id();
     incomplete();
     not_pyx();
     stores();
@@ -64,16 +65,9 @@ pub fn try_all() {
 fn rooms() {
     let mut text = [0u8; 256];
     let at = root(&mut text);
-    let mut short = [b'?'; 79];
-    let mut exact = [b'?'; 80];
-    room(
-        b"a node",
-        part(&text, 0, at),
-        &mut short,
-        &mut exact,
-        b"_:riog00000001",
-    );
-    room_of_id();
+    let mut short = [0u8; 79];
+    let mut exact = [0u8; 80];
+    repeat(b"a node", part(&text, 0, at), &mut short, &mut exact);
 }
 
 // The rdf:ID must not have been entered where the event is to be repeated.
@@ -81,82 +75,31 @@ fn room_of_id() {
     let mut text = [0u8; 256];
     let at = root(&mut text);
     let at = add(&mut text, at, b"Axml:base http://e/\nAr:ID i\n");
-    let mut short = [b'?'; 78];
-    let mut exact = [b'?'; 79];
-    room(
+    let mut short = [0u8; 78];
+    let mut exact = [0u8; 79];
+    repeat(
         b"a node with rdf:ID",
         part(&text, 0, at),
         &mut short,
         &mut exact,
-        b"<http://e/#i>",
     );
 }
 
 // The first event with a byte too little, and then with room.
-fn room(what: &[u8], text: &[u8], short: &mut [u8], exact: &mut [u8], subject: &[u8]) {
+fn repeat(what: &[u8], text: &[u8], short: &mut [u8], exact: &mut [u8]) {
     let mut work = [0u8; Registers::STORE];
     let mut ids = [0u8; IdTable::BYTES];
     let before = State::none();
     let started = reader::start(before, false, b"", &mut work, &ids);
-    let state = too_short(what, started.state, &mut work, &mut ids, text, short);
+    let state = started.state;
+    let none = reader::step(state, &mut work, &mut ids, text, true, short);
+    print(b"one byte short, ");
+    report(what, none);
+    let state = none.state;
     let done = reader::step(state, &mut work, &mut ids, text, true, exact);
-    told(
-        what,
-        b", just room",
-        done,
-        b"its line",
-        is_line(exact, subject),
-    );
-}
-
-// It must leave everything as it was.
-fn too_short(
-    what: &[u8],
-    state: State,
-    work: &mut [u8],
-    ids: &mut [u8],
-    text: &[u8],
-    out: &mut [u8],
-) -> State {
-    let mut kept = [0u8; Registers::STORE];
-    copy::put(&mut kept, 0, work);
-    let done = reader::step(state, work, ids, text, true, out);
-    let same = copy::equal(work, &kept) & only(out, b'?');
-    told(what, b", one byte short", done, b"all as it was", same);
-    done.state
-}
-
-fn told(what: &[u8], how: &[u8], done: Report, fact: &[u8], yes: bool) {
-    print(what);
-    report(how, done);
-    print(fact);
-    if yes {
-        print(b": yes\n");
-    } else {
-        print(b": no\n");
-    }
-}
-
-fn only(s: &[u8], b: u8) -> bool {
-    let mut i = 0;
-    while i < s.len() {
-        if s[i] != b {
-            return false;
-        }
-        i += 1;
-    }
-    true
-}
-
-fn is_line(out: &[u8], subject: &[u8]) -> bool {
-    let mut line = [0u8; 128];
-    let at = add(&mut line, 0, subject);
-    let at = add(
-        &mut line,
-        at,
-        b" <http://www.w3.org/1999/02/22-rdf-syntax-ns#type> <http://e/a> .\n",
-    );
-    copy::equal(out, part(&line, 0, at))
+    print(b"just room, ");
+    report(what, done);
+    print(exact);
 }
 
 // ---- input
