@@ -193,52 +193,26 @@ fn seek_lengths(table: Added, at: &[u32; IdTable::MOST], len: &[u32; IdTable::MO
 
 // Tables that no call leaves, each beside one that is right.
 fn strange() {
+    judge(b"empty IDs in every place", IdTable::MOST, 0, 0, 0, 0, 0);
+    judge(b"one place too many", IdTable::MOST + 1, 0, 0, 0, 0, 0);
+    judge(b"the longest span", 1, 1024, 0, 1024, 0, 0);
+    judge(b"a span one too long", 1, 1025, 0, 1025, 0, 0);
+    judge(b"two spans end to end", 2, 7, 0, 3, 3, 4);
+    judge(b"an end one further", 2, 8, 0, 3, 3, 4);
+    judge(b"two that overlap", 2, 6, 0, 3, 2, 4);
+    judge(b"two with a gap", 2, 8, 0, 3, 4, 4);
+    judge(b"a first span from 1", 1, 4, 1, 3, 0, 0);
+}
+
+// A table whose first two spans start and are as long as this.
+fn judge(what: &[u8], count: usize, used: usize, at0: u32, len0: u32, at1: u32, len1: u32) {
     let mut at = [0u32; IdTable::MOST];
     let mut len = [0u32; IdTable::MOST];
-    write_answer(
-        b"empty IDs in every place",
-        ids::valid(IdTable::MOST, 0, &at, &len, IdTable::BYTES),
-    );
-    write_answer(
-        b"one place too many",
-        ids::valid(IdTable::MOST + 1, 0, &at, &len, IdTable::BYTES),
-    );
-    len[0] = 1024;
-    write_answer(
-        b"the longest span",
-        ids::valid(1, 1024, &at, &len, IdTable::BYTES),
-    );
-    len[0] = 1025;
-    write_answer(
-        b"a span one too long",
-        ids::valid(1, 1025, &at, &len, IdTable::BYTES),
-    );
-    len[0] = 3;
-    at[1] = 3;
-    len[1] = 4;
-    write_answer(
-        b"two spans end to end",
-        ids::valid(2, 7, &at, &len, IdTable::BYTES),
-    );
-    write_answer(
-        b"an end one further",
-        ids::valid(2, 8, &at, &len, IdTable::BYTES),
-    );
-    at[1] = 2;
-    write_answer(
-        b"two that overlap",
-        ids::valid(2, 6, &at, &len, IdTable::BYTES),
-    );
-    at[1] = 4;
-    write_answer(
-        b"two with a gap",
-        ids::valid(2, 8, &at, &len, IdTable::BYTES),
-    );
-    at[0] = 1;
-    write_answer(
-        b"a first span from 1",
-        ids::valid(1, 4, &at, &len, IdTable::BYTES),
-    );
+    at[0] = at0;
+    len[0] = len0;
+    at[1] = at1;
+    len[1] = len1;
+    write_answer(what, ids::valid(count, used, &at, &len, IdTable::BYTES));
 }
 
 fn main() {

@@ -107,7 +107,13 @@ fn events(s: &[u8]) {
 }
 
 fn event(s: &[u8], scratch: &mut [u8], spans: &mut [u32]) {
-    match pyx::decode(s, scratch, spans) {
+    let decoded = pyx::decode(s, scratch, spans);
+    print_event(decoded, scratch, spans);
+    print(b"\n");
+}
+
+fn print_event(event: Event, scratch: &[u8], spans: &[u32]) {
+    match event {
         Event::Malformed => print(b"  malformed"),
         Event::NoScratch => print(b"  no scratch"),
         Event::Instruction => print(b"  instruction"),
@@ -121,7 +127,6 @@ fn event(s: &[u8], scratch: &mut [u8], spans: &mut [u32]) {
             print_attributes(scratch, spans, k);
         }
     }
-    print(b"\n");
 }
 
 fn print_named(what: &[u8], scratch: &[u8], n: usize) {

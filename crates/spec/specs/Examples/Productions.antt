@@ -2,7 +2,7 @@
 use mathlib.Core.Path.{_≡_, refl}
 use mathlib.Core.Bool.{true}
 use mathlib.Core.List.{List, [], _∷_}
-use Rattle.spec.specs.Examples.{Example, prints, failing, areNTriples}
+use Rattle.spec.specs.Examples.{Example, prints, failing}
 use Rattle.spec.specs.Examples as E
 
 unfoldable pub table : List Example
@@ -206,7 +206,3 @@ table =
 pub worked-examples : failing 1 table ≡ []
 unfolding E.all table
 worked-examples = refl
-
-pub printed-n-triples : areNTriples table ≡ true
-unfolding E.all table
-printed-n-triples = refl
