@@ -2,15 +2,16 @@
 use Prim.Native.Nat.{ℕ, _≤_, _<_, _/_, _%_}
 use mathlib.Core.Path.{_≡_, refl, sym, _∙_}
 use mathlib.Core.Bool.{Bool, true, false, _||_, false≢true}
-use mathlib.Core.List.{List, [], _∷_}
+use mathlib.Core.List.{List, [], _∷_, _++_}
 use mathlib.Core.Logic.{_⊎_, inl, inr, ⊎-elim}
 use native.Mathlib.Nat.{eq-or-lt-of-le}
 use native.Mathlib.Omega.{arith}
 use types.Run.{OneOf}
 use lib.Dec.{eqb, leb}
 use lib.Bits.{bitAnd}
+use lib.ListN.{length}
 use borrow.Author.Tests.{ne-eqb, le-leb, lt-leb, leb-false, eqb-false}
-use Rattle.spec.specs.Bytes.{ascii, byte, if_then_else_, among, every}
+use Rattle.spec.specs.Bytes.{Bytes, ascii, byte, if_then_else_, among, every}
 use Rattle.spec.specs.NTriples.{literalByte, iriByte, hexDigit, forbidden}
 use Rattle.spec.specs.XmlLiteral.{textByte, valueByte}
 use Rattle.spec.proofs.Booleans.{and-left, and-right}
@@ -37,6 +38,44 @@ iri-same h = rw h
 pub iri-digits : (c : ℕ) → forbidden c ≡ true → 92 ∷ 117 ∷ 48 ∷ 48 ∷ hexDigit (c / 16) ∷ hexDigit (c % 16) ∷ [] ≡ iriByte c
 unfolding iriByte if_then_else_ ascii
 iri-digits c h = rw h
+
+-- ---- a word of one byte is the byte itself
+
+one-byte : (t : Bool) (s : Bytes) {r : Bytes} {c : ℕ} → eqb (length s) 1 ≡ false → (eqb (length r) 1 ≡ true → r ≡ c ∷ []) → eqb (length (if t then s else r)) 1 ≡ true → (if t then s else r) ≡ c ∷ []
+unfolding if_then_else_
+one-byte true s a b h = absurd (false≢true (sym a ∙ h))
+one-byte false s a b h = b h
+
+pub literal-one : (c : ℕ) → eqb (length (literalByte c)) 1 ≡ true → literalByte c ≡ c ∷ []
+unfolding literalByte ascii
+literal-one c =
+    one-byte _ (ascii "\\\"") refl (
+    one-byte _ (ascii "\\\\") refl (one-byte _ (ascii "\\n") refl (one-byte _ (ascii "\\r") refl (λ h. refl)))
+    )
+
+pub text-one : (c : ℕ) → eqb (length (textByte c)) 1 ≡ true → textByte c ≡ c ∷ []
+unfolding textByte ascii
+text-one c =
+    one-byte _ (ascii "&amp;") refl (
+    one-byte _ (ascii "&lt;") refl (
+    one-byte _ (ascii "&gt;") refl (one-byte _ (ascii "&quot;") refl (one-byte _ (ascii "&apos;") refl (λ h. refl)))
+    )
+    )
+
+pub value-one : (c : ℕ) → eqb (length (valueByte c)) 1 ≡ true → valueByte c ≡ c ∷ []
+unfolding valueByte ascii
+value-one c =
+    one-byte _ (ascii "&amp;") refl (
+    one-byte _ (ascii "&lt;") refl (
+    one-byte _ (ascii "&quot;") refl (
+    one-byte _ (ascii "&#x9;") refl (one-byte _ (ascii "&#xA;") refl (one-byte _ (ascii "&#xD;") refl (λ h. refl)))
+    )
+    )
+    )
+
+pub iri-one : (c : ℕ) → eqb (length (iriByte c)) 1 ≡ true → iriByte c ≡ c ∷ []
+unfolding iriByte ascii
+iri-one c = one-byte (forbidden c) (ascii "\\u00" ++ (hexDigit (c / 16) ∷ hexDigit (c % 16) ∷ [])) refl (λ h. refl)
 
 -- ---- forbidden bytes
 

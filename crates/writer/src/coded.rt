@@ -1,7 +1,7 @@
 // A text byte by byte, by a rule: most bytes are written as they are, some as a word.
 ghost use mathlib.Core.Path.{_≡_};
-ghost use mathlib.Core.Bool.{true};
-ghost use mathlib.Core.List.{[], _∷_};
+ghost use lib.Dec.{eqb};
+ghost use lib.ListN.{length};
 ghost use Rattle.spec.specs.NTriples.{coded};
 ghost use Rattle.writer.specs.Put.{Put};
 ghost use Rattle.writer.specs.Rules.{byteOf, Spells};
@@ -50,16 +50,12 @@ fn run(s: &[u8], rule: Rule) -> usize
     i
 }
 
-// Is the byte written as it is?
+// Is the byte written as it is? Every other word is longer than a byte.
 fn is_plain(b: u8, rule: Rule) -> bool
-    ensures { λ r. ⌜ (r ≡ true → byteOf rule b ≡ b ∷ []) ⌝ }
+    ensures { λ r. ⌜ r ≡ eqb (length (byteOf rule b)) 1 ⌝ }
 {
-    match rule {
-        Rule::Iri => crate::iriref::is_plain_byte(b),
-        Rule::Quoted => crate::quoted::is_plain_byte(b),
-        Rule::Content => crate::content::is_plain_byte(b),
-        Rule::Value => crate::value::is_plain_byte(b),
-    }
+    let word = spell(b, rule);
+    word.len == 1
 }
 
 // One byte.

@@ -1,7 +1,4 @@
 // XML text: &, <, >, the quote and the apostrophe are entities.
-ghost use mathlib.Core.Path.{_≡_};
-ghost use mathlib.Core.Bool.{true};
-ghost use mathlib.Core.List.{[], _∷_};
 ghost use Rattle.spec.specs.NTriples.{coded};
 ghost use Rattle.spec.specs.XmlLiteral.{textByte};
 ghost use Rattle.writer.specs.Put.{Put};
@@ -13,16 +10,6 @@ pub fn write(out: &mut [u8], at: usize, on: bool, s: &[u8]) -> usize
     ensures { λ r. ⌜ Put on (now (out .entry)) (now (out .exit)) at r (coded textByte (now (s .entry))) ⌝ }
 {
     crate::coded::write(out, at, on, s, Rule::Content)
-}
-
-// Is the byte written as it is?
-pub fn is_plain_byte(b: u8) -> bool
-    ensures { λ r. ⌜ (r ≡ true → textByte b ≡ b ∷ []) ⌝ }
-{
-    match b {
-        b'&' | b'<' | b'>' | b'"' | b'\'' => false,
-        _ => true,
-    }
 }
 
 pub fn spell(b: u8) -> Word

@@ -63,13 +63,6 @@ fn is_marked(b: u8) -> bool
     ((b & 0x9D) == 0x1C) | (b == b'`') | (b <= b'"') | (b'{' <= b)
 }
 
-// Is the byte written as it is?
-pub fn is_plain_byte(b: u8) -> bool
-    ensures { λ r. ⌜ (r ≡ true → iriByte b ≡ b ∷ []) ⌝ }
-{
-    !is_forbidden(b)
-}
-
 pub fn spell(b: u8) -> Word
     ensures { λ w. ⌜ Spells w (iriByte b) ⌝ }
 {

@@ -56,21 +56,11 @@ fn has_marked(s: &[u8], from: usize, to: usize) -> bool
     marked
 }
 
-// Coarser than `is_plain_byte`: a test less.
+// Coarser than `spell`: a test less.
 fn is_marked(b: u8) -> bool
     ensures { λ r. ⌜ (r ≡ false → literalByte b ≡ b ∷ []) ⌝ }
 {
     (b <= b'\r') | (b == b'"') | (b == b'\\')
-}
-
-// Is the byte written as it is?
-pub fn is_plain_byte(b: u8) -> bool
-    ensures { λ r. ⌜ (r ≡ true → literalByte b ≡ b ∷ []) ⌝ }
-{
-    match b {
-        b'"' | b'\\' | b'\n' | b'\r' => false,
-        _ => true,
-    }
 }
 
 pub fn spell(b: u8) -> Word

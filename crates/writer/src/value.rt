@@ -1,7 +1,4 @@
 // The value of an XML attribute, as Canonical XML writes it.
-ghost use mathlib.Core.Path.{_≡_};
-ghost use mathlib.Core.Bool.{true};
-ghost use mathlib.Core.List.{[], _∷_};
 ghost use Rattle.spec.specs.NTriples.{coded};
 ghost use Rattle.spec.specs.XmlLiteral.{valueByte};
 ghost use Rattle.writer.specs.Put.{Put};
@@ -13,16 +10,6 @@ pub fn write(out: &mut [u8], at: usize, on: bool, s: &[u8]) -> usize
     ensures { λ r. ⌜ Put on (now (out .entry)) (now (out .exit)) at r (coded valueByte (now (s .entry))) ⌝ }
 {
     crate::coded::write(out, at, on, s, Rule::Value)
-}
-
-// Is the byte written as it is?
-pub fn is_plain_byte(b: u8) -> bool
-    ensures { λ r. ⌜ (r ≡ true → valueByte b ≡ b ∷ []) ⌝ }
-{
-    match b {
-        b'&' | b'<' | b'"' | b'\t' | b'\n' | b'\r' => false,
-        _ => true,
-    }
 }
 
 pub fn spell(b: u8) -> Word

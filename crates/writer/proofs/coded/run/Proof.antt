@@ -1,7 +1,8 @@
 -- `coded::run` meets its contract. The loop's invariant: the first `i` bytes are written as they are.
 use Prim.Native.Nat.{_-_}
+use mathlib.Core.Path.{sym, _∙_}
 use lib.ListN.{length}
-use Rattle.writer.specs.Rules.{byteOf}
+use Rattle.writer.specs.Rules.{byteOf, one-is}
 use Rattle.writer.specs.Coded.{Plain, plain-begins, plain-more}
 use borrow.Author.Tests.{not-false}
 use native.Mathlib.Omega.{arith}
@@ -34,7 +35,7 @@ loop-less : tie.Need-loop-less Inv-loop μ-loop
 loop-less c = search needs
 
 loop-again : tie.Need-loop-again Inv-loop μ-loop
-loop-again c = plain-more (c .before .before .before .before .loop .inv) (omega arith) (c .before .is-plain .ensures (not-false _ (c .if1 .left)))
+loop-again c = plain-more (c .before .before .before .before .loop .inv) (omega arith) (one-is (c .before .before .before .before .before .before .args .rule) _ (sym (c .before .is-plain .ensures) ∙ not-false _ (c .if1 .left)))
 
 returns-2 : tie.Need-returns-2 Inv-loop μ-loop
 returns-2 c = c .before .loop .inv
