@@ -25,7 +25,7 @@ use Rattle.state.specs.Held.{held}
 use Rattle.state.specs.Stay.{bindings-kept}
 use Rattle.stack.specs.declared.Changed.{Changed}
 use Rattle.stack.specs.Change.{Holds, flat, labelledTo, labelled-holds}
-use Rattle.stack.specs.Calls.{Pushes, mayPush, topFrame, Counts, mayCount}
+use Rattle.stack.specs.Calls.{frameOf, Pushes, mayPush, topFrame, Counts, mayCount}
 use Rattle.stack.specs.Laws.{Bound, New, push-holds, top-deep, Numbered, li-may, li-holds, li-stands, li-below}
 use Rattle.names.specs.Tag.{attributesOf}
 use Rattle.element.specs.declared.Next.{Next}
@@ -175,7 +175,7 @@ module _ {r : Registers} {fs bs w e s : List ℕ} {m k : ℕ} {a : List ℕ} {p 
                 stood = y .stood;
               }
 
-          pub opens : {hs gs : List ℕ} {c : Changed} → hs ≡ marksOf p (r .outer) → Pushes r fs (record { kind = p .kind; at = pl; has = hs }) (q .row) c gs
+          pub opens : {hs gs : List ℕ} {c : Changed} → hs ≡ marksOf p (r .outer) → Pushes r fs (frameOf (p .kind) pl hs) (q .row) c gs
               → Opens r fs bs w e s m k a p (c .registers) gs cs v
           opens {hs} {gs} {c} j o =
               let o′ : Pushes r fs (frameIs p pl (r .outer)) (q .row) c gs = rw j at o in

@@ -18,6 +18,7 @@ use Rattle.frames.specs.Words.{pick}
 use Rattle.state.specs.Meaning.{at, optional, nodeOf, childrenOf, subjectOf, propertyOf, whatOf}
 use Rattle.state.specs.Valid.{emptyOr, partsOk, childrenOk, kindOk}
 use Rattle.stack.specs.Laid.{Laid, laid}
+use Rattle.stack.specs.Calls.{frameOf}
 use Rattle.element.specs.declared.Source.{Source}
 use Rattle.element.specs.declared.Source.the-variants.{Missing, Own, Made}
 use Rattle.element.specs.declared.Parts.{Parts}
@@ -177,7 +178,7 @@ missing-text e a h = rw h
 
 -- the frame of these parts
 abbrev pub frameIs : Parts → List ℕ → ℕ → Frame
-frameIs p at first = record { kind = p .kind; at = at; has = marksOf p first }
+frameIs p at first = frameOf (p .kind) at (marksOf p first)
 
 module _ {w v e a : List ℕ} {p : Parts} {name bound from : ℕ} {at′ : List ℕ} (l : Lays w v e a p name bound from at′) (b : ℕ) where
   pub lays-laid : Laid v (frameIs p at′ b) (textOf (p .base) e a) (textOf (p .tag) e a) (textOf (p .main) e a) (textOf (p .id) e a) (textOf (p .datatype) e a) (textOf (p .object) e a)

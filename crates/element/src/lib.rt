@@ -13,7 +13,6 @@ ghost use Rattle.element.specs.Sizes.{Short, Measures, bytesIn, partsByt
 ghost use Rattle.element.specs.Rows.{Fits, BindsAt, Entered};
 ghost use Rattle.element.specs.Places.{Room, Puts, Spread, Lays, markOf, bitOf, marksOf};
 ghost use Rattle.element.specs.Laws.{Ready, Opens, Granted, Commits, CountsIf};
-use frames::Frame;
 use frames::Kind;
 use state::Registers;
 
@@ -129,7 +128,7 @@ pub fn open(
     let at = lay(work, top, from.at, next.at, scratch, area, parts);
     let has = marks(parts, r.outer);
     let kind = parts.kind;
-    let c = stack::push(r, frames, Frame { kind, at, has }, next.row);
+    let c = stack::push(r, frames, kind, at, has, next.row);
     c.registers
 }
 

@@ -22,6 +22,9 @@ use Rattle.stack.specs.Change.{pushedTo, poppedTo, toppedTo}
 
 -- ---- push
 
+abbrev pub frameOf : Kind → List ℕ → List ℕ → Frame
+frameOf k at′ has′ = record { kind = k; at = at′; has = has′ }
+
 unfoldable pub mayPush : Registers → List ℕ → Bool
 mayPush r fs = eqb (r .inner) 0 && (ltb (r .depth) mostOpenElements && leb (r .depth * 18 + 18) (length fs))
 

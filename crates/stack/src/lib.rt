@@ -4,7 +4,7 @@ ghost use mathlib.Core.Path.{_≡_};
 ghost use Prim.Native.Nat.{_+_, _-_, _*_, _≤_, _<_};
 ghost use lib.ListN.{length};
 ghost use Rattle.stack.specs.Change.{toppedTo, labelledTo, markedAs};
-ghost use Rattle.stack.specs.Calls.{Pushes, Pops, Binds, topFrame, sameKind, Texts, Xmls, Counts, Tails};
+ghost use Rattle.stack.specs.Calls.{frameOf, Pushes, Pops, Binds, topFrame, sameKind, Texts, Xmls, Counts, Tails};
 use frames::Frame;
 use frames::Kind;
 use frames::Row;
@@ -28,44 +28,17 @@ pub struct Found {
 // ---- elements outside Literal content
 
 // One more element, whose bytes stand in the work store from `top` on, with bindings up to `bound`.
-pub fn push(r: Registers, frames: &mut [u32], f: Frame, bound: usize) -> Changed
-    ensures { λ c. ⌜ Pushes r (now (frames .entry)) f bound c (now (frames .exit)) ⌝ }
+pub fn push(
+    r: Registers,
+    frames: &mut [u32],
+    kind: Kind,
+    at: [u32; 9],
+    has: [u32; 8],
+    bound: usize,
+) -> Changed
+    ensures { λ c. ⌜ Pushes r (now (frames .entry)) (frameOf kind at has) bound c (now (frames .exit)) ⌝ }
 {
-    let at = f.at;
-    if r.inner != 0 {
-        return Changed {
-            ok: false,
-            registers: r,
-        };
-    }
-    if r.depth >= Frame::MOST {
-        return Changed {
-            ok: false,
-            registers: r,
-        };
-    }
-    if !Frame::store(frames, r.depth, f) {
-        return Changed {
-            ok: false,
-            registers: r,
-        };
-    }
-    Changed {
-        ok: true,
-        registers: Registers {
-            closed: r.closed,
-            rooted: true,
-            based: r.based,
-            base: r.base,
-            depth: r.depth + 1,
-            inner: r.inner,
-            outer: bound,
-            bindings: bound,
-            top: wide(at[8]),
-            low: r.low,
-            labels: r.labels,
-        },
-    }
+    push_frame(r, frames, Frame { kind, at, has }, bound)
 }
 
 // One less; its bytes and bindings may be used again.
@@ -212,6 +185,47 @@ pub fn count_li(r: Registers, frames: &mut [u32]) -> bool
     }
     has[6] = count + 1;
     Frame::store(frames, r.depth - 1, Frame { kind, at, has })
+}
+
+// Its frame, on top of the others.
+fn push_frame(r: Registers, frames: &mut [u32], f: Frame, bound: usize) -> Changed
+    ensures { λ c. ⌜ Pushes r (now (frames .entry)) f bound c (now (frames .exit)) ⌝ }
+{
+    let at = f.at;
+    if r.inner != 0 {
+        return Changed {
+            ok: false,
+            registers: r,
+        };
+    }
+    if r.depth >= Frame::MOST {
+        return Changed {
+            ok: false,
+            registers: r,
+        };
+    }
+    if !Frame::store(frames, r.depth, f) {
+        return Changed {
+            ok: false,
+            registers: r,
+        };
+    }
+    Changed {
+        ok: true,
+        registers: Registers {
+            closed: r.closed,
+            rooted: true,
+            based: r.based,
+            base: r.base,
+            depth: r.depth + 1,
+            inner: r.inner,
+            outer: bound,
+            bindings: bound,
+            top: wide(at[8]),
+            low: r.low,
+            labels: r.labels,
+        },
+    }
 }
 
 // `s` into the work store from `from` on, as the tail of frame `f`, which is the one on top.

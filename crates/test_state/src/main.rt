@@ -28,7 +28,7 @@ fn deepest() {
     let mut n: usize = 0;
     let mut at: u32 = 0;
     while n < 70 {
-        let c = stack::push(r, &mut frames, element(Kind::NodeElt, at), 0);
+        let c = stack::push(r, &mut frames, Kind::NodeElt, places(at), [0u32; 8], 0);
         if !c.ok {
             write_number(b"open elements ", n);
             write_answer(b"valid ", is_valid(r, &frames));
@@ -195,20 +195,15 @@ fn in_node(frames: &mut [u32], kind: Kind) -> Registers {
 }
 
 fn pushed(r: Registers, frames: &mut [u32], kind: Kind, at: u32) -> Registers {
-    let c = stack::push(r, frames, element(kind, at), 0);
+    let c = stack::push(r, frames, kind, places(at), [0u32; 8], 0);
     c.registers
 }
 
-// An element with a name of one byte at `at`, and a main part of one byte behind it.
-fn element(kind: Kind, at: u32) -> Frame {
+// The places of an element with a name of one byte at `at`, and a main part of one byte behind it.
+fn places(at: u32) -> [u32; 9] {
     let name = std::num::wrapping_add_u32(at, 1);
     let main = std::num::wrapping_add_u32(at, 2);
-    let places = [at, name, name, name, name, main, main, main, main];
-    Frame {
-        kind,
-        at: places,
-        has: [0u32; 8],
-    }
+    [at, name, name, name, name, main, main, main, main]
 }
 
 // ---- lines

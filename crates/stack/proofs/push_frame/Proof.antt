@@ -1,10 +1,10 @@
--- `stack::push` meets its contract. A law of specs/ for each return, with the tests that led there.
+-- `stack::push_frame` meets its contract. A law of specs/ for each return, with the tests that led there.
 use Rattle.stack.specs.Calls.{push-inside, push-deep, push-short, push-done}
 use borrow.Author.Tests.{not-true, not-false}
 use native.Mathlib.Omega.{arith}
 use borrow.Author.Needs.{needs}
-use Rattle.stack.proofs.push.Statement.{statement}
-use Rattle.stack.proofs.push.Tie as tie
+use Rattle.stack.proofs.push_frame.Statement.{statement}
+use Rattle.stack.proofs.push_frame.Tie as tie
 
 returns : tie.Need-returns
 returns c = push-inside (c .if1 .taken)
@@ -36,8 +36,8 @@ same-length-2 c = search needs
 returns-4 : tie.Need-returns-4
 returns-4 c = rw (c .wide .ensures .0) (push-done (omega arith) (omega arith) (c .before .before .before .before .before .store .ensures) (not-false _ (c .before .before .if3 .left)))
 
-pub push-spec : {M : Type 1} → statement M
-push-spec =
+pub push-frame-spec : {M : Type 1} → statement M
+push-frame-spec =
     tie.close
     (tie.spec
     returns
