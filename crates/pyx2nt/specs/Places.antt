@@ -14,7 +14,7 @@ use Rattle.frames.specs.Words.{pick}
 use Rattle.state.specs.declared.Registers.{Registers}
 use Rattle.state.specs.Live.{startedWith}
 use Rattle.event.specs.Progress.{Lent, docIn}
-use Rattle.parser.specs.Asked.{Asks}
+use Rattle.reader.specs.Asked.{Asks}
 use Rattle.report.specs.declared.fed.Pause.{Pause}
 use Rattle.report.specs.declared.fed.Pause.the-variants.{Full, Stop}
 use Rattle.report.specs.declared.fed.Fed.{Fed}

@@ -10,7 +10,7 @@ use Rattle.copy.specs.Copy.{part}
 use Rattle.ids.specs.Ids.{idsOf, endToEnd, ValidIds}
 use Rattle.state.specs.Live.{started, started-means}
 use Rattle.event.specs.Progress.{Lent, lent, docIn}
-use Rattle.parser.specs.Asked.{Asks}
+use Rattle.reader.specs.Asked.{Asks}
 use Rattle.pyx2nt.specs.declared.Place.{Place}
 use Rattle.pyx2nt.specs.declared.Next.{Next}
 use Rattle.pyx2nt.specs.declared.Next.the-variants.{On, Over}

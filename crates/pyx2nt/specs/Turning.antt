@@ -21,12 +21,12 @@ use Rattle.copy.specs.Copy.{part, length-part, part-add}
 use Rattle.frames.specs.Words.{pick}
 use Rattle.state.specs.declared.Registers.{Registers}
 use Rattle.event.specs.Progress.{Lent, docIn}
-use Rattle.parser.specs.Asked.{Asks}
+use Rattle.reader.specs.Asked.{Asks}
 use Rattle.report.specs.declared.fed.Pause.{Pause}
 use Rattle.report.specs.declared.fed.Pause.the-variants.{Full, Stop}
 use Rattle.report.specs.declared.fed.Fed.{Fed}
-use Rattle.feeding.specs.Goes.{Goes}
-use Rattle.feeding.specs.Waiting.{waits-short}
+use Rattle.reader.specs.Goes.{Goes}
+use Rattle.reader.specs.Waiting.{waits-short}
 use Rattle.report.specs.declared.State.{State}
 use Rattle.report.specs.Meaning.{docFrom, overIn, over-read}
 use Rattle.pyx2nt.specs.declared.Place.{Place}

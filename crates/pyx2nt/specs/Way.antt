@@ -15,10 +15,10 @@ use Rattle.spec.specs.Calls.{isOpen, callFinish}
 use Rattle.spec.specs.Pyx2nt.{lastLine, pyx2nt}
 use Rattle.state.specs.declared.Registers.{Registers}
 use Rattle.event.specs.Progress.{Lent, docIn}
-use Rattle.parser.specs.Core.{firstAccepted}
+use Rattle.reader.specs.Core.{firstAccepted}
 use Rattle.report.specs.declared.fed.Fed.{Fed}
-use Rattle.feeding.specs.Goes.{Goes}
-use Rattle.feeding.specs.Prints.{Prints, reads, refused, over, goes-on, prints-pyx2nt}
+use Rattle.reader.specs.Goes.{Goes}
+use Rattle.reader.specs.Prints.{Prints, reads, refused, over, goes-on, prints-pyx2nt}
 
 -- the number of the next event, whether no more input follows, the rest at hand, and the document
 pub record Spot : Type 0 where

@@ -7,7 +7,7 @@ ghost use Rattle.spec.specs.NTriples.{decimal};
 ghost use Rattle.spec.specs.Pyx2nt.{lastLine};
 ghost use Rattle.copy.specs.Copy.{Wrote};
 ghost use Rattle.event.specs.Progress.{lent};
-ghost use Rattle.parser.specs.Asked.{Roomy, Areas};
+ghost use Rattle.reader.specs.Asked.{Roomy, Areas};
 ghost use Rattle.pyx2nt.specs.Way.{start, Ended};
 ghost use Rattle.pyx2nt.specs.Places.{firstPlace, Sums, behindOf, withMore, finishing, Moves, Readable, Reads, Paused, Follows, Stands, Turns, Made};
 use frames::Frame;
@@ -16,7 +16,7 @@ use ids::IdTable;
 use label::Decimal;
 use libc::STDIN_FILENO;
 use libc::STDOUT_FILENO;
-use parser::stream::Taken;
+use reader::stream::Taken;
 use report::fed::Fed;
 use report::fed::Pause;
 use spec::Refusal;
@@ -202,7 +202,7 @@ fn turn(
     let registers = place.registers;
     let from = place.from;
     let to = place.to;
-    let fed = feeding::feed(
+    let fed = reader::feeding::feed(
         registers,
         place.count,
         place.used,

@@ -32,8 +32,8 @@ use Rattle.literal.specs.Quiet.{Quiet, Quietly}
 use Rattle.text.specs.Blank.{Unchanged}
 use Rattle.crowded.specs.Tie.{colon-tells, splits}
 use Rattle.crowded.specs.Crowd.{Crowd, Refuses, crowd, refused-call}
-use Rattle.parser.specs.Asked.{Asks, Roomy, Tagged, handler-asks}
-use Rattle.parser.specs.Dispatch.{withIds, without-ids, decoded-malformed, decoded-instruction, decoded-text, decoded-closing, decoded-opening, never-unread}
+use Rattle.reader.specs.Asked.{Asks, Roomy, Tagged, handler-asks}
+use Rattle.reader.specs.Dispatch.{withIds, without-ids, decoded-malformed, decoded-instruction, decoded-text, decoded-closing, decoded-opening, never-unread}
 
 -- ---- a decoded start tag
 

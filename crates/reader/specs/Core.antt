@@ -28,8 +28,8 @@ use Rattle.event.specs.declared.Progress.{Progress}
 use Rattle.event.specs.declared.Progress.the-variants as progress
 use Rattle.event.specs.Result.{parsed, acceptedAs, accept-parsed}
 use Rattle.event.specs.Progress.{Lent, Lawful, docIn, Advanced, Progresses}
-use Rattle.parser.specs.declared.stream.Taken.{Taken}
-use Rattle.parser.specs.declared.stream.Taken.the-variants.{Stop, Did}
+use Rattle.reader.specs.declared.stream.Taken.{Taken}
+use Rattle.reader.specs.declared.stream.Taken.the-variants.{Stop, Did}
 
 -- ---- what is done
 

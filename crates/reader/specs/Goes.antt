@@ -17,10 +17,10 @@ use Rattle.copy.specs.Copy.{Wrote, part, length-part, then, wrote-none, wrote-s
 use Rattle.state.specs.declared.Registers.{Registers}
 use Rattle.event.specs.declared.Advance.{Advance}
 use Rattle.event.specs.Progress.{Lent, lent, docIn, Lawful}
-use Rattle.parser.specs.Asked.{Asks, Roomy, Areas}
-use Rattle.parser.specs.declared.stream.Taken.{Taken}
-use Rattle.parser.specs.declared.stream.Taken.the-variants as taken
-use Rattle.parser.specs.Core.{firstAccepted, Accepts, Takes}
+use Rattle.reader.specs.Asked.{Asks, Roomy, Areas}
+use Rattle.reader.specs.declared.stream.Taken.{Taken}
+use Rattle.reader.specs.declared.stream.Taken.the-variants as taken
+use Rattle.reader.specs.Core.{firstAccepted, Accepts, Takes}
 use Rattle.report.specs.declared.fed.Pause.{Pause}
 use Rattle.report.specs.declared.fed.Pause.the-variants.{Full, Stop}
 use Rattle.report.specs.declared.fed.Fed.{Fed}

@@ -26,10 +26,10 @@ use Rattle.spec.proofs.Division.{pyx2nt-in-pieces}
 use Rattle.copy.specs.Copy.{wrote-front}
 use Rattle.state.specs.declared.Registers.{Registers}
 use Rattle.event.specs.Progress.{Lent, docIn}
-use Rattle.parser.specs.Core.{firstAccepted}
+use Rattle.reader.specs.Core.{firstAccepted}
 use Rattle.report.specs.declared.fed.Pause.the-variants.{Stop}
 use Rattle.report.specs.declared.fed.Fed.{Fed}
-use Rattle.feeding.specs.Goes.{Does, none, one, Goes}
+use Rattle.reader.specs.Goes.{Does, none, one, Goes}
 
 -- a program's way from event k on, over a rest at hand and pieces to come; the last is all that it prints
 pub data Prints : ℕ → Bytes → List Bytes → Doc → Bytes → Type 0 where

@@ -19,7 +19,7 @@ use Rattle.event.specs.declared.Place.{Place}
 use Rattle.event.specs.declared.Place.the-variants.{Outside, Nodes, Properties, NodesOrText, Xml}
 use Rattle.event.specs.Place.{placeAt, placeIs, topOf, place-read}
 use Rattle.literal.specs.Judged.{Tag}
-use Rattle.parser.specs.Asked.{Tagged}
+use Rattle.reader.specs.Asked.{Tagged}
 
 abbrev pub isLiteral : Place → Bool
 isLiteral Outside = false

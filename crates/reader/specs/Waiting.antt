@@ -15,7 +15,7 @@ use Rattle.spec.specs.Document.{Doc}
 use Rattle.spec.specs.Calls.{isOpen, refused, refusedIn, stepped, callStep}
 use Rattle.spec.specs.PyxCut.{goesOn, Ending, sure, lineEnd, midLine, inFront, reach, wait, tooLong, ended, inLength, cut}
 use Rattle.spec.proofs.Refusals.{Why, no-event, given-only-when}
-use Rattle.parser.specs.Core.{firstAccepted}
+use Rattle.reader.specs.Core.{firstAccepted}
 
 -- all that there is
 reach-all : (c : ℕ) (a : Bool) (s : Bytes) → (reach c a s .1 ≡ sure → ⊥) → reach c a s .0 ≡ s

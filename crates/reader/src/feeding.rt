@@ -1,9 +1,9 @@
 // Events one after another, over what is lent: the heart of a program that reads its input in pieces.
 ghost use Rattle.event.specs.Progress.{lent};
-ghost use Rattle.parser.specs.Asked.{Asks, Roomy, Areas};
-ghost use Rattle.feeding.specs.Goes.{Goes};
+ghost use Rattle.reader.specs.Asked.{Asks, Roomy, Areas};
+ghost use Rattle.reader.specs.Goes.{Goes};
+use crate::stream::Taken;
 use ids::IdTable;
-use parser::stream::Taken;
 use report::fed::Fed;
 use state::Registers;
 
@@ -38,7 +38,7 @@ pub fn feed(
         let from = fed.consumed;
         let at = fed.written;
         let end = at + Fed::ROOM;
-        let taken = parser::stream::core(
+        let taken = crate::stream::core(
             registers,
             fed.count,
             fed.used,

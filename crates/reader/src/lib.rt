@@ -2,8 +2,13 @@
 ghost use mathlib.Core.Path.{_≡_};
 ghost use Rattle.report.specs.Meets.{Starts, Steps, Finishes};
 ghost use Rattle.reader.specs.Starting.{Judges, sizeOfBase};
+
+pub mod feeding;
+pub mod parser;
+pub mod stream;
+
+use crate::stream::Taken;
 use ids::IdTable;
-use parser::stream::Taken;
 use report::Answer;
 use report::Report;
 use report::State;
@@ -54,7 +59,7 @@ pub fn step(
     let mut scratch = [0u8; Taken::SCRATCH];
     let mut spans = [0u32; Taken::SPANS];
     let mut area = [0u8; Taken::AREA];
-    let taken = parser::stream::core(
+    let taken = crate::stream::core(
         registers,
         table.count,
         table.used,

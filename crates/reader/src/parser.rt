@@ -11,12 +11,9 @@ ghost use Rattle.event.specs.Place.{placeAt};
 ghost use Rattle.event.specs.Result.{parsed, Handles};
 ghost use Rattle.event.specs.Result as handler;
 ghost use Rattle.event.specs.Progress.{lent, docIn, Progresses, HandlesAll};
-ghost use Rattle.parser.specs.Asked.{Asks, Roomy, Areas, Tagged};
-ghost use Rattle.parser.specs.Tags.{isLiteral};
-ghost use Rattle.parser.specs.Dispatch.{withIds};
-
-pub mod stream;
-
+ghost use Rattle.reader.specs.Asked.{Asks, Roomy, Areas, Tagged};
+ghost use Rattle.reader.specs.Tags.{isLiteral};
+ghost use Rattle.reader.specs.Dispatch.{withIds};
 use event::Advance;
 use event::Outcome;
 use event::Place;

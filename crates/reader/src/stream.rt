@@ -1,7 +1,7 @@
 // The first event of the input, over what is lent: the heart of a step, which knows nothing of how a state is packed.
 ghost use Rattle.event.specs.Progress.{lent};
-ghost use Rattle.parser.specs.Asked.{Asks, Roomy, Areas};
-ghost use Rattle.parser.specs.Core.{Takes};
+ghost use Rattle.reader.specs.Asked.{Asks, Roomy, Areas};
+ghost use Rattle.reader.specs.Core.{Takes};
 use event::Advance;
 use event::Progress;
 use ids::IdTable;
@@ -57,7 +57,7 @@ pub fn core(
         First::Unended => Taken::Stop(Refusal::NotPyx),
         First::TooLong => Taken::Stop(Refusal::OverLimit),
         First::Whole(n) => {
-            let progress = crate::parse_event(
+            let progress = crate::parser::parse_event(
                 registers,
                 count,
                 used,

@@ -1,6 +1,6 @@
 -- `pyx2nt::main` is safe: what it lends has the lengths that `run` asks for.
 use borrow.Author.Needs.{needs}
-use Rattle.parser.specs.Asked.{roomy}
+use Rattle.reader.specs.Asked.{roomy}
 use Rattle.pyx2nt.specs.Running.{made}
 use Rattle.pyx2nt.proofs.main.Statement.{statement}
 use Rattle.pyx2nt.proofs.main.Tie as tie

@@ -4,8 +4,8 @@ use mathlib.Core.Path.{refl, _∙_}
 use native.Mathlib.Omega.{arith}
 use borrow.Author.Needs.{needs}
 use Rattle.event.specs.Progress.{lent}
-use Rattle.parser.specs.Asked.{Areas}
-use Rattle.feeding.specs.Goes.{areas-then, still-roomy}
+use Rattle.reader.specs.Asked.{Areas}
+use Rattle.reader.specs.Goes.{areas-then, still-roomy}
 use Rattle.pyx2nt.specs.Places.{Lengths}
 use Rattle.pyx2nt.specs.Running.{Running, lengths-here, lengths-then, running-begins, running-stands, running-on, running-ends}
 use Rattle.pyx2nt.proofs.run.Statement.{statement}

@@ -3,7 +3,7 @@ use mathlib.Core.Path.{sym, _∙_, refl}
 use lib.ListN.{length-map}
 use borrow.Author.Tests.{not-true, not-false}
 use borrow.Author.Needs.{needs}
-use Rattle.parser.specs.Asked.{roomy}
+use Rattle.reader.specs.Asked.{roomy}
 use Rattle.report.specs.Meaning.{lawful-facts}
 use Rattle.reader.specs.Stepping.{step-unlawful, step-closed, step-stop, step-did}
 use Rattle.reader.proofs.step.Statement.{statement}

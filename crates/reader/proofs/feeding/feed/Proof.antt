@@ -6,10 +6,10 @@ use native.Mathlib.Omega.{arith}
 use lib.ListN.{length}
 use borrow.Author.Needs.{needs}
 use Rattle.event.specs.Progress.{lent}
-use Rattle.parser.specs.Asked.{Areas}
-use Rattle.feeding.specs.Goes.{areas-then, still-roomy, Going, going-begins, going-asks, going-further, goes-full, goes-from, goes-stop, back-room, further-counts, further-less}
-use Rattle.feeding.proofs.feed.Statement.{statement}
-use Rattle.feeding.proofs.feed.Tie as tie
+use Rattle.reader.specs.Asked.{Areas}
+use Rattle.reader.specs.Goes.{areas-then, still-roomy, Going, going-begins, going-asks, going-further, goes-full, goes-from, goes-stop, back-room, further-counts, further-less}
+use Rattle.reader.proofs.feeding.feed.Statement.{statement}
+use Rattle.reader.proofs.feeding.feed.Tie as tie
 
 abbrev Inv-loop : tie.InvT-loop
 Inv-loop count used frames₀ bindings₀ inners₀ work₀ places₀ sizes₀ ids₀ input last out₀ scratch₀ spans₀ area₀ fed₀ frames bindings inners work places sizes ids out scratch spans area fed =

@@ -1,7 +1,7 @@
 -- `parser::parse_end_event` meets its contract, by what its two sides promise.
 use borrow.Author.Needs.{needs}
-use Rattle.parser.proofs.parse_end_event.Statement.{statement}
-use Rattle.parser.proofs.parse_end_event.Tie as tie
+use Rattle.reader.proofs.parser.parse_end_event.Statement.{statement}
+use Rattle.reader.proofs.parser.parse_end_event.Tie as tie
 
 end-inside-requires : tie.Need-end-inside-requires
 end-inside-requires c κs = search needs

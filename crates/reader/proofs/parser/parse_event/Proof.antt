@@ -2,11 +2,11 @@
 use mathlib.Core.Path.{refl, sym, _∙_}
 use native.Mathlib.Omega.{arith}
 use lib.Seq.{length-take-le}
-use Rattle.parser.specs.Asked.{handler-asks}
-use Rattle.parser.specs.Arms.{never, fits-text, fits-closing, opened, crowds, on-malformed, on-instruction, on-text, on-closing, on-opening, on-crowded}
+use Rattle.reader.specs.Asked.{handler-asks}
+use Rattle.reader.specs.Arms.{never, fits-text, fits-closing, opened, crowds, on-malformed, on-instruction, on-text, on-closing, on-opening, on-crowded}
 use borrow.Author.Needs.{needs}
-use Rattle.parser.proofs.parse_event.Statement.{statement}
-use Rattle.parser.proofs.parse_event.Tie as tie
+use Rattle.reader.proofs.parser.parse_event.Statement.{statement}
+use Rattle.reader.proofs.parser.parse_event.Tie as tie
 
 decode-requires : tie.Need-decode-requires
 decode-requires c κs = search needs

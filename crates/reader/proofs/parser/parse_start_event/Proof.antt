@@ -1,10 +1,10 @@
 -- `parser::parse_start_event` meets its contract: in Literal content no rdf:ID is entered.
-use Rattle.parser.specs.Asked.{handler-asks}
-use Rattle.parser.specs.Dispatch.{without-ids}
-use Rattle.parser.specs.Tags.{stands-inside, stands-outside, stands-flat, inside-tag}
+use Rattle.reader.specs.Asked.{handler-asks}
+use Rattle.reader.specs.Dispatch.{without-ids}
+use Rattle.reader.specs.Tags.{stands-inside, stands-outside, stands-flat, inside-tag}
 use borrow.Author.Needs.{needs}
-use Rattle.parser.proofs.parse_start_event.Statement.{statement}
-use Rattle.parser.proofs.parse_start_event.Tie as tie
+use Rattle.reader.proofs.parser.parse_start_event.Statement.{statement}
+use Rattle.reader.proofs.parser.parse_start_event.Tie as tie
 
 stands-in-literal-requires : tie.Need-stands-in-literal-requires
 stands-in-literal-requires c κs = search needs

@@ -1,8 +1,8 @@
 -- `parser::stands_in_literal` meets its contract by cases.
-use Rattle.parser.specs.Tags.{told}
+use Rattle.reader.specs.Tags.{told}
 use borrow.Author.Needs.{needs}
-use Rattle.parser.proofs.stands_in_literal.Statement.{statement}
-use Rattle.parser.proofs.stands_in_literal.Tie as tie
+use Rattle.reader.proofs.parser.stands_in_literal.Statement.{statement}
+use Rattle.reader.proofs.parser.stands_in_literal.Tie as tie
 
 place-at-requires : tie.Need-place-at-requires
 place-at-requires c κs = search needs

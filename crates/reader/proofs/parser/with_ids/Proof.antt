@@ -1,9 +1,9 @@
 -- `parser::with_ids` meets its contract by cases.
-use Rattle.parser.specs.Dispatch.{ids-stop, ids-did}
+use Rattle.reader.specs.Dispatch.{ids-stop, ids-did}
 use native.Mathlib.Omega.{arith}
 use borrow.Author.Needs.{needs}
-use Rattle.parser.proofs.with_ids.Statement.{statement}
-use Rattle.parser.proofs.with_ids.Tie as tie
+use Rattle.reader.proofs.parser.with_ids.Statement.{statement}
+use Rattle.reader.proofs.parser.with_ids.Tie as tie
 
 enum-known-outcome : tie.Need-enum-known-outcome
 enum-known-outcome c = search needs

@@ -1,9 +1,9 @@
 -- `stream::core` meets its contract: no event, or what `parse_event` answers of the first one.
 use mathlib.Core.Path.{refl, sym}
 use borrow.Author.Needs.{needs}
-use Rattle.parser.specs.Core.{take-wait, take-unended, take-long, take-size, take-read, take-stop, take-did}
-use Rattle.parser.proofs.stream.core.Statement.{statement}
-use Rattle.parser.proofs.stream.core.Tie as tie
+use Rattle.reader.specs.Core.{take-wait, take-unended, take-long, take-size, take-read, take-stop, take-did}
+use Rattle.reader.proofs.stream.core.Statement.{statement}
+use Rattle.reader.proofs.stream.core.Tie as tie
 
 first-event-requires : tie.Need-first-event-requires
 first-event-requires c κs = search needs
