@@ -6,7 +6,7 @@ use mathlib.Core.Option.{Option, none, some}
 use native.Mathlib.Omega.{arith}
 use lib.ListN.{length}
 use Rattle.spec.specs.Bytes.{Bytes}
-use Rattle.spec.proofs.Calls.{number-positive}
+use Rattle.theorems.specs.Calls.{number-positive}
 use Rattle.report.specs.declared.State.{State}
 use Rattle.report.specs.declared.Report.{Report}
 use Rattle.report.specs.Meaning.{Nothing}

@@ -16,7 +16,7 @@ use Rattle.spec.specs.Numbers.{refuse, good}
 use Rattle.spec.specs.declared.Refusal.the-variants.{BadState}
 use Rattle.spec.specs.Calls.{unlawful, markedBy, refused, refusedIn, mayStart, started, callStart, callStep, callFinish}
 use Rattle.spec.specs.Calls as calls
-use Rattle.spec.proofs.Calls.{number-positive}
+use Rattle.theorems.specs.Calls.{number-positive}
 use Rattle.copy.specs.Copy.{Wrote, wrote-none}
 use Rattle.report.specs.declared.State.{State}
 use Rattle.report.specs.declared.Answer.{Answer}

@@ -16,8 +16,8 @@ use Rattle.spec.specs.declared.Refusal.the-variants.{Incomplete}
 use Rattle.spec.specs.PyxCut.{goesOn, Ending, sure, lineEnd, midLine, inFront, reach, wait, tooLong, ended, inLength, cut}
 use Rattle.spec.specs.Calls.{callStep}
 use Rattle.spec.specs.Calls as calls
-use Rattle.spec.proofs.Calls.{step-by-table, zero-counts}
-use Rattle.spec.proofs.Refusals.{Why, no-event, given-only-when}
+use Rattle.theorems.specs.Calls.{step-by-table, zero-counts}
+use Rattle.theorems.specs.Refusals.{Why, no-event, given-only-when}
 use Rattle.frames.specs.Words.{pick}
 use Rattle.report.specs.declared.State.{State}
 use Rattle.report.specs.declared.Report.{Report}

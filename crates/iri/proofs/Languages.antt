@@ -16,7 +16,7 @@ use Rattle.spec.specs.Grammar.{Grammar, nothing, empty, one, _or_, _then_, many
 use Rattle.spec.specs.Abnf.{lower, letters, optional, some}
 use Rattle.spec.specs.Utf8.{characters, inFront, holdsOf, asCharacters}
 use Rattle.spec.proofs.Booleans.{and-left, and-right, and-both, or-cases, or-left, or-right}
-use Rattle.spec.proofs.Grammar.{accepts-sound, accepts-complete}
+use Rattle.theorems.specs.Grammar.{accepts-sound, accepts-complete}
 use Rattle.utils.specs.Decoding.{Front}
 use Rattle.utils.proofs.Utf8.{no-bytes}
 use Rattle.utils.proofs.Front.{front-characters}

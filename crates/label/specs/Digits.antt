@@ -11,7 +11,7 @@ use lib.Seq.{drop-cons, drop-length, drop-set-lt, getD-set-same}
 use borrow.Author.Tests.{ne-eqb, le-leb, lt-leb}
 use Rattle.spec.specs.Bytes.{byte, between}
 use Rattle.spec.specs.NTriples.{digits, dropZeros, decimal}
-pub use Rattle.spec.proofs.Labels.{length-digits}
+pub use Rattle.theorems.specs.Labels.{length-digits}
 
 -- `from` is behind the leading zeros of `s`
 pub record Zeros (s : List ℕ) (from : ℕ) : Type 0 where

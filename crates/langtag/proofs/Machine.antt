@@ -14,7 +14,7 @@ use Rattle.spec.specs.Grammar.{_or_, Describes, accepts}
 use Rattle.spec.specs.Abnf.{optional, atMost}
 use Rattle.spec.specs.Rfc5646 as R
 use Rattle.spec.proofs.Booleans.{and-left, and-right, and-both}
-use Rattle.spec.proofs.Grammar.{accepts-sound, accepts-complete}
+use Rattle.theorems.specs.Grammar.{accepts-sound, accepts-complete}
 use Rattle.langtag.specs.declared.Place.{Place}
 use Rattle.langtag.specs.declared.Place.the-variants as P
 use Rattle.langtag.specs.declared.Subtag.{Subtag}

@@ -7,7 +7,7 @@ use Rattle.spec.specs.Grammar.{_or_, Describes}
 use Rattle.spec.specs.Rfc5646 as R
 use Rattle.spec.specs.Rfc5646.{language-tag, isLanguageTag}
 use Rattle.spec.proofs.Booleans.{or-cases, or-left, or-right}
-use Rattle.spec.proofs.Grammar.{accepts-sound, accepts-complete}
+use Rattle.theorems.specs.Grammar.{accepts-sound, accepts-complete}
 use Rattle.langtag.specs.declared.Tag.the-variants.{Good, Bad}
 use Rattle.langtag.specs.Verdict.{tagOf, verdict}
 use Rattle.langtag.specs.Machine.{composed, irregular}

@@ -10,7 +10,7 @@ use borrow.Author.Tests.{le-ltb, ne-eqb}
 use Rattle.spec.specs.Bytes.{Bytes, ascii, byte, begins}
 use Rattle.spec.specs.Limits.{mostEventBytes}
 use Rattle.spec.specs.PyxCut.{goesOn, inFront, reach, whole, cut}
-use Rattle.spec.proofs.PyxCut.{cut-reach}
+use Rattle.theorems.specs.PyxCut.{cut-reach}
 use Rattle.pyx.specs.First.{Cuts}
 use Rattle.pyx.specs.Lines.{spaced}
 use Rattle.pyx.specs.Decode.{unread}

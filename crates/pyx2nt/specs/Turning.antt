@@ -16,7 +16,7 @@ use Rattle.spec.specs.declared.Refusal.the-variants.{Incomplete}
 use Rattle.spec.specs.RdfXml as rdfxml
 use Rattle.spec.specs.Calls.{isOpen, finished, callFinish}
 use Rattle.spec.specs.Calls as calls
-use Rattle.spec.proofs.Calls.{number-injective}
+use Rattle.theorems.specs.Calls.{number-injective}
 use Rattle.copy.specs.Copy.{part, length-part, part-add}
 use Rattle.frames.specs.Words.{pick}
 use Rattle.state.specs.declared.Registers.{Registers}

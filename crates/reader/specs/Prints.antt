@@ -21,8 +21,8 @@ use Rattle.spec.specs.Calls.{isOpen, Report, refusedIn, Accepted, stepped, call
 use Rattle.spec.specs.Calls as calls
 use Rattle.spec.specs.Pyx2nt.{lastLine, pyx2nt}
 use Rattle.spec.specs.Feeding.{Run, ending, inFront, hostStep, Feeds, gets, does, ends, printed}
-use Rattle.spec.proofs.Calls.{number-positive, number-injective, Takes, step-takes}
-use Rattle.spec.proofs.Division.{pyx2nt-in-pieces}
+use Rattle.theorems.specs.Calls.{number-positive, number-injective, Takes, step-takes}
+use Rattle.theorems.specs.Division.{pyx2nt-in-pieces}
 use Rattle.copy.specs.Copy.{wrote-front}
 use Rattle.state.specs.declared.Registers.{Registers}
 use Rattle.event.specs.Progress.{Lent, docIn}

@@ -14,7 +14,7 @@ use Rattle.spec.specs.declared.Refusal.the-variants.{Incomplete}
 use Rattle.spec.specs.Document.{Doc}
 use Rattle.spec.specs.Calls.{isOpen, refused, refusedIn, stepped, callStep}
 use Rattle.spec.specs.PyxCut.{goesOn, Ending, sure, lineEnd, midLine, inFront, reach, wait, tooLong, ended, inLength, cut}
-use Rattle.spec.proofs.Refusals.{Why, no-event, given-only-when}
+use Rattle.theorems.specs.Refusals.{Why, no-event, given-only-when}
 use Rattle.reader.specs.Core.{firstAccepted}
 
 -- all that there is

@@ -1,5 +1,6 @@
 // The three calls. What is kept of a document between them goes in and comes back by value; the stores are lent.
 ghost use mathlib.Core.Path.{_≡_};
+ghost use Rattle.report.specs.Meaning.{lawfulState};
 ghost use Rattle.report.specs.Meets.{Starts, Steps, Finishes};
 ghost use Rattle.reader.specs.Starting.{Judges, sizeOfBase};
 
@@ -43,7 +44,7 @@ pub fn step(
 ) -> Report
     ensures { λ r. ⌜ Steps last (now (input .entry)) state (now (work .entry)) (now (ids .entry)) (now (out .entry)) r (now (work .exit)) (now (ids .exit)) (now (out .exit)) ⌝ }
 {
-    if !state.is_lawful(work, ids) {
+    if !is_lawful(state, work, ids) {
         return Report::refused(state, Refusal::BadState);
     }
     let registers = state.registers;
@@ -87,7 +88,7 @@ pub fn step(
 pub fn finish(state: State, work: &[u8], ids: &[u8]) -> Report
     ensures { λ r. ⌜ Finishes state (now (work .entry)) (now (ids .entry)) r ⌝ }
 {
-    if !state.is_lawful(work, ids) {
+    if !is_lawful(state, work, ids) {
         return Report::refused(state, Refusal::BadState);
     }
     let registers = state.registers;
@@ -98,6 +99,23 @@ pub fn finish(state: State, work: &[u8], ids: &[u8]) -> Report
         return Report::refused(state.closed(), Refusal::NotWellFormed);
     }
     Report::done(state.closed())
+}
+
+// Are state and stores by the rules of docs/STATE.md?
+fn is_lawful(state: State, work: &[u8], ids: &[u8]) -> bool
+    ensures { λ b. ⌜ b ≡ lawfulState state (now (work .entry)) (now (ids .entry)) ⌝ }
+{
+    let registers = state.registers;
+    let frames = state.frames;
+    let bindings = state.bindings;
+    let inners = state.inners;
+    if !state::valid(registers, &frames, &bindings, &inners, work) {
+        return false;
+    }
+    let table = state.ids;
+    let at = table.at;
+    let len = table.len;
+    ids::valid(table.count, table.used, &at, &len, ids.len())
 }
 
 // 3, 11 and 7, in this order.

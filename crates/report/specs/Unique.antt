@@ -7,7 +7,7 @@ use Rattle.spec.specs.Bytes.{Bytes}
 use Rattle.spec.specs.declared.Refusal.{Refusal}
 use Rattle.spec.specs.declared.Refusal.the-variants.{BadState}
 use Rattle.spec.specs.Calls as calls
-use Rattle.spec.proofs.Calls.{number-positive, number-injective}
+use Rattle.theorems.specs.Calls.{number-positive, number-injective}
 use Rattle.report.specs.declared.State.{State}
 use Rattle.report.specs.declared.Answer.{Answer}
 use Rattle.report.specs.declared.Answer.the-variants.{Done, Refused}

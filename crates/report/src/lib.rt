@@ -1,7 +1,7 @@
 // What goes into a call and comes back from it: the state by value, the answer, the counts. What the three calls promise is said of these.
 ghost use mathlib.Core.Path.{_≡_};
 ghost use Rattle.spec.specs.Numbers.{number, closes};
-ghost use Rattle.report.specs.Meaning.{lawfulState, closedState, marked, overIn, Fresh, Nothing};
+ghost use Rattle.report.specs.Meaning.{closedState, marked, overIn, Fresh, Nothing};
 ghost use Rattle.report.specs.Meets.{numberOf, bare, refusing, doing, accepting};
 
 pub mod fed;
@@ -58,23 +58,6 @@ impl State {
             inners: [0; Row::INNERS],
             ids,
         }
-    }
-
-    // Are state and stores by the rules of docs/STATE.md?
-    pub fn is_lawful(self, work: &[u8], ids: &[u8]) -> bool
-        ensures { λ b. ⌜ b ≡ lawfulState self (now (work .entry)) (now (ids .entry)) ⌝ }
-    {
-        let registers = self.registers;
-        let frames = self.frames;
-        let bindings = self.bindings;
-        let inners = self.inners;
-        if !state::valid(registers, &frames, &bindings, &inners, work) {
-            return false;
-        }
-        let table = self.ids;
-        let at = table.at;
-        let len = table.len;
-        ids::valid(table.count, table.used, &at, &len, ids.len())
     }
 
     // With the closing mark.

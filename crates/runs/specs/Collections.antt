@@ -17,9 +17,9 @@ use Rattle.spec.specs.EndTag.{takesNode}
 use Rattle.spec.specs.RdfXml.{takesText, next}
 use Rattle.spec.specs.Lists.{After, here, event}
 use Rattle.spec.specs.Inside.{StaysOpen, Element, innermost}
-use Rattle.spec.proofs.Always.{always-good}
-use Rattle.spec.proofs.Frames.{Gentle, by-text, by-xml, left, Move, instructs, leaves, adds, opens, copies, closes, Moved, moves}
-use Rattle.spec.proofs.Inside.{a-collection, holds}
+use Rattle.theorems.specs.Always.{always-good}
+use Rattle.theorems.specs.Frames.{Gentle, by-text, by-xml, left, Move, instructs, leaves, adds, opens, copies, closes, Moved, moves}
+use Rattle.theorems.specs.Inside.{a-collection, holds}
 use Rattle.runs.specs.Elements as elements
 
 -- the innermost open element is a Collection of this property

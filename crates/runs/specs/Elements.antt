@@ -16,8 +16,8 @@ use Rattle.spec.specs.Document.{Frame, Doc, fresh}
 use Rattle.spec.specs.RdfXml.{next}
 use Rattle.spec.specs.Lists.{After, here, event}
 use Rattle.spec.specs.Inside.{Begun, Element, linesIn}
-use Rattle.spec.proofs.Always.{always-good}
-use Rattle.spec.proofs.Frames.{value-length, left-length, Move, instructs, leaves, adds, closes, Moved, moves, on-top}
+use Rattle.theorems.specs.Always.{always-good}
+use Rattle.theorems.specs.Frames.{value-length, left-length, Move, instructs, leaves, adds, closes, Moved, moves, on-top}
 use Rattle.runs.specs.Events.{eventsOf, eventsIn}
 
 -- ---- how many elements are open

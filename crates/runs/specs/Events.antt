@@ -17,7 +17,7 @@ use Rattle.spec.specs.Calls.{isOpen, refusedIn, firstEvent, Accepted, accept, c
 use Rattle.spec.specs.Calls as calls
 use Rattle.spec.specs.Lists.{After, here, event}
 use Rattle.spec.specs.Inside.{Element}
-use Rattle.spec.proofs.Always.{Always, always-bind, always-require, always-self}
+use Rattle.theorems.specs.Always.{Always, always-bind, always-require, always-self}
 use Rattle.report.specs.declared.State.{State}
 use Rattle.report.specs.declared.Answer as called
 use Rattle.report.specs.declared.Answer.the-variants.{Done, Refused}

@@ -14,7 +14,7 @@ use Rattle.spec.specs.Productions.{reification, statement}
 use Rattle.spec.specs.RdfXml.{next}
 use Rattle.spec.specs.Lists.{Cell, Reads}
 use Rattle.spec.specs.Inside.{innermost, children}
-use Rattle.spec.proofs.Children.{collections-read-back, no-cell-in-two-collections}
+use Rattle.theorems.specs.Children.{collections-read-back, no-cell-in-two-collections}
 use Rattle.report.specs.declared.State.{State}
 use Rattle.report.specs.declared.Answer.the-variants.{Done}
 use Rattle.report.specs.declared.Report.{Report}

@@ -21,9 +21,9 @@ use Rattle.spec.specs.RdfXml.{finish}
 use Rattle.spec.specs.Calls.{isOpen, isClosed, unlawful, markClosed, markedBy, refused, refusedIn, mayStart, callStart, callStep, finished, callFinish}
 use Rattle.spec.specs.Calls as calls
 use Rattle.spec.proofs.Booleans.{and-left, and-right}
-use Rattle.spec.proofs.Calls.{Reported, did, gave, reported, number-positive, at-start, and-step, always-lawful}
-use Rattle.spec.proofs.Calls as spec
-use Rattle.spec.proofs.Refusals.{Why, no-state, given-only-when}
+use Rattle.theorems.specs.Calls.{Reported, did, gave, reported, number-positive, at-start, and-step, always-lawful}
+use Rattle.theorems.specs.Calls as spec
+use Rattle.theorems.specs.Refusals.{Why, no-state, given-only-when}
 use Rattle.copy.specs.Copy.{wrote-front}
 use Rattle.ids.specs.Ids.{validIds}
 use Rattle.state.specs.Valid.{validState}

@@ -20,12 +20,12 @@ use Rattle.spec.specs.Within.{Within}
 use Rattle.spec.specs.Calls.{isOpen, isClosed, markClosed, markedBy, refused, refusedIn, mayStart, callStart, callStep}
 use Rattle.spec.specs.Calls as calls
 use Rattle.spec.specs.Lists.{After, here, event, Unnamed}
-use Rattle.spec.proofs.Always.{always-good}
-use Rattle.spec.proofs.Calls.{number-positive}
-use Rattle.spec.proofs.Limits.{always-within, start-short}
-use Rattle.spec.proofs.NewLabels as labels
-use Rattle.spec.proofs.Fine as fine
-use Rattle.spec.proofs.NTriplesGrammar.{GoodBase, started-base, all-n-triples}
+use Rattle.theorems.specs.Always.{always-good}
+use Rattle.theorems.specs.Calls.{number-positive}
+use Rattle.theorems.specs.Limits.{always-within, start-short}
+use Rattle.theorems.specs.NewLabels as labels
+use Rattle.theorems.specs.Fine as fine
+use Rattle.theorems.specs.NTriplesGrammar.{GoodBase, started-base, all-n-triples}
 use Rattle.copy.specs.Copy.{wrote-front}
 use Rattle.report.specs.declared.State.{State}
 use Rattle.report.specs.declared.Report.{Report}

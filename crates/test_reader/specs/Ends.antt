@@ -12,7 +12,7 @@ use borrow.Author.Tests.{eq-eqb, ne-eqb}
 use Rattle.spec.specs.Bytes.{Bytes, same, begins}
 use Rattle.spec.specs.Calls.{State, Report, callStep, callFinish}
 use Rattle.spec.specs.Feeding.{Run, ending, inFront, onward, atMost, run}
-use Rattle.spec.proofs.Division.{run-onward}
+use Rattle.theorems.specs.Division.{run-onward}
 use Rattle.frames.specs.Words.{pick}
 use Rattle.copy.specs.Texts.{begins-length}
 

@@ -16,7 +16,7 @@ use Rattle.spec.specs.Numbers.{Answer, refuse, good}
 use Rattle.spec.specs.Document.{fresh}
 use Rattle.spec.specs.Calls.{isOpen, noDocument, callStart, callStep}
 use Rattle.spec.specs.Calls as calls
-use Rattle.spec.proofs.Calls.{number-positive, step-takes}
+use Rattle.theorems.specs.Calls.{number-positive, step-takes}
 use Rattle.copy.specs.Copy.{wrote-front}
 use Rattle.frames.specs.Words.{pick}
 use Rattle.report.specs.declared.State.{State}

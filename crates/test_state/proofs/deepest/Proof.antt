@@ -22,8 +22,8 @@ loop-holds c = search needs
 slice-aggregate-push : tie.Need-slice-aggregate-push Inv-loop μ-loop
 slice-aggregate-push c = search needs
 
-element-requires : tie.Need-element-requires Inv-loop μ-loop
-element-requires c κs = search needs
+places-requires : tie.Need-places-requires Inv-loop μ-loop
+places-requires c κs = search needs
 
 push-requires : tie.Need-push-requires Inv-loop μ-loop
 push-requires c κs = search needs
@@ -73,7 +73,7 @@ deepest-spec =
     started-requires
     loop-holds
     slice-aggregate-push
-    element-requires
+    places-requires
     push-requires
     slice-aggregate-write-number
     write-number-requires

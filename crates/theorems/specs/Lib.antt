@@ -1,0 +1,43 @@
+-- The theorems about the definitions, in reading order.
+-- ---- a tool
+pub mod Always
+-- ---- grammars
+pub mod Grammar
+-- ---- characters
+pub mod Utf8
+pub mod Cuts
+pub mod Spelled
+pub mod Rfc3986Texts
+pub mod LanguageTags
+-- ---- events and calls
+pub mod PyxCut
+pub mod Calls
+pub mod Refusals
+pub mod Division
+-- ---- labels, subjects, lists
+pub mod Labels
+pub mod Decimal
+pub mod Subjects
+pub mod Lists
+pub mod NewLabels
+-- ---- inside an element
+pub mod Frames
+pub mod Inside
+pub mod Children
+pub mod Statements
+pub mod Numbering
+pub mod Inherited
+pub mod Languages
+-- ---- what events keep: limits, and how elements stand
+pub mod Changes
+pub mod Limits
+pub mod Nesting
+-- ---- lines
+pub mod Written
+pub mod Fine
+pub mod NodeLabels
+-- ---- all that is written is N-Triples
+pub mod EventTexts
+pub mod Texts
+pub mod NTriplesLines
+pub mod NTriplesGrammar

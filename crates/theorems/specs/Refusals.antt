@@ -1,0 +1,332 @@
+-- What an event itself is refused for closes the document; so answers 1 to 4 are given exactly when document 01's table says.
+use mathlib.Core.Path.{_≡_, refl, sym, _∙_, ap, subst}
+use mathlib.Core.Bool.{Bool, true, false, true≢false}
+use mathlib.Core.Logic.{_⊎_, inl, inr}
+use mathlib.Core.Option.{Option, none, some}
+use mathlib.Core.List.{List, [], _∷_}
+use Prim.Native.Nat.{ℕ, _≤_, _<_}
+use native.Mathlib.Omega.{arith}
+use lib.Dec.{eqb, leb}
+use lib.ListN.{length}
+use borrow.Author.Tests.{leb-false, lt-leb}
+use Rattle.spec.specs.Bytes.{Bytes, byte, if_then_else_, each, _>>=_, _>>_, require_or_}
+use Rattle.spec.specs.Numbers.{number, closes, Answer, refuse, good}
+use Rattle.spec.specs.declared.Refusal.{Refusal}
+use Rattle.spec.specs.declared.Refusal.the-variants.{Incomplete, NoRoom, BadState, Closed, NotPyx, OverLimit}
+use Rattle.spec.specs.Pyx.{Attribute, attribute, Event, opening, closing, text, instruction, readEvent}
+use Rattle.spec.specs.Pyx as P
+use Rattle.spec.specs.Namespaces.{Binding}
+use Rattle.spec.specs.Namespaces as N
+use Rattle.spec.specs.NTriples.{Subject, Triple, write}
+use Rattle.spec.specs.Document.{Value, default, collection, literal, other, Property, Kind, rdfRDF, nodeElement, propertyElement, xmlElement, Frame, Doc, Place, outside, nodes, nodesOrText, xml, properties, placeIn}
+use Rattle.spec.specs.StartTag.{Role, nothing, xml-lang, xml-base, rdf-ID, rdf-bagID, rdf-nodeID, rdf-about, rdf-resource, rdf-datatype, rdf-parseType, rdf-type, forbidden, property, Tag, readTag}
+use Rattle.spec.specs.StartTag as S
+use Rattle.spec.specs.Productions.{Opened, openNode, openProperty, openRoot, ParseType, noParseType, asCollection, asResource, asLiteral, asOther}
+use Rattle.spec.specs.Productions as O
+use Rattle.spec.specs.Opening as G
+use Rattle.spec.specs.EndTag as C
+use Rattle.spec.specs.RdfXml.{next}
+use Rattle.spec.specs.RdfXml as X
+use Rattle.spec.specs.PyxCut.{Cut, wait, unended, tooLong, whole, cut}
+use Rattle.spec.specs.Calls.{State, Report, isOpen, isClosed, unlawful, Accepted, accept, firstEvent, stepped, callStep, refused, refusedIn}
+use Rattle.theorems.specs.PyxCut.{cut-waits}
+use Rattle.theorems.specs.Calls.{step-room, number-injective, number-positive}
+
+-- ---- an answer that is no refusal, or one that closes
+
+abbrev pub Closing : {A : Type 0} → Answer A → Type 0
+Closing (refuse r) = closes r ≡ true
+Closing (good a) = Unit {0}
+
+on-bind : {A B : Type 0} (m : Answer A) (f : A → Answer B) → Closing m → ((a : A) → Closing (f a)) → Closing (m >>= f)
+unfolding _>>=_
+on-bind (refuse r) f h k = h
+on-bind (good a) f h k = k a
+
+on-then : {A B : Type 0} (m : Answer A) (k : Answer B) → Closing m → Closing k → Closing (m >> k)
+unfolding _>>_
+on-then (refuse r) k h g = h
+on-then (good a) k h g = g
+
+on-test : (b : Bool) (r : Refusal) → closes r ≡ true → Closing (require b or r)
+unfolding require_or_
+on-test true r h = tt
+on-test false r h = h
+
+on-if : {A : Type 0} (b : Bool) (m k : Answer A) → Closing m → Closing k → Closing (if b then m else k)
+unfolding if_then_else_
+on-if true m k h g = h
+on-if false m k h g = g
+
+on-require : {A : Type 0} (b : Bool) (r : Refusal) (m : Answer A) → closes r ≡ true → Closing m → Closing ((require b or r) >> m)
+on-require b r m h k = on-then (require b or r) m (on-test b r h) k
+
+on-each : {A B : Type 0} (f : A → Answer B) (l : List A) → ((a : A) → Closing (f a)) → Closing (each f l)
+unfolding each
+on-each f [] h = tt
+on-each f (a ∷ l) h = on-bind _ _ (h a) λ b. on-bind _ _ (on-each f l h) λ bs. tt
+
+-- ---- lines
+
+escaped : (c : ℕ) → Closing (P.escaped c)
+unfolding P.escaped
+escaped c = on-if _ _ _ tt (on-if _ _ _ tt (on-if _ _ _ tt refl))
+
+unescape : (s : Bytes) → Closing (P.unescape s)
+unfolding P.unescape
+unescape [] = tt
+unescape (c ∷ []) = on-if _ _ _ refl tt
+unescape (c ∷ d ∷ s) = go (eqb c (byte "\\")) (unescape s) (unescape (d ∷ s))
+  where
+    go : (b : Bool) → Closing (P.unescape s) → Closing (P.unescape (d ∷ s))
+        → Closing {A = Bytes} (elim b [ true ↦ P.escaped d >>= λ e. P.unescape s >>= λ t. good (e ∷ t) | false ↦ P.unescape (d ∷ s) >>= λ t. good (c ∷ t) ])
+    go true h k = on-bind _ _ (escaped d) λ e. on-bind _ _ h λ t. tt
+    go false h k = on-bind _ _ k λ t. tt
+
+name : (s : Bytes) → Closing (P.name s)
+unfolding P.name
+name s = on-require _ _ _ refl tt
+
+attribute-line : (l : Bytes) → Closing (P.readAttribute l)
+unfolding P.readAttribute
+attribute-line l = on-bind _ _ (name _) λ n. on-require _ _ _ refl (on-bind _ _ (unescape _) λ v. tt)
+
+event-lines : (ls : List Bytes) → Closing (P.readLines ls)
+unfolding P.readLines P.readOpening P.readClosing P.readText
+event-lines [] = refl
+event-lines (l ∷ ls) =
+    on-if _ _ _ (on-bind _ _ (name _) λ n. on-bind _ _ (on-each P.readAttribute ls attribute-line) λ as′. tt)
+    (on-if _ _ _ (on-bind _ _ (name _) λ n. tt)
+    (on-if _ _ _ (on-bind _ _ (on-each _ (l ∷ ls) λ x. unescape _) λ ts. tt) (on-if _ _ _ tt refl)))
+
+pub event-closing : (s : Bytes) → Closing (readEvent s)
+unfolding readEvent
+event-closing s = on-require _ _ _ refl (event-lines _)
+
+-- ---- start tags
+
+in-namespace : (o : Option Bytes) (l : Bytes) → Closing (N.inNamespace o l)
+unfolding N.inNamespace
+in-namespace none l = refl
+in-namespace (some ns) l = on-require _ _ _ refl tt
+
+expand : (bs : List Binding) (n : Bytes) → Closing (N.expandElement bs n)
+unfolding N.expandElement
+expand bs n = in-namespace _ _
+
+known : (n : Bytes) (o : Option Bytes) → Closing (S.known n o)
+unfolding S.known
+known n none = refl
+known n (some i) = on-require _ _ _ refl tt
+
+judge : (r : Role) (v : Bytes) → Closing (S.judge r v)
+unfolding S.judge
+judge nothing v = tt
+judge xml-lang v = on-test _ _ refl
+judge xml-base v = on-test _ _ refl
+judge rdf-ID v = on-test _ _ refl
+judge rdf-bagID v = on-test _ _ refl
+judge rdf-nodeID v = on-require _ _ _ refl (on-test _ _ refl)
+judge rdf-about v = tt
+judge rdf-resource v = tt
+judge rdf-datatype v = tt
+judge rdf-parseType v = tt
+judge rdf-type v = tt
+judge forbidden v = refl
+judge property v = tt
+
+meaning : (bs : List Binding) (a : Attribute) → Closing (S.meaning bs a)
+unfolding S.meaning
+meaning bs (attribute n v) = on-if _ _ _ tt (on-bind _ _ (known n _) λ i. on-then _ _ (judge _ v) tt)
+
+resolved : (b r : Option Bytes) → Closing (S.resolved b r)
+unfolding S.resolved
+resolved b none = tt
+resolved none (some r) = on-require _ _ _ refl tt
+resolved (some b) (some r) = on-require _ _ _ refl tt
+
+read-tag : (n : Bytes) (as′ : List Attribute) (d : Doc) → Closing (readTag n as′ d)
+unfolding readTag
+read-tag n as′ d =
+    on-bind _ _ (expand _ n) λ i.
+    on-bind _ _ (on-each _ as′ (meaning _)) λ ms.
+    on-bind _ _ (resolved _ _) λ id′.
+    on-require _ _ _ refl
+    (on-bind _ _ (resolved _ _) λ about′.
+    on-bind _ _ (resolved _ _) λ resource′.
+    on-bind _ _ (resolved _ _) λ datatype′.
+    on-bind _ _ (resolved _ _) λ type′. tt)
+
+open-node : (t : Tag) (n : ℕ) → Closing (openNode t n)
+unfolding openNode O.oneMore
+open-node t n = on-require _ _ _ refl (on-require _ _ _ refl (on-require _ _ _ refl tt))
+
+object-of : (r l : Option Bytes) (n : ℕ) → Closing (O.objectOf r l n)
+unfolding O.objectOf O.oneMore
+object-of (some r) l n = tt
+object-of none (some l) n = tt
+object-of none none n = on-require _ _ _ refl tt
+
+open-as : (a : ParseType) (t : Tag) (p : Property) (n : ℕ) → Closing (O.openAs a t p n)
+unfolding O.openAs O.openDefault O.openWithNode O.openResource O.openWith O.oneMore
+open-as noParseType t p n = on-if _ _ _ (on-bind _ _ (object-of _ _ n) λ o. tt) tt
+open-as asCollection t p n = tt
+open-as asResource t p n = on-require _ _ _ refl tt
+open-as asLiteral t p n = tt
+open-as asOther t p n = tt
+
+open-property : (t : Tag) (s : Subject) (li n : ℕ) → Closing (openProperty t s li n)
+unfolding openProperty O.oneMore
+open-property t s li n =
+    on-require _ _ _ refl (on-require _ _ _ refl (on-then _ _ (on-if _ _ _ (on-test _ _ refl) tt) (open-as _ t _ n)))
+
+open-root : (t : Tag) (n : ℕ) → Closing (openRoot t n)
+unfolding openRoot
+open-root t n = on-if _ _ _ tt (open-node t n)
+
+open-element : (production : Tag → ℕ → Answer Opened) (m : Bytes) (as′ : List Attribute) (d : Doc) → ((t : Tag) (n : ℕ) → Closing (production t n)) → Closing (G.openElement production m as′ d)
+unfolding G.openElement
+open-element production m as′ d h = on-bind _ _ (read-tag m as′ d) λ t. on-bind _ _ (h t (d .labels)) λ o. on-require _ _ _ refl tt
+
+copy-element : (m : Bytes) (as′ : List Attribute) (d : Doc) → Closing (G.copyElement m as′ d)
+unfolding G.copyElement G.knownAttribute
+copy-element m as′ d = on-require _ _ _ refl (on-then _ _ (on-each _ as′ λ a. on-test _ _ refl) tt)
+
+open-in : (p : Place) (m : Bytes) (as′ : List Attribute) (d : Doc) → Closing (G.openIn p m as′ d)
+unfolding G.openIn
+open-in outside m as′ d = open-element openRoot m as′ d open-root
+open-in nodes m as′ d = open-element openNode m as′ d open-node
+open-in nodesOrText m as′ d = open-element openNode m as′ d open-node
+open-in (properties s li) m as′ d = open-element (λ t. openProperty t s li) m as′ d λ t. open-property t s li
+open-in xml m as′ d = copy-element m as′ d
+
+on-opening : (m : Bytes) (as′ : List Attribute) (d : Doc) → Closing (G.onOpening m as′ d)
+unfolding G.onOpening
+on-opening m as′ d = on-require _ _ _ refl (on-require _ _ _ refl (open-in _ m as′ d))
+
+-- ---- end tags and text
+
+end-value : (p : Property) (v : Value) (l : Option Bytes) (d : Doc) → Closing (C.endValue p v l d)
+unfolding C.endValue
+end-value p (default t o) l d = tt
+end-value p (collection cs) l d = on-require _ _ _ refl tt
+end-value p (literal x) l d = on-require _ _ _ refl tt
+end-value p other l d = tt
+
+end-kind : (k : Kind) (m : Bytes) (l : Option Bytes) (d : Doc) → Closing (C.endKind k m l d)
+unfolding C.endKind
+end-kind rdfRDF m l d = tt
+end-kind (nodeElement s li) m l d = tt
+end-kind (propertyElement p v) m l d = end-value p v l d
+end-kind xmlElement m l d = tt
+
+close-element : (m : Bytes) (fs : List Frame) (d : Doc) → Closing (C.closeElement m fs d)
+unfolding C.closeElement
+close-element m [] d = refl
+close-element m (f ∷ fs) d = on-require _ _ _ refl (end-kind (f .kind) m _ _)
+
+on-text : (p : Place) (v : Bytes) (d : Doc) → Closing (X.onText p v d)
+unfolding X.onText
+on-text outside v d = on-require _ _ _ refl tt
+on-text nodes v d = on-require _ _ _ refl tt
+on-text (properties s li) v d = on-require _ _ _ refl tt
+on-text nodesOrText v d = tt
+on-text xml v d = tt
+
+on-event : (e : Event) (d : Doc) → Closing (X.onEvent e d)
+unfolding X.onEvent
+on-event (opening m as′) d = on-opening m as′ d
+on-event (closing m) d = close-element m (d .frames) d
+on-event (text v) d = on-text (placeIn (d .frames)) v d
+on-event instruction d = tt
+
+-- whatever an event itself is refused for closes the document
+pub next-closing : (e : Event) (d : Doc) → Closing (next e d)
+unfolding next X.within
+next-closing e d = on-bind _ _ (on-event e d) λ s. on-require _ _ _ refl tt
+
+-- ---- the answers 1 to 4, which do not close
+
+-- a refusal that closes has not the number of one that does not
+not-this : (x r : Refusal) → closes x ≡ false → number r ≡ number x → closes r ≡ true → ⊥
+not-this x r h e k = true≢false (sym k ∙ (ap closes (number-injective r x e) ∙ h))
+
+-- an event that would be accepted, but for the room
+abbrev pub LacksRoom : Bytes → ℕ → Doc → Type 0
+LacksRoom bytes room d = (e : Event) × (us : List Triple) × (d′ : Doc) × (readEvent bytes ≡ good e) × (next e d ≡ good (us, d′)) × (room < length (write us))
+
+-- an event is refused by one that closes, or for the room
+abbrev Judged : Bytes → ℕ → Doc → Answer Accepted → Type 0
+Judged bytes room d (refuse r) = (closes r ≡ true) ⊎ ((r ≡ NoRoom) × LacksRoom bytes room d)
+Judged bytes room d (good a) = Unit {0}
+
+judged : (bytes : Bytes) (room : ℕ) (d : Doc) → Judged bytes room d (accept bytes room d)
+unfolding accept _>>=_ _>>_ require_or_
+judged bytes room d = on-read (readEvent bytes) refl (event-closing bytes)
+  where
+    on-room : (e : Event) (s : List Triple × Doc) → readEvent bytes ≡ good e → next e d ≡ good s → (b : Bool) → leb (length (write (s .0))) room ≡ b
+        → Judged bytes room d ((require b or NoRoom) >> good (record { size = length bytes; lines = write (s .0); behind = s .1 }))
+    on-room e s p q true h = tt
+    on-room e s p q false h = inr (refl, (e, s .0, s .1, p, q, leb-false (length (write (s .0))) room h))
+
+    on-next : (e : Event) (a : Answer (List Triple × Doc)) → readEvent bytes ≡ good e → next e d ≡ a → Closing a
+        → Judged bytes room d (a >>= λ s. (require leb (length (write (s .0))) room or NoRoom) >> good (record { size = length bytes; lines = write (s .0); behind = s .1 }))
+    on-next e (refuse r) p q h = inl h
+    on-next e (good s) p q h = on-room e s p q (leb (length (write (s .0))) room) refl
+
+    on-read : (a : Answer Event) → readEvent bytes ≡ a → Closing a
+        → Judged bytes room d (a >>= λ e. next e d >>= λ s. (require leb (length (write (s .0))) room or NoRoom) >> good (record { size = length bytes; lines = write (s .0); behind = s .1 }))
+    on-read (refuse r) p h = inl h
+    on-read (good e) p h = on-next e (next e d) p refl (next-closing e d)
+
+-- a state against the rules (3); a document closed by finish or a refusal (4); no complete event yet (1); lines that exceed the room (2)
+pub data Why (last : Bool) (rest : Bytes) (room : ℕ) : State → Refusal → Type 0 where
+  no-state : Why last rest room unlawful BadState
+  was-closed : (d : Doc) → Why last rest room (isClosed d) Closed
+  no-event : (d : Doc) → cut last rest ≡ wait → Why last rest room (isOpen d) Incomplete
+  no-room : (d : Doc) (bytes : Bytes) → cut last rest ≡ whole bytes → LacksRoom bytes room d → Why last rest room (isOpen d) NoRoom
+
+-- 1 to 4 are given only then
+pub given-only-when : (last : Bool) (rest : Bytes) (room : ℕ) (q : State) (x : Refusal) → closes x ≡ false → callStep last rest room q .answer ≡ number x → Why last rest room q x
+unfolding callStep stepped firstEvent refusedIn refused _>>=_
+given-only-when last rest room unlawful x c h = subst (λ (y : Refusal). Why last rest room unlawful y) (number-injective BadState x h) no-state
+given-only-when last rest room (isClosed d) x c h = subst (λ (y : Refusal). Why last rest room (isClosed d) y) (number-injective Closed x h) (was-closed d)
+given-only-when last rest room (isOpen d) x c h = go (cut last rest) refl h
+  where
+    lacks : (b : Bytes) (r : Refusal) → cut last rest ≡ whole b → number r ≡ number x → (closes r ≡ true) ⊎ ((r ≡ NoRoom) × LacksRoom b room d) → Why last rest room (isOpen d) x
+    lacks b r e h (inl k) = absurd (not-this x r c h k)
+    lacks b r e h (inr k) = subst (λ (y : Refusal). Why last rest room (isOpen d) y) (sym (k .0) ∙ number-injective r x h) (no-room d b e (k .1))
+
+    on-accept : (b : Bytes) (a : Answer Accepted) → cut last rest ≡ whole b → Judged b room d a → stepped d a .answer ≡ number x → Why last rest room (isOpen d) x
+    on-accept b (refuse r) e j h = lacks b r e h j
+    on-accept b (good a) e j h = absurd (number-positive x (sym h))
+
+    go : (k : Cut) → cut last rest ≡ k → stepped d (firstEvent k >>= λ bytes. accept bytes room d) .answer ≡ number x → Why last rest room (isOpen d) x
+    go wait e h = subst (λ (y : Refusal). Why last rest room (isOpen d) y) (number-injective Incomplete x h) (no-event d e)
+    go unended e h = absurd (not-this x NotPyx c h refl)
+    go tooLong e h = absurd (not-this x OverLimit c h refl)
+    go (whole b) e h = on-accept b (accept b room d) e (judged b room d) h
+
+-- and always then
+pub given-when : (last : Bool) (rest : Bytes) (room : ℕ) (q : State) (x : Refusal) → Why last rest room q x → callStep last rest room q ≡ refusedIn q x
+unfolding callStep stepped firstEvent accept _>>=_ _>>_ require_or_
+given-when last rest room q x no-state = refl
+given-when last rest room q x (was-closed d) = refl
+given-when last rest room q x (no-event d e) = simp e
+given-when last rest room q x (no-room d b e (event, us, d′, p, n, lt)) = simp (e, p, n, lt-leb (length (write us)) room lt)
+
+-- with "no more", 1 is given only for an empty rest
+pub only-empty : (rest : Bytes) (room : ℕ) (q : State) → callStep true rest room q .answer ≡ 1 → rest ≡ []
+only-empty rest room q h = go q (given-only-when true rest room q Incomplete refl h)
+  where
+    go : (q : State) → Why true rest room q Incomplete → rest ≡ []
+    go q (no-event d e) = cut-waits rest e
+
+-- more room than enough changes nothing
+pub more-room : (last : Bool) (rest : Bytes) (room room′ : ℕ) (q : State) → room ≤ room′ → (callStep last rest room q .answer ≡ 2 → ⊥) → callStep last rest room′ q ≡ callStep last rest room q
+unfolding refusedIn refused
+more-room last rest room room′ q le h = step-room last rest room′ room q (λ z. go q (given-only-when last rest room′ q NoRoom refl z) h) h
+  where
+    go : (q : State) → Why last rest room′ q NoRoom → (callStep last rest room q .answer ≡ 2 → ⊥) → ⊥
+    go q (no-room d b e (event, us, d′, p, n, lt)) h =
+        h (ap (λ (r : Report). r .answer) (given-when last rest room q NoRoom (no-room d b e (event, us, d′, p, n, omega (arith, le, lt)))))
