@@ -65,6 +65,17 @@ pub record Takes (last : Bool) (s : Bytes) (r : Registers) (count : ℕ) (o : Ta
   pub room : length (l′ .out) ≡ length (l .out)
   pub cases : Cases (firstAccepted last s (length (l .out)) (docIn r count l)) s o l l′
 
+-- by what an event of n bytes has done
+abbrev pub takenAs : ℕ → Progress → Taken
+takenAs n (progress.Stop k) = Stop k
+takenAs n (progress.Did a) = Did n a
+
+pub taken-stop : {o : Progress} {k : Refusal} (n : ℕ) → o ≡ progress.Stop k → Stop k ≡ takenAs n o
+taken-stop n e = rw e
+
+pub taken-did : {o : Progress} {a : Advance} (n : ℕ) → o ≡ progress.Did a → Did n a ≡ takenAs n o
+taken-did n e = rw e
+
 -- ---- no event
 
 module _ {last : Bool} {s : Bytes} {r : Registers} {count : ℕ} {l : Lent} where
@@ -137,12 +148,12 @@ module _ {last : Bool} {s : Bytes} {f : First} {n : ℕ} (c : Cuts f last s) (q 
           cases = h;
         }
 
-    pub take-stop : {k : Refusal} → o ≡ progress.Stop k → Takes last s r count (Stop k) l l′
+    take-stop : {k : Refusal} → o ≡ progress.Stop k → Takes last s r count (Stop k) l l′
     take-stop {k} e =
         let x : (parsed (take n s) (length (l .out)) (docIn r count l) ≡ refuse k) × (l′ ≡ l) = rw e at (p .cases) in
         taken {t = Stop k} (take-refused (length (l .out)) (docIn r count l) (x .0), x .1)
 
-    pub take-did : {a : Advance} → o ≡ progress.Did a → Takes last s r count (Did n a) l l′
+    take-did : {a : Advance} → o ≡ progress.Did a → Takes last s r count (Did n a) l l′
     take-did {a} e =
         let x : Advanced (parsed (take n s) (length (l .out)) (docIn r count l)) a l l′ = rw e at (p .cases) in
         taken {t = Did n a}
@@ -157,3 +168,11 @@ module _ {last : Bool} {s : Bytes} {f : First} {n : ℕ} (c : Cuts f last s) (q 
           mark = x .mark;
           doc = x .doc;
         })
+
+  by-progress : {r : Registers} {count : ℕ} {l l′ : Lent} (o : Progress) → Progresses (parsed (take n s) (length (l .out)) (docIn r count l)) o l l′ → Takes last s r count (takenAs n o) l l′
+  by-progress (progress.Stop k) p = take-stop p refl
+  by-progress (progress.Did a) p = take-did p refl
+
+  pub take-parsed : {r : Registers} {count : ℕ} {l l′ : Lent} {o : Progress} {t : Taken} → Progresses (parsed (take n s) (length (l .out)) (docIn r count l)) o l l′
+      → t ≡ takenAs n o → Takes last s r count t l l′
+  take-parsed {o = o} p e = rw e (by-progress o p)

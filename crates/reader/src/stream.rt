@@ -1,7 +1,8 @@
 // The first event of the input, over what is lent: the heart of a step, which knows nothing of how a state is packed.
+ghost use mathlib.Core.Path.{_≡_};
 ghost use Rattle.event.specs.Progress.{lent};
 ghost use Rattle.reader.specs.Asked.{Asks, Roomy, Areas};
-ghost use Rattle.reader.specs.Core.{Takes};
+ghost use Rattle.reader.specs.Core.{Takes, takenAs};
 use event::Advance;
 use event::Progress;
 use ids::IdTable;
@@ -74,10 +75,17 @@ pub fn core(
                 spans,
                 area,
             );
-            match progress {
-                Progress::Stop(why) => Taken::Stop(why),
-                Progress::Did(a) => Taken::Did(n, a),
-            }
+            took(n, progress)
         }
+    }
+}
+
+// What an event of `n` bytes has done.
+fn took(n: usize, progress: Progress) -> Taken
+    ensures { λ t. ⌜ t ≡ takenAs n progress ⌝ }
+{
+    match progress {
+        Progress::Stop(why) => Taken::Stop(why),
+        Progress::Did(a) => Taken::Did(n, a),
     }
 }

@@ -1,7 +1,7 @@
 -- `stream::core` meets its contract: no event, or what `parse_event` answers of the first one.
 use mathlib.Core.Path.{refl, sym}
 use borrow.Author.Needs.{needs}
-use Rattle.reader.specs.Core.{take-wait, take-unended, take-long, take-size, take-read, take-stop, take-did}
+use Rattle.reader.specs.Core.{take-wait, take-unended, take-long, take-size, take-read, take-parsed}
 use Rattle.reader.proofs.stream.core.Statement.{statement}
 use Rattle.reader.proofs.stream.core.Tie as tie
 
@@ -26,11 +26,8 @@ slice-aggregate-parse-event c = sym (take-size (c .before .before .before .befor
 parse-event-requires : tie.Need-parse-event-requires
 parse-event-requires c κs = (c .before .before .before .before .before .before .before .before .before .before .before .before .before .before .before .before .before .before .before .before .before .before .before .before .before .before .pre .0, c .before .before .before .before .before .before .before .before .before .before .before .before .before .before .before .before .before .before .before .before .before .before .before .before .before .before .pre .1, take-read (c .before .before .before .before .before .before .before .before .before .before .before .before .before .before .before .first-event .ensures) (c .before .before .before .before .before .before .before .before .before .before .before .before .before .n .given .1) _ (c .before .before .before .before .before .before .before .before .before .before .before .before .before .before .before .before .before .before .before .before .before .before .before .before .before .before .pre .1 .scratch))
 
-enum-known-progress : tie.Need-enum-known-progress
-enum-known-progress c = search needs
-
-enum-known-progress-2 : tie.Need-enum-known-progress-2
-enum-known-progress-2 c = search needs
+took-requires : tie.Need-took-requires
+took-requires c κs = search needs
 
 returns : tie.Need-returns
 returns c = (take-wait (c .before .before .first-event .ensures) (c .enum-told .given .1), record { scratch = refl; spans = refl; area = refl })
@@ -42,64 +39,34 @@ returns-3 : tie.Need-returns-3
 returns-3 c = (take-long (c .before .before .first-event .ensures) (c .enum-told3 .given .1), record { scratch = refl; spans = refl; area = refl })
 
 same-length : tie.Need-same-length
-same-length c = c .before .before .before .before .before .before .before .before .before .before .before .before .before .before .before .before .before .before .before .before .frames .given
+same-length c = c .before .before .before .before .before .before .before .before .before .before .before .before .before .before .before .before .before .before .frames .given
 
 same-length-2 : tie.Need-same-length-2
-same-length-2 c = c .before .before .before .before .before .before .before .before .before .before .before .before .before .before .before .before .before .before .bindings .given
+same-length-2 c = c .before .before .before .before .before .before .before .before .before .before .before .before .before .before .before .before .bindings .given
 
 same-length-3 : tie.Need-same-length-3
-same-length-3 c = c .before .before .before .before .before .before .before .before .before .before .before .before .before .before .before .before .inners .given
+same-length-3 c = c .before .before .before .before .before .before .before .before .before .before .before .before .before .before .inners .given
 
 same-length-4 : tie.Need-same-length-4
-same-length-4 c = c .before .before .before .before .before .before .before .before .before .before .before .before .before .before .work .given
+same-length-4 c = c .before .before .before .before .before .before .before .before .before .before .before .before .work .given
 
 same-length-5 : tie.Need-same-length-5
-same-length-5 c = c .before .before .before .before .before .before .before .before .before .before .before .before .ids .given
+same-length-5 c = c .before .before .before .before .before .before .before .before .before .before .ids .given
 
 same-length-6 : tie.Need-same-length-6
-same-length-6 c = c .before .before .before .before .before .before .before .before .before .before .out .given
+same-length-6 c = c .before .before .before .before .before .before .before .before .out .given
 
 same-length-7 : tie.Need-same-length-7
-same-length-7 c = c .before .before .before .before .before .before .before .before .scratch .given
+same-length-7 c = c .before .before .before .before .before .before .scratch .given
 
 same-length-8 : tie.Need-same-length-8
-same-length-8 c = c .before .before .before .before .before .before .spans .given
+same-length-8 c = c .before .before .before .before .spans .given
 
 same-length-9 : tie.Need-same-length-9
-same-length-9 c = c .before .before .before .before .area .given
+same-length-9 c = c .before .before .area .given
 
 returns-4 : tie.Need-returns-4
-returns-4 c = (take-stop (c .before .before .before .before .before .before .before .before .before .before .before .before .before .before .before .before .before .before .before .before .before .before .before .before .before .before .before .before .before .before .before .before .before .before .before .before .before .first-event .ensures) (c .before .before .before .before .before .before .before .before .before .before .before .before .before .before .before .before .before .before .before .before .before .before .before .before .before .before .before .before .before .before .before .before .before .before .before .n .given .1) (c .before .before .before .before .before .before .before .before .before .before .before .before .before .before .before .before .before .before .before .before .before .parse-event .ensures .0) (c .before .progress .given .1), c .before .before .before .before .before .before .before .before .before .before .before .before .before .before .before .before .before .before .before .before .before .parse-event .ensures .1)
-
-same-length-10 : tie.Need-same-length-10
-same-length-10 c = c .before .before .before .before .before .before .before .before .before .before .before .before .before .before .before .before .before .before .before .before .frames .given
-
-same-length-11 : tie.Need-same-length-11
-same-length-11 c = c .before .before .before .before .before .before .before .before .before .before .before .before .before .before .before .before .before .before .bindings .given
-
-same-length-12 : tie.Need-same-length-12
-same-length-12 c = c .before .before .before .before .before .before .before .before .before .before .before .before .before .before .before .before .inners .given
-
-same-length-13 : tie.Need-same-length-13
-same-length-13 c = c .before .before .before .before .before .before .before .before .before .before .before .before .before .before .work .given
-
-same-length-14 : tie.Need-same-length-14
-same-length-14 c = c .before .before .before .before .before .before .before .before .before .before .before .before .ids .given
-
-same-length-15 : tie.Need-same-length-15
-same-length-15 c = c .before .before .before .before .before .before .before .before .before .before .out .given
-
-same-length-16 : tie.Need-same-length-16
-same-length-16 c = c .before .before .before .before .before .before .before .before .scratch .given
-
-same-length-17 : tie.Need-same-length-17
-same-length-17 c = c .before .before .before .before .before .before .spans .given
-
-same-length-18 : tie.Need-same-length-18
-same-length-18 c = c .before .before .before .before .area .given
-
-returns-5 : tie.Need-returns-5
-returns-5 c = (take-did (c .before .before .before .before .before .before .before .before .before .before .before .before .before .before .before .before .before .before .before .before .before .before .before .before .before .before .before .before .before .before .before .before .before .before .before .before .before .first-event .ensures) (c .before .before .before .before .before .before .before .before .before .before .before .before .before .before .before .before .before .before .before .before .before .before .before .before .before .before .before .before .before .before .before .before .before .before .before .n .given .1) (c .before .before .before .before .before .before .before .before .before .before .before .before .before .before .before .before .before .before .before .before .before .parse-event .ensures .0) (c .before .progress2 .given .1), c .before .before .before .before .before .before .before .before .before .before .before .before .before .before .before .before .before .before .before .before .before .parse-event .ensures .1)
+returns-4 c = (take-parsed (c .before .before .before .before .before .before .before .before .before .before .before .before .before .before .before .before .before .before .before .before .before .before .before .before .before .before .before .before .before .before .before .before .before .before .before .first-event .ensures) (c .before .before .before .before .before .before .before .before .before .before .before .before .before .before .before .before .before .before .before .before .before .before .before .before .before .before .before .before .before .before .before .before .before .n .given .1) (c .before .before .before .before .before .before .before .before .before .before .before .before .before .before .before .before .before .before .before .parse-event .ensures .0) (c .took .ensures), c .before .before .before .before .before .before .before .before .before .before .before .before .before .before .before .before .before .before .before .parse-event .ensures .1)
 
 pub core-spec : {M : Type 1} → statement M
 core-spec =
@@ -112,8 +79,7 @@ core-spec =
     enum-known-n
     slice-aggregate-parse-event
     parse-event-requires
-    enum-known-progress
-    enum-known-progress-2
+    took-requires
     returns
     returns-2
     returns-3
@@ -126,14 +92,4 @@ core-spec =
     same-length-7
     same-length-8
     same-length-9
-    returns-4
-    same-length-10
-    same-length-11
-    same-length-12
-    same-length-13
-    same-length-14
-    same-length-15
-    same-length-16
-    same-length-17
-    same-length-18
-    returns-5)
+    returns-4)
