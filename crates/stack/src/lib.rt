@@ -187,7 +187,7 @@ pub fn count_li(r: Registers, frames: &mut [u32]) -> bool
     Frame::store(frames, r.depth - 1, Frame { kind, at, has })
 }
 
-// Its frame, on top of the others.
+// The frame of a new element, on top of the others.
 fn push_frame(r: Registers, frames: &mut [u32], f: Frame, bound: usize) -> Changed
     ensures { λ c. ⌜ Pushes r (now (frames .entry)) f bound c (now (frames .exit)) ⌝ }
 {
