@@ -10,7 +10,7 @@ use types.Run.{OneOf}
 use lib.Dec.{eqb, leb}
 use lib.Bits.{bitAnd}
 use lib.ListN.{length}
-use borrow.Author.Tests.{ne-eqb, le-leb, lt-leb, leb-false, eqb-false}
+use borrow.Author.Tests.{ne-eqb, le-leb, lt-leb, leb-true, leb-false, eqb-false}
 use Rattle.spec.specs.Bytes.{Bytes, ascii, byte, if_then_else_, among, every}
 use Rattle.spec.specs.NTriples.{literalByte, iriByte, hexDigit, forbidden}
 use Rattle.spec.specs.XmlLiteral.{textByte, valueByte}
@@ -119,6 +119,22 @@ allowed {c} l m o =
       ne-eqb 96 c (λ e. m (inr (inr (inr (inr (inr (sym e))))))),
       ne-eqb 92 c (λ e. m (inr (inr (inr (inl (sym e)))))),
     )
+
+-- ---- small letters stand for themselves
+
+pub literal-letter : {c : ℕ} → 97 ≤ c → c ≤ 122 → literalByte c ≡ c ∷ []
+literal-letter l h = literal-same (λ e. omega arith) (λ e. omega arith) (λ e. omega arith) (λ e. omega arith)
+
+pub text-letter : {c : ℕ} → 97 ≤ c → c ≤ 122 → textByte c ≡ c ∷ []
+text-letter l h = text-same (λ e. omega arith) (λ e. omega arith) (λ e. omega arith) (λ e. omega arith) (λ e. omega arith)
+
+pub value-letter : {c : ℕ} → 97 ≤ c → c ≤ 122 → valueByte c ≡ c ∷ []
+value-letter l h = value-same (λ e. omega arith) (λ e. omega arith) (λ e. omega arith) (λ e. omega arith) (λ e. omega arith) (λ e. omega arith)
+
+pub iri-letter : {c : ℕ} → 97 ≤ c → c ≤ 122 → iriByte c ≡ c ∷ []
+unfolding every
+iri-letter {c} l h =
+    iri-same (allowed (omega arith) (λ m. let low : c ≤ 96 = leb-true c 96 (one-of (λ k. leb k 96) 34 (60 ∷ 62 ∷ 92 ∷ 94 ∷ 96 ∷ []) c refl m) in omega arith) (inl (omega arith)))
 
 -- ---- tests of a byte at once: none of them passed
 

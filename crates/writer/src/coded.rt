@@ -50,10 +50,13 @@ fn run(s: &[u8], rule: Rule) -> usize
     i
 }
 
-// Is the byte written as it is? Every other word is longer than a byte.
+// Is the byte written as it is? Small letters are by every rule, and they are most of a text; every other word is longer than a byte.
 fn is_plain(b: u8, rule: Rule) -> bool
     ensures { λ r. ⌜ r ≡ eqb (length (byteOf rule b)) 1 ⌝ }
 {
+    if (b'a' <= b) & (b <= b'z') {
+        return true;
+    }
     let word = spell(b, rule);
     word.len == 1
 }
