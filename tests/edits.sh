@@ -1,6 +1,6 @@
 #!/bin/sh
 # edits.sh [CRATE..]: tries the wrong edits of tests/edits, of the crates named or of all. The prover must refuse each.
-# The gate tries those under crates/*/must-fail, one or a few a layer; these are the others, to be tried where a layer has changed.
+# The gate tries those under crates/*/must-fail; these are the others, to be tried where a layer has changed.
 # They are tried in a copy of the repository, whose crates are proved first, unless they stand proved in target/.
 set -eu
 cd "$(dirname "$0")/.."
