@@ -89,16 +89,11 @@ fn room_of_id() {
 fn repeat(what: &[u8], text: &[u8], short: &mut [u8], exact: &mut [u8]) {
     let mut work = [0u8; Registers::STORE];
     let mut ids = [0u8; IdTable::BYTES];
-    let before = State::none();
-    let started = reader::start(before, false, b"", &mut work, &ids);
-    let state = started.state;
-    let none = reader::step(state, &mut work, &mut ids, text, true, short);
+    let state = begun(&mut work, &ids);
     print(b"one byte short, ");
-    report(what, none);
-    let state = none.state;
-    let done = reader::step(state, &mut work, &mut ids, text, true, exact);
+    let state = step(what, state, &mut work, &mut ids, text, true, short);
     print(b"just room, ");
-    report(what, done);
+    step(what, state, &mut work, &mut ids, text, true, exact);
     print(exact);
 }
 
@@ -178,24 +173,27 @@ fn state(what: &[u8], change: Change, input: &[u8]) {
 
 // A document whose root is open.
 fn opened(work: &mut [u8], ids: &mut [u8]) -> State {
-    let before = State::none();
-    let started = reader::start(before, false, b"", work, ids);
-    let state = started.state;
+    let state = begun(work, ids);
     let mut text = [0u8; 256];
     let at = root(&mut text);
     let mut out = [0u8; 256];
-    let done = reader::step(state, work, ids, part(&text, 0, at), true, &mut out);
-    done.state
+    step(
+        b"the root's start",
+        state,
+        work,
+        ids,
+        part(&text, 0, at),
+        true,
+        &mut out,
+    )
 }
 
 fn behind(what: &[u8], state: State, work: &mut [u8], ids: &mut [u8]) {
     let mut out = [0u8; 256];
-    let over = reader::finish(state, work, ids);
-    let more = reader::step(state, work, ids, b"?x\n", true, &mut out);
-    print(b"step behind ");
-    report(what, more);
     print(b"finish behind ");
-    report(what, over);
+    report(what, reader::finish(state, work, ids));
+    print(b"step behind ");
+    step(what, state, work, ids, b"?x\n", true, &mut out);
 }
 
 // The first step of a document.
@@ -203,11 +201,29 @@ fn first_step(what: &[u8], input: &[u8], last: bool) {
     let mut work = [0u8; Registers::STORE];
     let mut ids = [0u8; IdTable::BYTES];
     let mut out = [0u8; 256];
-    let before = State::none();
-    let started = reader::start(before, false, b"", &mut work, &ids);
-    let state = started.state;
-    let done = reader::step(state, &mut work, &mut ids, input, last, &mut out);
+    let state = begun(&mut work, &ids);
+    step(what, state, &mut work, &mut ids, input, last, &mut out);
+}
+
+// A document that begins without a base.
+fn begun(work: &mut [u8], ids: &[u8]) -> State {
+    let started = reader::start(State::none(), false, b"", work, ids);
+    started.state
+}
+
+// A step, told by what it is on.
+fn step(
+    what: &[u8],
+    state: State,
+    work: &mut [u8],
+    ids: &mut [u8],
+    input: &[u8],
+    last: bool,
+    out: &mut [u8],
+) -> State {
+    let done = reader::step(state, work, ids, input, last, out);
     report(what, done);
+    done.state
 }
 
 // ---- texts

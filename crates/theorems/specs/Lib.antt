@@ -1,4 +1,6 @@
 -- The theorems about the definitions, in reading order.
+-- ---- worked examples at the limits
+pub mod AtLimits
 -- ---- a tool
 pub mod Always
 -- ---- grammars

@@ -68,9 +68,8 @@ answers =
     (whole [] noDocument, 4) ∷ (callFinish noDocument .answer, 4) ∷
     -- 6 at finish
     (callFinish new .answer, 6) ∷
-    -- 11, 7 at start
+    -- 11 at start
     (callStart true (some (ascii "a")) new .answer, 11) ∷ (callStart true (some (0xFF ∷ [])) new .answer, 11) ∷
-    (callStart true (some (ascii "a:" ++ manyOf 1_022 (byte "b"))) new .answer, 0) ∷ (callStart true (some (ascii "a:" ++ manyOf 1_023 (byte "b"))) new .answer, 7) ∷
     -- 18: a 100,000,000th label
     (whole description new, 0) ∷ (whole description spent, 18) ∷
     -- 18: a 100,000,000th rdf:li in one node; 15 comes first

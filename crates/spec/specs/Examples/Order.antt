@@ -1,19 +1,14 @@
--- Document 01, "Order in step": for each pair of neighbours that one input can break, the earlier number is given.
+-- Document 01, "Order in step": for each pair of neighbours that one input can break, the earlier number is given. Pairs that take an input as
+-- long as a limit stand in crate `theorems`, AtLimits.
 use mathlib.Core.Path.{_≡_, refl}
 use mathlib.Core.Bool.{true}
 use mathlib.Core.List.{List, [], _∷_, _++_}
-use Prim.Native.Nat.{ℕ, zero, suc, _+_, _/_, _%_}
+use Prim.Native.Nat.{ℕ}
 use Rattle.spec.specs.Bytes.{Bytes, ascii, byte}
-use Rattle.spec.specs.Limits.{mostEventBytes}
 use Rattle.spec.specs.Calls.{State, noDocument, callStep}
 use Rattle.spec.specs.Examples.{page, agree}
 use Rattle.spec.specs.Examples.Calls.{new, spent, manyOf, whole, part}
 use Rattle.spec.specs.Examples.Calls as C
-
--- n attributes without a prefix, all different, each without a value: `aa`, `ab` and so on
-unfoldable pub unprefixed : ℕ → Bytes
-unprefixed zero = []
-unprefixed (suc n) = ascii "A" ++ ((byte "a" + n / 26) ∷ ((byte "a" + n % 26) ∷ (ascii " \n" ++ unprefixed n)))
 
 -- a document in rdf:RDF, with a base and the rdf:ID `i` used
 unfoldable pub inRdf : State
@@ -30,21 +25,10 @@ unfoldable pub before : List (ℕ × ℕ)
 before =
     -- 4, then event length (7)
     (whole (manyOf 40_000 (byte "?")) noDocument, 4) ∷
-    -- event length (7), then 1
-    (part (manyOf mostEventBytes (byte "?")) new, 1) ∷ (part (manyOf (suc mostEventBytes) (byte "?")) new, 7) ∷
     -- 1, then 5
     (part (ascii "-\\q") new, 1) ∷ (whole (ascii "-\\q") new, 5) ∷
     -- 5, then 6: an end tag without match, and no name
     (whole (ascii ")1\n") new, 5) ∷ (whole (ascii ")a\n") new, 6) ∷
-    []
-
--- well-formed, and the counts
-unfoldable pub counts : List (ℕ × ℕ)
-counts =
-    -- 6, then counts (7): a repeated attribute among 66
-    (whole (ascii "(a\n" ++ (unprefixed 65 ++ ascii "Aaa \n")) inRdf, 6) ∷
-    -- counts (7), then 8 for the element
-    (whole (ascii "(a\n" ++ unprefixed 65) inRdf, 7) ∷ (whole (ascii "(a\n" ++ unprefixed 64) inRdf, 8) ∷
     []
 
 -- the start tag
@@ -77,20 +61,11 @@ unfoldable pub last : List (ℕ × ℕ)
 last =
     -- 15, then 18
     (whole (page ("(rdf:P" ∷ "Axmlns:rdf http://www.w3.org/1999/02/22-rdf-syntax-ns#" ∷ "Ardf:nodeID a" ∷ "Ardf:about a:b" ∷ [])) spent, 15) ∷
-    -- 18, then other limits (7): an expanded name of 1,025 bytes
-    (whole (ascii "(l:P\nAxmlns:l " ++ (manyOf 1_024 (byte "n") ++ ascii "\n")) spent, 18) ∷
-    -- other limits (7), then 2: the same name, and no room
-    (callStep true (ascii "(l:P\nAxmlns:l " ++ (manyOf 1_024 (byte "n") ++ ascii "\n")) 0 new .answer, 7) ∷
-    (callStep true (ascii "(l:P\nAxmlns:l " ++ (manyOf 1_023 (byte "n") ++ ascii "\n")) 0 new .answer, 2) ∷
     []
 
 pub in-order-before : agree before ≡ true
 unfolding C.all before
 in-order-before = refl
-
-pub in-order-counts : agree counts ≡ true
-unfolding C.all unprefixed inRdf counts
-in-order-counts = refl
 
 pub in-order-tags : agree tags ≡ true
 unfolding C.all inRdf tags

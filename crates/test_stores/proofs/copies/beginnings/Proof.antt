@@ -1,10 +1,10 @@
--- `test_copy::beginnings`: each check follows from what `copy` ensures of the call.
+-- `copies::beginnings`: each check follows from what `copy` ensures of the call.
 use Rattle.spec.specs.Bytes.{begins}
 use mathlib.Core.Path.{ap}
 use mathlib.Core.Bool.{not}
 use borrow.Author.Needs.{needs}
-use Rattle.test_copy.proofs.beginnings.Statement.{statement}
-use Rattle.test_copy.proofs.beginnings.Tie as tie
+use Rattle.test_stores.proofs.copies.beginnings.Statement.{statement}
+use Rattle.test_stores.proofs.copies.beginnings.Tie as tie
 
 slice-aggregate-begins : tie.Need-slice-aggregate-begins
 slice-aggregate-begins c = search needs

@@ -1,11 +1,17 @@
 // Labels, decimals and the tests of labels at their bounds, printed.
+use crate::printing::text;
 use label::BlankNodeIdGenerator;
 use label::Decimal;
-use libc::STDOUT_FILENO;
+
+pub fn try_all() {
+    labels();
+    decimals();
+    answers();
+}
 
 fn write_line(s: &[u8]) {
-    io::write_all(STDOUT_FILENO, s);
-    io::write_all(STDOUT_FILENO, b"\n");
+    text(s);
+    text(b"\n");
 }
 
 // The next label, or that there is none.
@@ -70,10 +76,4 @@ fn answers() {
     write_answer(label::ends_in_stop(b""));
     write_answer(label::ends_in_stop(b"."));
     write_answer(label::ends_in_stop(b".a"));
-}
-
-fn main() {
-    labels();
-    decimals();
-    answers();
 }

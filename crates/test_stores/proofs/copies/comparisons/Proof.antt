@@ -1,10 +1,10 @@
--- `test_copy::comparisons`: each check follows from what `copy` ensures of the call.
+-- `copies::comparisons`: each check follows from what `copy` ensures of the call.
 use Rattle.spec.specs.Bytes.{same}
 use mathlib.Core.Path.{ap}
 use mathlib.Core.Bool.{not}
 use borrow.Author.Needs.{needs}
-use Rattle.test_copy.proofs.comparisons.Statement.{statement}
-use Rattle.test_copy.proofs.comparisons.Tie as tie
+use Rattle.test_stores.proofs.copies.comparisons.Statement.{statement}
+use Rattle.test_stores.proofs.copies.comparisons.Tie as tie
 
 slice-aggregate-equal : tie.Need-slice-aggregate-equal
 slice-aggregate-equal c = search needs

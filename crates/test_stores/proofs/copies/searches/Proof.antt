@@ -1,9 +1,9 @@
--- `test_copy::searches`: each check follows from what `copy` ensures of the call.
+-- `copies::searches`: each check follows from what `copy` ensures of the call.
 use Rattle.spec.specs.Bytes.{upTo, if_then_else_}
 use borrow.Author.Tests.{eq-eqb}
 use borrow.Author.Needs.{needs}
-use Rattle.test_copy.proofs.searches.Statement.{statement}
-use Rattle.test_copy.proofs.searches.Tie as tie
+use Rattle.test_stores.proofs.copies.searches.Statement.{statement}
+use Rattle.test_stores.proofs.copies.searches.Tie as tie
 
 slice-aggregate-find : tie.Need-slice-aggregate-find
 slice-aggregate-find c = search needs

@@ -1,12 +1,12 @@
--- `test_copy::refusals`: each check follows from what `copy` ensures of the call.
+-- `copies::refusals`: each check follows from what `copy` ensures of the call.
 use Rattle.spec.specs.Bytes.{same}
 use mathlib.Core.Path.{ap}
 use mathlib.Core.Bool.{not}
 use Rattle.copy.specs.Copy.{put-refuses}
 use native.Mathlib.Omega.{arith}
 use borrow.Author.Needs.{needs}
-use Rattle.test_copy.proofs.refusals.Statement.{statement}
-use Rattle.test_copy.proofs.refusals.Tie as tie
+use Rattle.test_stores.proofs.copies.refusals.Statement.{statement}
+use Rattle.test_stores.proofs.copies.refusals.Tie as tie
 
 slice-aggregate-put : tie.Need-slice-aggregate-put
 slice-aggregate-put c = search needs

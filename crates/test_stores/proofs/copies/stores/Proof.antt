@@ -1,10 +1,10 @@
--- `test_copy::stores`: each check follows from what `copy` ensures of the call.
+-- `copies::stores`: each check follows from what `copy` ensures of the call.
 use Rattle.spec.specs.Bytes.{same}
 use Rattle.copy.specs.Copy.{storedAt}
 use native.Mathlib.Omega.{arith}
 use borrow.Author.Needs.{needs}
-use Rattle.test_copy.proofs.stores.Statement.{statement}
-use Rattle.test_copy.proofs.stores.Tie as tie
+use Rattle.test_stores.proofs.copies.stores.Statement.{statement}
+use Rattle.test_stores.proofs.copies.stores.Tie as tie
 
 slice-aggregate-put : tie.Need-slice-aggregate-put
 slice-aggregate-put c = search needs

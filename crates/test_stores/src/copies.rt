@@ -1,5 +1,13 @@
 // The calls of `copy` at their bounds: nothing, all, one byte too many, and places near the largest number.
 
+pub fn try_all() {
+    stores();
+    refusals();
+    comparisons();
+    beginnings();
+    searches();
+}
+
 // The room is just enough.
 fn stores() {
     let mut d = [0u8; 4];
@@ -38,12 +46,4 @@ fn searches() {
     check::expect(copy::find(b"abca", b'a') == 0);
     check::expect(copy::find(b"abc", b'c') == 2);
     check::expect(copy::find(b"abc", b'd') == 3);
-}
-
-fn main() {
-    stores();
-    refusals();
-    comparisons();
-    beginnings();
-    searches();
 }
