@@ -1,18 +1,19 @@
 -- An attribute by the class of its name: what it is there for, and what is wrong with it.
 use mathlib.Core.Path.{_≡_, refl, sym, _∙_}
 use mathlib.Core.Bool.{Bool, true, false}
-use mathlib.Core.List.{List}
+use mathlib.Core.List.{List, [], _++_, append-nil}
 use Prim.Native.Nat.{ℕ, _<_}
 use Rattle.spec.specs.Bytes.{Bytes, ascii, if_then_else_, begins, _>>=_, _>>_, require_or_}
 use Rattle.spec.specs.Numbers.{Answer, refuse, good}
 use Rattle.spec.specs.declared.Refusal.the-variants.{NoNamespace}
 use Rattle.spec.specs.XmlNames.{prefixOf, localOf}
 use Rattle.spec.specs.Pyx.{attribute}
-use Rattle.spec.specs.Namespaces.{Binding, joined, expandAttribute}
+use Rattle.spec.specs.Namespaces.{Binding, xmlName, joined, expandAttribute}
+use Rattle.copy.specs.Copy.{part}
 use Rattle.spec.specs.StartTag.{Role, nothing, roleOf, judge, known, Meaning, means, meaning}
 use Rattle.names.specs.declared.Class.{Class}
 use Rattle.names.specs.declared.Class.the-variants.{Declaration, Unknown, Unprefixed, Xml, Own, Held}
-use Rattle.names.specs.Tag.{nameAt, valueAt, attributeAt, Splits}
+use Rattle.names.specs.Tag.{nameAt, valueAt, colonAt, backOf, attributeAt, Splits}
 use Rattle.names.specs.Found.{scope}
 use Rattle.names.specs.Classes.{Says, classAt, textBy, textAt, Classified}
 
@@ -125,3 +126,22 @@ module _ (c : Class) (n : Bytes) (r : Role) (x : Bytes) where
   pub is-known : knownBy c n ≡ true → judge r x ≡ checkBy c n r x
   unfolding checkBy _>>_ require_or_
   is-known h = rw h
+
+-- ---- its expanded name by its class: n is its name, l the local part, s the namespace that was found
+
+pub text-unprefixed : (e w v : List ℕ) (j : ℕ) {c : Class} {n : Bytes} → n ≡ nameAt e w j → c ≡ Unprefixed → textAt e w v c j ≡ n ++ []
+unfolding textAt textBy
+text-unprefixed e w v j {n = n} p h = rw (h, ← p) (sym (append-nil n))
+
+module _ (e w v : List ℕ) (j : ℕ) {c : Class} {l : Bytes} (p : l ≡ backOf (colonAt w j) (nameAt e w j)) where
+  pub text-xml : c ≡ Xml → textAt e w v c j ≡ xmlName ++ l
+  unfolding textAt textBy
+  text-xml h = rw (h, p)
+
+  pub text-own : {at m : ℕ} {s : Bytes} → c ≡ Own at m → s ≡ part e at m → textAt e w v c j ≡ s ++ l
+  unfolding textAt textBy
+  text-own h q = rw (h, p, q)
+
+  pub text-held : {at m : ℕ} {s : Bytes} → c ≡ Held at m → s ≡ part v at m → textAt e w v c j ≡ s ++ l
+  unfolding textAt textBy
+  text-held h q = rw (h, p, q)

@@ -19,20 +19,11 @@ use Rattle.names.specs.declared.Class.{Class}
 use Rattle.names.specs.declared.Class.the-variants.{Declaration, Unknown, Unprefixed, Xml, Own, Held}
 use Rattle.names.specs.Tag.{nameAt, valueAt, colonAt, frontOf, backOf, attributeAt, Split, Splits}
 use Rattle.names.specs.Found.{scope}
-use Rattle.names.specs.Classes.{Prefixed, Says, classAt, textBy, textAt, Classified}
+use Rattle.names.specs.Classes.{Prefixed, Says, classAt, textBy, textAt, Classified, spaceBy}
 use Rattle.attributes.specs.Places.{places}
 use Rattle.attributes.specs.Attributes.{knownBy, roleBy, roleAt, checkBy, checkAt, meantAt}
 use Rattle.attributes.specs.Reads.{meaningsOf, Roles}
 use Rattle.attributes.specs.First.{turned}
-
--- the namespace of a name of this class, empty where there is none; x is that of `xml`
-abbrev pub spaceBy : List ℕ → List ℕ → Bytes → Class → Bytes
-spaceBy e v x Declaration = []
-spaceBy e v x Unknown = []
-spaceBy e v x Unprefixed = []
-spaceBy e v x Xml = x
-spaceBy e v x (Own at n) = part e at n
-spaceBy e v x (Held at n) = part v at n
 
 -- attribute j in two parts: its namespace and its local name
 abbrev pub spaceAt : List ℕ → List ℕ → List ℕ → ℕ → Bytes

@@ -14,7 +14,6 @@ ghost use Rattle.attributes.specs.Attributes.{knownBy, roleAt, checkBy};
 ghost use Rattle.attributes.specs.Places.{places};
 ghost use Rattle.attributes.specs.Reads.{ReadsOne, Reads};
 ghost use Rattle.attributes.specs.First.{firstIn};
-ghost use Rattle.attributes.specs.Properties.{spaceBy};
 ghost use Rattle.attributes.specs.Short.{shortBy, shortAt};
 use names::Class;
 use names::XML;
@@ -63,20 +62,6 @@ pub fn first_in(roles: &[u8], k: usize, role: Role) -> usize
         i += 1;
     }
     i
-}
-
-// The namespace of a name of this class, which its local part follows in the expanded name; `xml` is that of the prefix `xml`.
-pub fn space_of<'a>(class: Class, scratch: &'a [u8], work: &'a [u8], xml: &'a [u8]) -> &'a [u8]
-    ensures { λ r. ⌜ now r ≡ spaceBy (now (scratch .entry)) (now (work .entry)) (now (xml .entry)) class ⌝ }
-{
-    match class {
-        Class::Declaration => &scratch[0..0],
-        Class::Unknown => &scratch[0..0],
-        Class::Unprefixed => &scratch[0..0],
-        Class::Xml => xml,
-        Class::Own(at, n) => names::piece(scratch, at, n),
-        Class::Held(at, n) => names::piece(work, at, n),
-    }
 }
 
 // Has each expanded name at most 1,024 bytes? `classes` has the attributes' classes.

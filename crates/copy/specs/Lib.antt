@@ -4,3 +4,4 @@ pub mod Copy
 -- ---- reads
 pub mod Texts
 pub mod Scan
+pub mod Blocks

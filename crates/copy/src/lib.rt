@@ -1,10 +1,12 @@
 // Bytes stored, compared and looked for in lent slices. Every call answers on every input; the laws of what it did are in specs/.
 ghost use mathlib.Core.Path.{_≡_};
+ghost use mathlib.Core.Bool.{not};
 ghost use lib.ListN.{length};
 ghost use lib.Dec.{eqb};
 ghost use Rattle.spec.specs.Bytes.{same, begins, upTo, among};
 ghost use Rattle.copy.specs.Copy.{Put};
 ghost use Rattle.copy.specs.Scan.{Sought};
+ghost use Rattle.copy.specs.Blocks.{Tails};
 
 // All of `src` into `dst`, from `at` on. Where it does not fit, nothing changes and the answer is false.
 pub fn put(dst: &mut [u8], at: usize, src: &[u8]) -> bool
@@ -39,6 +41,42 @@ pub fn equal(a: &[u8], b: &[u8]) -> bool
         i += 1;
     }
     true
+}
+
+// The same, for texts that may be long: sixteen bytes at a time.
+pub fn equal_long(a: &[u8], b: &[u8]) -> bool
+    ensures { λ r. ⌜ r ≡ same (now (a .entry)) (now (b .entry)) ⌝ }
+{
+    if a.len() != b.len() {
+        return false;
+    }
+    let mut i = 0;
+    while 16 <= a.len() - i {
+        let to = i + 16;
+        if differ(&a[i..to], &b[i..to]) {
+            return false;
+        }
+        i = to;
+    }
+    equal(&a[i..], &b[i..])
+}
+
+// The same, for texts that often begin alike: the last bytes first, eight at a time.
+pub fn equal_from_end(a: &[u8], b: &[u8]) -> bool
+    ensures { λ r. ⌜ r ≡ same (now (a .entry)) (now (b .entry)) ⌝ }
+{
+    if a.len() != b.len() {
+        return false;
+    }
+    let mut i = a.len();
+    while 8 <= i {
+        let from = i - 8;
+        if differ(&a[from..i], &b[from..i]) {
+            return false;
+        }
+        i = from;
+    }
+    equal_backwards(a, b, i)
 }
 
 // Does `s` begin with `front`?
@@ -96,6 +134,35 @@ fn block_has(block: &[u8], b: u8) -> bool
     let mut j = 0;
     while j < 8 {
         found = found | (block[j] == b);
+        j += 1;
+    }
+    found
+}
+
+// The first n bytes, where those behind them are the same, one by one.
+fn equal_backwards(a: &[u8], b: &[u8], n: usize) -> bool
+    requires { ⌜ Tails (now a) (now b) n ⌝ }
+    ensures { λ r. ⌜ r ≡ same (now (a .entry)) (now (b .entry)) ⌝ }
+{
+    let mut i = n;
+    while 0 < i {
+        i -= 1;
+        if a[i] != b[i] {
+            return false;
+        }
+    }
+    true
+}
+
+// Do two blocks of one length differ? No branch inside the loop, so that sixteen bytes are compared at once.
+fn differ(a: &[u8], b: &[u8]) -> bool
+    requires { ⌜ length (now a) ≡ length (now b) ⌝ }
+    ensures { λ r. ⌜ r ≡ not (same (now (a .entry)) (now (b .entry))) ⌝ }
+{
+    let mut found = false;
+    let mut j = 0;
+    while j < a.len() {
+        found = found | (a[j] != b[j]);
         j += 1;
     }
     found

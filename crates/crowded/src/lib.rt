@@ -5,6 +5,9 @@ ghost use Rattle.spec.specs.Limits.{mostEventBytes};
 ghost use Rattle.names.specs.Tag.{Splits};
 ghost use Rattle.crowded.specs.Form.{isSecond, isXmlAt, Repeats, Forms};
 ghost use Rattle.crowded.specs.Crowd.{Crowd, countOf, Refuses};
+mod marks;
+mod own;
+
 use event::Place;
 use names::Class;
 use pyx::Event;
@@ -13,6 +16,9 @@ use state::Registers;
 
 // The attributes of an event are at most so many: each has a line of four bytes or more.
 const PLACES: usize = Event::MOST_BYTES / 4;
+
+// Up to so many attributes each is compared with each: that costs less than it takes to mark them.
+const FEW: usize = 128;
 
 // Why such a start tag is refused.
 pub fn refusal(
@@ -93,9 +99,35 @@ fn repeats(
 {
     let place = event::place_at(r, frames);
     if is_xml(place) {
+        return repeats_written(scratch, spans, k);
+    }
+    repeats_expanded(r, bindings, work, scratch, spans, k)
+}
+
+// By name as written; where there are few, each is compared with each.
+fn repeats_written(scratch: &[u8], spans: &[u32], k: usize) -> bool
+{
+    if k <= FEW {
         return names::repeated_written(scratch, spans, k);
     }
-    let mut classes = [0usize; PLACES * Class::WORDS];
+    let classes = [0usize; PLACES * Class::WORDS];
+    crate::marks::repeated(scratch, spans, k, b"", &classes)
+}
+
+// By expanded name, likewise.
+fn repeats_expanded(
+    r: Registers,
+    bindings: &[u32],
+    work: &[u8],
+    scratch: &[u8],
+    spans: &[u32],
+    k: usize,
+) -> bool
+{
+    if FEW < k {
+        return crate::own::repeated_expanded(scratch, spans, k, work, bindings, r.bindings);
+    }
+    let mut classes = [0usize; FEW * Class::WORDS];
     names::classify(scratch, spans, k, work, bindings, r.bindings, &mut classes);
     names::repeated_expanded(scratch, spans, k, work, &classes)
 }

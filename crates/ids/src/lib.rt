@@ -164,7 +164,7 @@ fn is_at(store: &[u8], from: usize, n: usize, id: &[u8]) -> bool
     if store.len() - from < n {
         return copy::equal(id, &store[from..]);
     }
-    copy::equal(id, &store[from..from + n])
+    copy::equal_from_end(id, &store[from..from + n])
 }
 
 // A word of the table as a number.

@@ -23,9 +23,9 @@ use Rattle.ntriples.specs.Lines.{write-one}
 use Rattle.names.specs.declared.Class.{Class}
 use Rattle.names.specs.declared.Class.the-variants.{Declaration, Unknown, Unprefixed, Xml, Own, Held}
 use Rattle.names.specs.Tag.{valueAt}
-use Rattle.names.specs.Classes.{classAt}
+use Rattle.names.specs.Classes.{classAt, spaceBy}
 use Rattle.attributes.specs.Reads.{meaningsOf, Roles}
-use Rattle.attributes.specs.Properties.{spaceBy, spaceAt, localAt, propertiesFrom, properties, properties-end}
+use Rattle.attributes.specs.Properties.{spaceAt, localAt, propertiesFrom, properties, properties-end}
 
 -- a text, with a tag where there is one
 unfoldable pub literalKind : Bool → K.Term

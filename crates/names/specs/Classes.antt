@@ -2,7 +2,7 @@
 use mathlib.Core.Path.{_≡_, refl, sym, _∙_}
 use mathlib.Core.Bool.{Bool, true, false, _&&_, _||_, not, false≢true}
 use mathlib.Core.Option.{Option, none, some}
-use mathlib.Core.List.{List, [], _∷_, _++_, map, append-nil}
+use mathlib.Core.List.{List, [], _∷_, _++_, map}
 use mathlib.Core.Logic.{inl}
 use Prim.Native.Nat.{ℕ, zero, suc, _+_, _*_, _/_, _<_, _≤_}
 use native.Mathlib.Nat.{add-zero}
@@ -10,11 +10,13 @@ use native.Mathlib.Omega.{arith}
 use lib.Dec.{eqb, leb}
 use lib.ListN.{length, getD, set, length-set}
 use borrow.Author.Count.{below-more}
-use borrow.Author.Tests.{le-leb, lt-leb, eq-eqb, ne-eqb}
+use borrow.Author.Tests.{le-leb, lt-leb, eq-eqb, ne-eqb, eqb-true}
 use Rattle.spec.specs.Bytes.{Bytes, if_then_else_, same, isEmpty, isSome}
 use Rattle.spec.specs.XmlNames.{prefixOf, localOf}
 use Rattle.spec.specs.Pyx.{Attribute, attribute}
 use Rattle.spec.specs.Namespaces.{Binding, nameOf, xmlName, isDeclaration, namespace, joined, expandAttribute, isKnown, repeatsExpanded}
+use Rattle.copy.specs.Texts.{same-refl}
+use Rattle.copy.specs.Blocks.{same-append}
 use Rattle.copy.specs.Copy.{part, Wrote, then as also, wrote-one, wrote-part, wrote-apart, wrote-same, getD-part}
 use Rattle.frames.specs.Words.{pick}
 use Rattle.names.specs.declared.Found.{Found}
@@ -278,49 +280,80 @@ module _ (e v : List ℕ) (bs : List Binding) (a : Attribute) {p : Bytes} where
   class-known (Own at m) h q = rw (h .other, ← q, h .some, h .is)
   class-known (Held at m) h q = rw (h .other, ← q, h .some, h .is)
 
--- ---- the tests of `same_key`, by the classes c of attribute j and d of attribute i
+-- ---- what attributes are compared by, in two parts: a namespace, or nothing, and what stands behind it
 
-module _ (e w v cs : List ℕ) (j i : ℕ) {c d : Class} (p : c ≡ classAt cs j) (q : d ≡ classAt cs i) where
-  by-classes : sameKeys e w v cs j i ≡ (eqb (kindOf c) (kindOf d) && same (textAt e w v c j) (textAt e w v d i))
+-- the namespace of a name of this class, empty where there is none; x is that of `xml`
+abbrev pub spaceBy : List ℕ → List ℕ → Bytes → Class → Bytes
+spaceBy e v x Declaration = []
+spaceBy e v x Unknown = []
+spaceBy e v x Unprefixed = []
+spaceBy e v x Xml = x
+spaceBy e v x (Own at m) = part e at m
+spaceBy e v x (Held at m) = part v at m
+
+-- n is the name as written, l its local part
+abbrev pub tailBy : Bytes → Bytes → Class → Bytes
+tailBy n l Declaration = n
+tailBy n l Unknown = n
+tailBy n l Unprefixed = n
+tailBy n l Xml = l
+tailBy n l (Own at m) = l
+tailBy n l (Held at m) = l
+
+abbrev pub tailAt : List ℕ → List ℕ → Class → ℕ → Bytes
+tailAt e w c j = tailBy (nameAt e w j) (backOf (colonAt w j) (nameAt e w j)) c
+
+pub two-parts : (e w v : List ℕ) (c : Class) (j : ℕ) → textAt e w v c j ≡ spaceBy e v xmlName c ++ tailAt e w c j
+unfolding textAt textBy
+two-parts e w v Declaration j = refl
+two-parts e w v Unknown j = refl
+two-parts e w v Unprefixed j = refl
+two-parts e w v Xml j = refl
+two-parts e w v (Own at m) j = refl
+two-parts e w v (Held at m) j = refl
+
+-- the words of two classes of a table are the same
+both : (a b : Bool) → (a && b) ≡ true → (a ≡ true) × (b ≡ true)
+both true b h = (refl, h)
+both false b h = absurd (false≢true h)
+
+pub one-class : (cs : List ℕ) (j i : ℕ) → j < length cs / 3 → i < length cs / 3
+    → (eqb (getD cs (j * 3) 0) (getD cs (i * 3) 0) && (eqb (getD cs (j * 3 + 1) 0) (getD cs (i * 3 + 1) 0) && eqb (getD cs (j * 3 + 2) 0) (getD cs (i * 3 + 2) 0))) ≡ true
+    → classAt cs j ≡ classAt cs i
+one-class cs j i l m h =
+    let p = both (eqb (getD cs (j * 3) 0) (getD cs (i * 3) 0)) (eqb (getD cs (j * 3 + 1) 0) (getD cs (i * 3 + 1) 0) && eqb (getD cs (j * 3 + 2) 0) (getD cs (i * 3 + 2) 0)) h in
+    let q = both (eqb (getD cs (j * 3 + 1) 0) (getD cs (i * 3 + 1) 0)) (eqb (getD cs (j * 3 + 2) 0) (getD cs (i * 3 + 2) 0)) (p .1) in
+    let x : getD cs (j * 3) 0 ≡ getD cs (i * 3) 0 = eqb-true (getD cs (j * 3) 0) (getD cs (i * 3) 0) (p .0) in
+    let y : getD cs (j * 3 + 1) 0 ≡ getD cs (i * 3 + 1) 0 = eqb-true (getD cs (j * 3 + 1) 0) (getD cs (i * 3 + 1) 0) (q .0) in
+    let z : getD cs (j * 3 + 2) 0 ≡ getD cs (i * 3 + 2) 0 = eqb-true (getD cs (j * 3 + 2) 0) (getD cs (i * 3 + 2) 0) (q .1) in
+    sym (class-loaded cs j l) ∙ (rw (x, y, z) (class-loaded cs i m))
+
+-- what attribute j is compared by is at hand: its class c, the namespace s and what stands behind it, n
+pub record Keyed (e w v cs : List ℕ) (j : ℕ) (c : Class) (s n : Bytes) : Type 0 where
+  pub class : c ≡ classAt cs j
+  pub space : s ≡ spaceBy e v xmlName c
+  pub name : n ≡ tailAt e w c j
+
+-- ---- the tests of `is_key`, by the class d of attribute i
+
+same-behind : (s x y : Bytes) → same (s ++ x) (s ++ y) ≡ same x y
+same-behind s x y = same-append s s x y refl ∙ rw (same-refl s)
+
+module _ {e w v cs : List ℕ} {j : ℕ} {c : Class} {s n : Bytes} (k : Keyed e w v cs j c s n) (i : ℕ) where
+  -- the namespace of both stands at one place
+  pub key-behind : {t : Bytes} {r : Bool} → classAt cs j ≡ classAt cs i → t ≡ tailAt e w c i → r ≡ same n t → r ≡ sameKeys e w v cs j i
   unfolding sameKeys sameKey keyAt
-  by-classes = rw (p, q)
+  key-behind h q g =
+      rw (← h, ← k .class, eq-eqb (kindOf c) (kindOf c) refl, two-parts e w v c j, two-parts e w v c i, same-behind (spaceBy e v xmlName c) (tailAt e w c j) (tailAt e w c i), ← k .name, ← q) g
 
-  pub other-kind : {m n : ℕ} → m ≡ kindOf c → n ≡ kindOf d → (m ≡ n → ⊥) → false ≡ sameKeys e w v cs j i
-  other-kind x y h = sym (by-classes ∙ rw (ne-eqb (kindOf c) (kindOf d) (λ z. h (x ∙ (z ∙ sym y)))))
+  module _ {d : Class} {m o : ℕ} (q : d ≡ classAt cs i) (x : m ≡ kindOf c) (y : o ≡ kindOf d) where
+    by-classes : sameKeys e w v cs j i ≡ (eqb (kindOf c) (kindOf d) && same (textAt e w v c j) (textAt e w v d i))
+    unfolding sameKeys sameKey keyAt
+    by-classes = rw (k .class, q)
 
-  pub same-kind : {m n : ℕ} {r : Bool} → m ≡ kindOf c → n ≡ kindOf d → m ≡ n → r ≡ same (textAt e w v c j) (textAt e w v d i) → r ≡ sameKeys e w v cs j i
-  same-kind x y h g = g ∙ sym (by-classes ∙ rw (eq-eqb (kindOf c) (kindOf d) (sym x ∙ (h ∙ y))))
+    pub key-other : (m ≡ o → ⊥) → false ≡ sameKeys e w v cs j i
+    key-other h = sym (by-classes ∙ rw (ne-eqb (kindOf c) (kindOf d) (λ z. h (x ∙ (z ∙ sym y)))))
 
--- ---- the arms of `same_text` and `is_text`: n is the name of attribute j, l its local part, s the namespace that was found
-
-module _ (e w v : List ℕ) (j : ℕ) {c : Class} {n : Bytes} (p : n ≡ nameAt e w j) where
-  pub text-declaration : c ≡ Declaration → textAt e w v c j ≡ n ++ []
-  unfolding textAt textBy
-  text-declaration h = rw (h, ← p) (sym (append-nil n))
-
-  pub text-unknown : c ≡ Unknown → textAt e w v c j ≡ n ++ []
-  unfolding textAt textBy
-  text-unknown h = rw (h, ← p) (sym (append-nil n))
-
-  pub text-unprefixed : c ≡ Unprefixed → textAt e w v c j ≡ n ++ []
-  unfolding textAt textBy
-  text-unprefixed h = rw (h, ← p) (sym (append-nil n))
-
-module _ (e w v : List ℕ) (j : ℕ) {c : Class} {l : Bytes} (p : l ≡ backOf (colonAt w j) (nameAt e w j)) where
-  pub text-xml : c ≡ Xml → textAt e w v c j ≡ xmlName ++ l
-  unfolding textAt textBy
-  text-xml h = rw (h, p)
-
-  pub text-own : {at m : ℕ} {s : Bytes} → c ≡ Own at m → s ≡ part e at m → textAt e w v c j ≡ s ++ l
-  unfolding textAt textBy
-  text-own h q = rw (h, p, q)
-
-  pub text-held : {at m : ℕ} {s : Bytes} → c ≡ Held at m → s ≡ part v at m → textAt e w v c j ≡ s ++ l
-  unfolding textAt textBy
-  text-held h q = rw (h, p, q)
-
-pub first-text : {r : Bool} {x y : Bytes} (z : Bytes) → r ≡ same x z → y ≡ x → r ≡ same y z
-first-text z h e = rw e h
-
-pub second-text : {r : Bool} {x y : Bytes} (z : Bytes) → r ≡ same z x → y ≡ x → r ≡ same z y
-second-text z h e = rw e h
+    pub key-texts : {u t : Bytes} {r : Bool} → m ≡ o → u ≡ spaceBy e v xmlName d → t ≡ tailAt e w d i → r ≡ same (s ++ n) (u ++ t) → r ≡ sameKeys e w v cs j i
+    key-texts h z f g =
+        g ∙ sym (by-classes ∙ rw (eq-eqb (kindOf c) (kindOf d) (sym x ∙ (h ∙ y)), two-parts e w v c j, two-parts e w v d i, k .space, k .name, z, f))

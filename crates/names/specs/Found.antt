@@ -4,7 +4,7 @@ use mathlib.Core.Bool.{Bool, true, false, _&&_, _||_}
 use mathlib.Core.Option.{Option, none, some}
 use mathlib.Core.List.{List, [], _∷_, _++_}
 use Prim.Native.Nat.{ℕ, suc, _+_, _-_, _*_, _<_, _≤_}
-use native.Mathlib.Nat.{zero-add}
+use native.Mathlib.Nat.{add-zero, zero-add}
 use native.Mathlib.Omega.{arith}
 use lib.ListN.{length, getD}
 use Rattle.spec.specs.Bytes.{Bytes, ascii, if_then_else_, same, isEmpty, orElse, those, _>>_, require_or_, isSome}
@@ -14,6 +14,7 @@ use Rattle.spec.specs.Pyx.{Attribute}
 use Rattle.spec.specs.Namespaces.{Binding, xmlName, isDeclaration, declares, declared, lookUp, namespace, inNamespace, expandElement, isKnown}
 use Rattle.copy.specs.Copy.{part, getD-part}
 use Rattle.frames.specs.Words.{rowAt, rowOf}
+use Rattle.frames.specs.declared.Row.{Row}
 use Rattle.state.specs.Meaning.{bindingOf, bindingsOf}
 use Rattle.names.specs.declared.Found.{Found}
 use Rattle.names.specs.declared.Found.the-variants.{Unknown, Xml, Own, Held}
@@ -93,12 +94,23 @@ pub record Sought (p : Bytes) (v bs : List ℕ) (n i : ℕ) : Type 0 where
 pub sought-begins : {p : Bytes} {v bs : List ℕ} {n : ℕ} → Sought p v bs n n
 sought-begins = record { upto = omega arith; rest = refl }
 
--- a row's binding, from its words
-row-binding : (v bs : List ℕ) (i : ℕ) {at size more : ℕ} → at ≡ getD bs (i * 3 + 0) 0 → size ≡ getD bs (i * 3 + 1) 0 → more ≡ getD bs (i * 3 + 2) 0
-    → bindingOf v (rowAt bs i) ≡ (part v at size, part v (at + size) more)
-unfolding bindingOf rowAt rowOf
-row-binding v bs i p q r =
-    rw (getD-part bs (i * 3) 3 0 (omega arith), getD-part bs (i * 3) 3 1 (omega arith), getD-part bs (i * 3) 3 2 (omega arith), p, q, r)
+-- the namespace that a row binds its prefix to
+abbrev pub heldBy : Row → Found
+heldBy r = Held (r .at + r .name) (r .more)
+
+-- a row's prefix and namespace, from its words
+module _ (bs : List ℕ) (i : ℕ) {at size : ℕ} (p : at ≡ getD bs (i * 3 + 0) 0) (q : size ≡ getD bs (i * 3 + 1) 0) where
+  pub prefix-read : (v : List ℕ) → part v at size ≡ bindingOf v (rowAt bs i) .0
+  unfolding bindingOf rowAt rowOf
+  prefix-read v = rw (getD-part bs (i * 3) 3 0 (omega arith), getD-part bs (i * 3) 3 1 (omega arith), p, q)
+
+  pub held-read : {more : ℕ} → more ≡ getD bs (i * 3 + 2) 0 → Held (at + size) more ≡ heldBy (rowAt bs i)
+  unfolding rowAt rowOf
+  held-read r = rw (getD-part bs (i * 3) 3 0 (omega arith), getD-part bs (i * 3) 3 1 (omega arith), getD-part bs (i * 3) 3 2 (omega arith), p, q, r)
+
+-- the first word of a row that stands whole in its table
+pub row-start : (bs : List ℕ) (i : ℕ) {at : ℕ} → at ≡ getD bs (i * 3) 0 → at ≡ getD bs (i * 3 + 0) 0
+row-start bs i h = h ∙ ap (λ (m : ℕ). getD bs m 0) (sym (add-zero (i * 3)))
 
 module _ {p : Bytes} {v bs : List ℕ} {n i : ℕ} (h : Sought p v bs n i) where
   pub sought-done : i ≤ 0 → IsHeld p v bs n Unknown
@@ -110,15 +122,15 @@ module _ {p : Bytes} {v bs : List ℕ} {n i : ℕ} (h : Sought p v bs n i) where
   unfolding bindingsOf lookUp
   there l = let s : i ≡ suc (i - 1) = omega arith in h .rest ∙ (ap (λ (m : ℕ). lookUp p (bindingsOf bs v 0 m)) s ∙ rw (zero-add (i - 1)))
 
-  -- `at`, `size` and `more` are the words of row i - 1
-  module _ {at size : ℕ} (l : 0 < i) (a : Word bs ((i - 1) * 3 + 0) at) (b : Word bs ((i - 1) * 3 + 1) size) where
-    pub sought-more : same p (part v at size) ≡ false → Sought p v bs n (i - 1)
+  -- x is the prefix of row i - 1
+  module _ {x : Bytes} (l : 0 < i) (q : x ≡ bindingOf v (rowAt bs (i - 1)) .0) where
+    pub sought-more : same p x ≡ false → Sought p v bs n (i - 1)
     unfolding if_then_else_
-    sought-more s = record { upto = omega arith; rest = there l ∙ rw (row-binding v bs (i - 1) (a .is) (b .is) refl, s) }
+    sought-more s = record { upto = omega arith; rest = there l ∙ rw (← q, s) }
 
-    pub sought-hit : {more : ℕ} → same p (part v at size) ≡ true → Word bs ((i - 1) * 3 + 2) more → IsHeld p v bs n (Held (at + size) more)
-    unfolding if_then_else_ foundBytes
-    sought-hit s m = record { is = λ e. sym (there l ∙ rw (row-binding v bs (i - 1) (a .is) (b .is) (m .is), s)) }
+    pub sought-hit : same p x ≡ true → {r : Found} → r ≡ heldBy (rowAt bs (i - 1)) → IsHeld p v bs n r
+    unfolding if_then_else_ foundBytes bindingOf
+    sought-hit s h = record { is = λ e. rw h (sym (there l ∙ rw (← q, s))) }
 
 -- ---- both: the tests of `lookup`
 

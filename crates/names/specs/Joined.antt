@@ -58,15 +58,29 @@ module _ (a b c d : Bytes) where
     pub other-length : length c - length a ≤ length b → (length b - (length c - length a) ≡ length d → ⊥) → false ≡ same (a ++ b) (c ++ d)
     other-length m h = lengths (λ (e : length a + length b ≡ length c + length d). h (omega arith))
 
-    pub fronts-differ : same a (take (length a - 0) c) ≡ false → false ≡ same (a ++ b) (c ++ d)
-    fronts-differ p = let z : length a - 0 ≡ length a = omega arith in sym (joined-split b d a c l ∙ rw (rw z at p))
+    -- the rows of tests, the last bytes first
+    module _ (m : length c - length a ≤ length b) where
+      split : same (a ++ b) (c ++ d) ≡ (same a (take (length a - 0) c) && (begins (drop (length a) c) b && same (drop (length c - length a) b) d))
+      split = let z : length a - 0 ≡ length a = omega arith in rw (z, ← length-drop (length a) c) (joined-split b d a c l)
 
-    module _ (p : same a (take (length a - 0) c) ≡ true) where
-      fronts : same a (take (length a) c) ≡ true
-      fronts = let z : length a - 0 ≡ length a = omega arith in rw z at p
+      pub backs-differ : same (drop (length c - length a) b) d ≡ false → false ≡ same (a ++ b) (c ++ d)
+      backs-differ p = sym (split ∙ rw p (go (same a (take (length a - 0) c)) (begins (drop (length a) c) b)))
+        where
+          go : (s t : Bool) → (s && (t && false)) ≡ false
+          go true true = refl
+          go true false = refl
+          go false t = refl
 
       pub middles-differ : begins (drop (length a) c) b ≡ false → false ≡ same (a ++ b) (c ++ d)
-      middles-differ q = sym (joined-split b d a c l ∙ rw (fronts, q))
+      middles-differ p = sym (split ∙ rw p (go (same a (take (length a - 0) c))))
+        where
+          go : (s : Bool) → (s && false) ≡ false
+          go true = refl
+          go false = refl
 
-      pub backs-decide : begins (drop (length a) c) b ≡ true → same (drop (length c - length a) b) d ≡ same (a ++ b) (c ++ d)
-      backs-decide q = rw (← length-drop (length a) c) (sym (joined-split b d a c l ∙ rw (fronts, q)))
+      pub fronts-decide : same (drop (length c - length a) b) d ≡ true → begins (drop (length a) c) b ≡ true → same a (take (length a - 0) c) ≡ same (a ++ b) (c ++ d)
+      fronts-decide p q = sym (split ∙ rw (p, q) (go (same a (take (length a - 0) c))))
+        where
+          go : (s : Bool) → (s && true) ≡ s
+          go true = refl
+          go false = refl

@@ -1,5 +1,6 @@
 // Namespaces of a start tag: its declarations, the namespaces of its names, and its repeated attributes.
 ghost use mathlib.Core.Path.{_≡_};
+ghost use mathlib.Core.Bool.{true};
 ghost use mathlib.Core.List.{[], _++_};
 ghost use Prim.Native.Nat.{_+_, _*_, _<_, _≤_};
 ghost use lib.ListN.{length};
@@ -9,10 +10,12 @@ ghost use Rattle.spec.specs.Namespaces.{isDeclaration, isLegal, allLegal, decla
 ghost use Rattle.copy.specs.Copy.{part};
 ghost use Rattle.names.specs.Tag.{Word, startAt, sizeAt, valueSizeAt, nameAt, valueAt, attributeAt, attributesOf, colonAt, frontOf, backOf};
 ghost use Rattle.names.specs.Declarations.{bindsTo, legal, bindingsIn};
-ghost use Rattle.names.specs.Found.{foundBytes, scope, IsOwn, IsHeld, Names};
+ghost use Rattle.frames.specs.Words.{rowAt};
+ghost use Rattle.state.specs.Meaning.{bindingOf};
+ghost use Rattle.names.specs.Found.{foundBytes, scope, IsOwn, IsHeld, heldBy, Names};
 ghost use Rattle.names.specs.Pairs.{behindIn, pairs};
 ghost use Rattle.names.specs.Repeats.{sameWritten};
-ghost use Rattle.names.specs.Classes.{wordsOf, classOf, classAt, StoredClass, Says, Classifies, kindOf, textAt, sameKeys};
+ghost use Rattle.names.specs.Classes.{wordsOf, classOf, classAt, StoredClass, Says, Classifies, kindOf, sameKeys, spaceBy, tailAt, Keyed};
 
 // The namespace that `xml` is always bound to.
 pub const XML: [u8; 36] = *b"http://www.w3.org/XML/1998/namespace";
@@ -92,6 +95,21 @@ impl Class {
             Class::Own(_, _) => 2,
             Class::Held(_, _) => 2,
         }
+    }
+
+    // Have j and i surely one class, with its namespace at one place? Then their names differ in nothing but what stands behind the namespace.
+    fn same(classes: &[usize], j: usize, i: usize) -> bool
+        ensures { λ r. ⌜ (r ≡ true → classAt (now (classes .entry)) j ≡ classAt (now (classes .entry)) i) ⌝ }
+    {
+        if classes.len() / Self::WORDS <= j {
+            return false;
+        }
+        if classes.len() / Self::WORDS <= i {
+            return false;
+        }
+        let a = j * Self::WORDS;
+        let b = i * Self::WORDS;
+        (classes[a] == classes[b]) & ((classes[a + 1] == classes[b + 1]) & (classes[a + 2] == classes[b + 2]))
     }
 
     fn of(what: usize, at: usize, size: usize) -> Self
@@ -332,11 +350,11 @@ pub fn classify(
 }
 
 // Do two attributes repeat outside Literal content? `classes` has their classes.
-pub fn repeated_expanded(
-    scratch: &[u8],
+pub fn repeated_expanded<'a>(
+    scratch: &'a [u8],
     spans: &[u32],
     k: usize,
-    work: &[u8],
+    work: &'a [u8],
     classes: &[usize],
 ) -> bool
     ensures { λ r. ⌜ r ≡ pairs (sameKeys (now (scratch .entry)) (now (spans .entry)) (now (work .entry)) (now (classes .entry))) 0 k ⌝ }
@@ -375,7 +393,7 @@ pub fn same_joined(a: &[u8], b: &[u8], c: &[u8], d: &[u8]) -> bool
     same_from_shorter(a, b, c, d)
 }
 
-// The same where a is no longer than c.
+// The same where a is no longer than c. What tells names apart stands at their ends, and fronts may be long and alike: they are compared last.
 fn same_from_shorter(a: &[u8], b: &[u8], c: &[u8], d: &[u8]) -> bool
     requires { ⌜ length (now a) ≤ length (now c) ⌝ }
     ensures { λ r. ⌜ r ≡ same (now (a .entry) ++ now (b .entry)) (now (c .entry) ++ now (d .entry)) ⌝ }
@@ -388,13 +406,13 @@ fn same_from_shorter(a: &[u8], b: &[u8], c: &[u8], d: &[u8]) -> bool
     if b.len() - more != d.len() {
         return false;
     }
-    if !copy::equal(a, &c[0..m]) {
+    if !copy::equal(&b[more..], d) {
         return false;
     }
     if !copy::begins(b, &c[m..]) {
         return false;
     }
-    copy::equal(&b[more..], d)
+    copy::equal_long(a, &c[0..m])
 }
 
 // Has one of the k attributes behind attribute j its name as written?
@@ -416,11 +434,11 @@ fn written_behind(scratch: &[u8], spans: &[u32], k: usize, j: usize) -> bool
 }
 
 // Does one of the k attributes behind attribute j repeat it?
-fn key_behind(
-    scratch: &[u8],
+fn key_behind<'a>(
+    scratch: &'a [u8],
     spans: &[u32],
     k: usize,
-    work: &[u8],
+    work: &'a [u8],
     classes: &[usize],
     j: usize,
 ) -> bool
@@ -430,8 +448,14 @@ fn key_behind(
         return false;
     }
     let mut i = j + 1;
+    if k <= i {
+        return false;
+    }
+    let class = Class::load(classes, j);
+    let space = space_of(class, scratch, work, &XML);
+    let name = tail_of(class, scratch, spans, j);
     while i < k {
-        if same_key(scratch, spans, work, classes, j, i) {
+        if is_key(scratch, spans, work, classes, j, class, space, name, i) {
             return true;
         }
         i += 1;
@@ -439,70 +463,58 @@ fn key_behind(
     false
 }
 
-// Are attributes j and i of one kind, and compared by the same text?
-fn same_key(
-    scratch: &[u8],
+// Are attributes j and i of one kind, and compared by the same text? What j is compared by is at hand: its class, its namespace and the name
+// behind it. Where the namespace of both stands at one place, the names tell.
+pub fn is_key<'a>(
+    scratch: &'a [u8],
     spans: &[u32],
-    work: &[u8],
+    work: &'a [u8],
     classes: &[usize],
     j: usize,
+    class: Class,
+    space: &[u8],
+    name: &[u8],
     i: usize,
 ) -> bool
+    requires { ⌜ Keyed (now scratch) (now spans) (now work) (now classes) j class (now space) (now name) ⌝ }
     ensures { λ r. ⌜ r ≡ sameKeys (now (scratch .entry)) (now (spans .entry)) (now (work .entry)) (now (classes .entry)) j i ⌝ }
 {
-    let class = Class::load(classes, j);
+    if Class::same(classes, j, i) {
+        return copy::equal(name, tail_of(class, scratch, spans, i));
+    }
     let other = Class::load(classes, i);
     if class.kind() != other.kind() {
         return false;
     }
-    same_text(scratch, spans, work, class, j, other, i)
+    let other_space = space_of(other, scratch, work, &XML);
+    same_joined(space, name, other_space, tail_of(other, scratch, spans, i))
 }
 
-// Is attribute j, of class c, compared by the same text as attribute i, of class d?
-fn same_text(
-    scratch: &[u8],
-    spans: &[u32],
-    work: &[u8],
-    c: Class,
-    j: usize,
-    d: Class,
-    i: usize,
-) -> bool
-    ensures { λ r. ⌜ r ≡ same (textAt (now (scratch .entry)) (now (spans .entry)) (now (work .entry)) c j) (textAt (now (scratch .entry)) (now (spans .entry)) (now (work .entry)) d i) ⌝ }
+// What an attribute of this class is compared by begins with a namespace, or with nothing; `xml` is that of the prefix `xml`.
+pub fn space_of<'a>(class: Class, scratch: &'a [u8], work: &'a [u8], xml: &'a [u8]) -> &'a [u8]
+    ensures { λ r. ⌜ now r ≡ spaceBy (now (scratch .entry)) (now (work .entry)) (now (xml .entry)) class ⌝ }
 {
-    let name = name_of(scratch, spans, j);
-    let local = local_of(scratch, spans, j);
-    match c {
-        Class::Declaration => is_text(scratch, spans, work, d, i, name, b""),
-        Class::Unknown => is_text(scratch, spans, work, d, i, name, b""),
-        Class::Unprefixed => is_text(scratch, spans, work, d, i, name, b""),
-        Class::Xml => is_text(scratch, spans, work, d, i, &XML, local),
-        Class::Own(at, n) => is_text(scratch, spans, work, d, i, piece(scratch, at, n), local),
-        Class::Held(at, n) => is_text(scratch, spans, work, d, i, piece(work, at, n), local),
+    match class {
+        Class::Declaration => &scratch[0..0],
+        Class::Unknown => &scratch[0..0],
+        Class::Unprefixed => &scratch[0..0],
+        Class::Xml => xml,
+        Class::Own(at, n) => piece(scratch, at, n),
+        Class::Held(at, n) => piece(work, at, n),
     }
 }
 
-// Is attribute i, of class d, compared by a and b joined?
-fn is_text(
-    scratch: &[u8],
-    spans: &[u32],
-    work: &[u8],
-    d: Class,
-    i: usize,
-    a: &[u8],
-    b: &[u8],
-) -> bool
-    ensures { λ r. ⌜ r ≡ same (now (a .entry) ++ now (b .entry)) (textAt (now (scratch .entry)) (now (spans .entry)) (now (work .entry)) d i) ⌝ }
+// What stands behind that: the local part of the name of attribute j, or the name as written.
+pub fn tail_of<'a, 'b>(class: Class, scratch: &'a [u8], spans: &'b [u32], j: usize) -> &'a [u8]
+    ensures { λ r. ⌜ now r ≡ tailAt (now (scratch .entry)) (now (spans .entry)) class j ⌝ }
 {
-    let name = name_of(scratch, spans, i);
-    let local = local_of(scratch, spans, i);
-    match d {
-        Class::Declaration => same_joined(a, b, name, b""),
-        Class::Unknown => same_joined(a, b, name, b""),
-        Class::Unprefixed => same_joined(a, b, name, b""),
-        Class::Xml => same_joined(a, b, &XML, local),
-        Class::Own(at, n) => same_joined(a, b, piece(scratch, at, n), local),
-        Class::Held(at, n) => same_joined(a, b, piece(work, at, n), local),
+    match class {
+        Class::Declaration => name_of(scratch, spans, j),
+        Class::Unknown => name_of(scratch, spans, j),
+        Class::Unprefixed => name_of(scratch, spans, j),
+        Class::Xml => local_of(scratch, spans, j),
+        Class::Own(_, _) => local_of(scratch, spans, j),
+        Class::Held(_, _) => local_of(scratch, spans, j),
     }
 }
 
@@ -597,18 +609,36 @@ fn held(prefix: &[u8], work: &[u8], bindings: &[u32], n: usize) -> Found
     let mut i = n;
     while 0 < i {
         i -= 1;
-        let at = row_word(bindings, i, 0);
-        let size = row_word(bindings, i, 1);
-        if copy::equal(prefix, piece(work, at, size)) {
-            let more = row_word(bindings, i, 2);
-            return Found::Held(at + size, more);
+        if copy::equal(prefix, prefix_at(work, bindings, i)) {
+            return held_at(bindings, i);
         }
     }
     Found::Unknown
 }
 
+// The prefix that row i binds. Most tables have the row whole, and one test tells.
+fn prefix_at<'a>(work: &'a [u8], bindings: &[u32], i: usize) -> &'a [u8]
+    ensures { λ r. ⌜ now r ≡ bindingOf (now (work .entry)) (rowAt (now (bindings .entry)) i) .0 ⌝ }
+{
+    if i < bindings.len() / 3 {
+        let from = i * 3;
+        return piece(work, wide(bindings[from]), wide(bindings[from + 1]));
+    }
+    piece(work, row_word(bindings, i, 0), row_word(bindings, i, 1))
+}
+
+// The namespace that row i binds it to.
+fn held_at(bindings: &[u32], i: usize) -> Found
+    ensures { λ r. ⌜ r ≡ heldBy (rowAt (now (bindings .entry)) i) ⌝ }
+{
+    let at = row_word(bindings, i, 0);
+    let size = row_word(bindings, i, 1);
+    let more = row_word(bindings, i, 2);
+    Found::Held(at + size, more)
+}
+
 // Word f of attribute j.
-fn attribute_word(spans: &[u32], j: usize, f: usize) -> usize
+pub fn attribute_word(spans: &[u32], j: usize, f: usize) -> usize
     ensures { λ r. ⌜ Word (now (spans .entry)) (j * 4 + f) r ⌝ }
 {
     if spans.len() / 4 < j {

@@ -15,13 +15,13 @@ pub enum Form {
 }
 
 // 6 and the counts (7). `classes` gets what is known of each attribute's name.
-pub fn check_form(
+pub fn check_form<'a>(
     r: Registers,
     frames: &[u32],
     bindings: &[u32],
     inners: &[u32],
-    work: &[u8],
-    scratch: &[u8],
+    work: &'a [u8],
+    scratch: &'a [u8],
     spans: &[u32],
     m: usize,
     c: usize,

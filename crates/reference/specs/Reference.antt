@@ -236,7 +236,12 @@ hashed {d} {v} {e} p l h =
     let z : length v + 1 ≡ 1 + length v = omega arith in
     rw z (wrote-front (put-fits p (omega arith)) ∙ rw h)
 
-pub id-resolved : {area after : List ℕ} {at : ℕ} {r : Reference} (base : Option Bytes) (v s : Bytes) {there : Bool} → there ≡ true → s ≡ byte "#" ∷ v
-    → Resolves (resolved base (given true s)) area after at r → Resolves (resolved base (withHash (given there v))) area after at r
+pub id-resolved : {area after : List ℕ} {at : ℕ} {r : Reference} (base : Option Bytes) (v s : Bytes) → s ≡ byte "#" ∷ v
+    → Resolves (resolved base (given true s)) area after at r → Resolves (resolved base (withHash (some v))) area after at r
 unfolding given withHash
-id-resolved base v s h e q = rw (h, ← e) q
+id-resolved base v s e q = rw (← e) q
+
+pub id-there : {area after : List ℕ} {at : ℕ} {r : Reference} (base : Option Bytes) (v : Bytes) {there : Bool} → there ≡ true
+    → Resolves (resolved base (withHash (some v))) area after at r → Resolves (resolved base (withHash (given there v))) area after at r
+unfolding given
+id-there base v h q = rw h q

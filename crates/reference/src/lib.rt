@@ -2,7 +2,7 @@
 ghost use mathlib.Core.Path.{_≡_};
 ghost use mathlib.Core.Bool.{true};
 ghost use mathlib.Core.Option.{none, some};
-ghost use Prim.Native.Nat.{_≤_};
+ghost use Prim.Native.Nat.{_<_, _≤_};
 ghost use lib.ListN.{length};
 ghost use Rattle.spec.specs.Limits.{mostNameBytes};
 ghost use Rattle.spec.specs.Rfc3987.{isIriReference};
@@ -23,8 +23,10 @@ pub enum Reference {
     Made(usize),
 }
 
-// "#" and the longest value of an event.
+// "#" and the longest value of an event; "#" and a short one.
 const HASHED: usize = Event::MOST_BYTES + 1;
+
+const FEW: usize = 256;
 
 // What resolving that takes on the longest base that a work store may hold.
 const FAR: usize = Registers::STORE + HASHED + 1;
@@ -119,6 +121,27 @@ pub fn resolved_id(
     if !there {
         return Reference::Missing;
     }
+    if value.len() < FEW {
+        return near_id(based, base, value, area);
+    }
+    far_id(based, base, value, area)
+}
+
+// The same where the value is short, as nearly all are: room for the longest would cost more to lay out than all the rest.
+fn near_id(based: bool, base: &[u8], value: &[u8], area: &mut [u8]) -> Reference
+    requires { ⌜ RoomForId (now base) (now value) (now area) × (length (now value) < 256) ⌝ }
+    ensures { λ r. ⌜ Resolves (resolved (given based (now (base .entry))) (withHash (some (now (value .entry))))) (now (area .entry)) (now (area .exit)) 0 r ⌝ }
+{
+    let n = value.len() + 1;
+    let mut reference = [b'#'; FEW];
+    copy::put(&mut reference, 1, value);
+    resolved(based, base, true, &reference[..n], area, Area::ID)
+}
+
+fn far_id(based: bool, base: &[u8], value: &[u8], area: &mut [u8]) -> Reference
+    requires { ⌜ RoomForId (now base) (now value) (now area) ⌝ }
+    ensures { λ r. ⌜ Resolves (resolved (given based (now (base .entry))) (withHash (some (now (value .entry))))) (now (area .entry)) (now (area .exit)) 0 r ⌝ }
+{
     let n = value.len() + 1;
     let mut reference = [b'#'; HASHED];
     copy::put(&mut reference, 1, value);

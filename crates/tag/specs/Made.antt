@@ -3,7 +3,7 @@ use Prim.Native.Nat.{ℕ, _+_, _-_, _<_, _≤_}
 use mathlib.Core.Path.{_≡_, refl, sym, ap, _∙_}
 use mathlib.Core.Bool.{Bool, true, false, _&&_, not, false≢true}
 use mathlib.Core.Option.{Option, none, some}
-use mathlib.Core.List.{List, _++_, map}
+use mathlib.Core.List.{List, [], _++_, map}
 use native.Mathlib.Omega.{arith}
 use lib.Dec.{leb, ltb}
 use lib.ListN.{length, drop, length-append, length-take, length-map}
@@ -39,6 +39,13 @@ isUnknown Unknown = true
 isUnknown Xml = false
 isUnknown (Own at n) = false
 isUnknown (Held at n) = false
+
+-- the namespace that was found, empty where there is none; x is that of `xml`
+abbrev pub spaceOf : List ℕ → List ℕ → Bytes → Found → Bytes
+spaceOf e v x Unknown = []
+spaceOf e v x Xml = x
+spaceOf e v x (Own at n) = part e at n
+spaceOf e v x (Held at n) = part v at n
 
 -- where the namespace was found, which it is in a good tag
 unfoldable pub iriOf : Option Bytes → Bytes → Answer (Option Bytes)
@@ -88,24 +95,21 @@ module _ {area : List ℕ} (s l : Bytes) where
       }
 
 -- the arms of `make_iri`: t is the local part as it was read, s the namespace
-pub made-none : (e v : List ℕ) (l : Bytes) {area : List ℕ} {f : Found} → f ≡ Unknown → Resolves (iriOf (foundBytes e v f) l) area area 5120 Missing
+pub made-none : (e v : List ℕ) (l : Bytes) {area : List ℕ} (f : Found) → isUnknown f ≡ true → Resolves (iriOf (foundBytes e v f) l) area area 5120 Missing
 unfolding iriOf foundBytes
-made-none e v l h = rw h (record { is = refl; before = kept-all; same = refl })
+made-none e v l Unknown h = record { is = refl; before = kept-all; same = refl }
+made-none e v l Xml h = absurd (false≢true h)
+made-none e v l (Own at n) h = absurd (false≢true h)
+made-none e v l (Held at n) h = absurd (false≢true h)
 
-module _ (e v : List ℕ) (l : Bytes) {area after : List ℕ} {f : Found} {t : Bytes} {r : Reference} (q : t ≡ l) where
-  pub made-xml : f ≡ Xml → Resolves (good (some (xmlName ++ t))) area after 5120 r → Resolves (iriOf (foundBytes e v f) l) area after 5120 r
-  unfolding iriOf foundBytes
-  made-xml h x = rw (h, ← q) x
-
-  pub made-own : {at n : ℕ} {s : Bytes} → f ≡ Own at n → s ≡ part e at n → Resolves (good (some (s ++ t))) area after 5120 r
-      → Resolves (iriOf (foundBytes e v f) l) area after 5120 r
-  unfolding iriOf foundBytes
-  made-own h p x = rw (h, ← q, ← p) x
-
-  pub made-held : {at n : ℕ} {s : Bytes} → f ≡ Held at n → s ≡ part v at n → Resolves (good (some (s ++ t))) area after 5120 r
-      → Resolves (iriOf (foundBytes e v f) l) area after 5120 r
-  unfolding iriOf foundBytes
-  made-held h p x = rw (h, ← q, ← p) x
+-- the namespace s and the local part l were joined
+pub made-joined : (e v : List ℕ) (l : Bytes) {area after : List ℕ} (f : Found) {s t : Bytes} {r : Reference} → isUnknown f ≡ false → s ≡ spaceOf e v xmlName f → t ≡ l
+    → Resolves (good (some (s ++ t))) area after 5120 r → Resolves (iriOf (foundBytes e v f) l) area after 5120 r
+unfolding iriOf foundBytes
+made-joined e v l Unknown h p q x = absurd (false≢true (sym h))
+made-joined e v l Xml h p q x = rw (← q, ← p) x
+made-joined e v l (Own at n) h p q x = rw (← q, ← p) x
+made-joined e v l (Held at n) h p q x = rw (← q, ← p) x
 
 -- ---- the language
 

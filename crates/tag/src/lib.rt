@@ -13,7 +13,7 @@ ghost use Rattle.reference.specs.Reference.{Resolves};
 ghost use Rattle.references.specs.Values.{valueIf};
 ghost use Rattle.attributes.specs.Places.{places};
 ghost use Rattle.attributes.specs.Short.{shortAt};
-ghost use Rattle.tag.specs.Made.{isUnknown, iriOf, Lowered, shortIf, shortBy, RoomToMake, Finished};
+ghost use Rattle.tag.specs.Made.{isUnknown, spaceOf, iriOf, Lowered, shortIf, shortBy, RoomToMake, Finished};
 ghost use Rattle.tag.specs.Tag.{Asks, Reads};
 use ids::IdTable;
 use names::Found;
@@ -129,14 +129,14 @@ fn is_unknown(found: Found) -> bool
 }
 
 // A tag in which nothing is wrong: its expanded name and its language are made.
-fn tag_of(
+fn tag_of<'a>(
     found: Found,
     name: &[u8],
     c: usize,
-    scratch: &[u8],
+    scratch: &'a [u8],
     spans: &[u32],
     k: usize,
-    work: &[u8],
+    work: &'a [u8],
     classes: &[usize],
     roles: &[u8],
     references: References,
@@ -173,23 +173,32 @@ fn tag_of(
 }
 
 // The namespace and the local part, joined at their place.
-fn make_iri(
+fn make_iri<'a>(
     found: Found,
     name: &[u8],
     c: usize,
-    scratch: &[u8],
-    work: &[u8],
+    scratch: &'a [u8],
+    work: &'a [u8],
     area: &mut [u8],
 ) -> Reference
     requires { ⌜ 6144 ≤ length (now area) ⌝ }
     ensures { λ r. ⌜ Resolves (iriOf (foundBytes (now (scratch .entry)) (now (work .entry)) found) (backOf c (now (name .entry)))) (now (area .entry)) (now (area .exit)) 5120 r ⌝ }
 {
-    let local = names::back_of(name, c);
+    if is_unknown(found) {
+        return Reference::Missing;
+    }
+    join(space_of(found, scratch, work, &XML), names::back_of(name, c), area)
+}
+
+// The namespace that was found, empty where there is none; `xml` is that of the prefix `xml`.
+fn space_of<'a>(found: Found, scratch: &'a [u8], work: &'a [u8], xml: &'a [u8]) -> &'a [u8]
+    ensures { λ s. ⌜ now s ≡ spaceOf (now (scratch .entry)) (now (work .entry)) (now (xml .entry)) found ⌝ }
+{
     match found {
-        Found::Unknown => Reference::Missing,
-        Found::Xml => join(&XML, local, area),
-        Found::Own(at, n) => join(names::piece(scratch, at, n), local, area),
-        Found::Held(at, n) => join(names::piece(work, at, n), local, area),
+        Found::Unknown => &scratch[0..0],
+        Found::Xml => xml,
+        Found::Own(at, n) => names::piece(scratch, at, n),
+        Found::Held(at, n) => names::piece(work, at, n),
     }
 }
 

@@ -1,7 +1,7 @@
 -- `attributes::is_short` meets its contract, by the class.
 use Rattle.spec.specs.Namespaces.{xmlName}
 use Rattle.spec.specs.Bytes.{ascii}
-use Rattle.names.specs.Classes.{text-unprefixed, text-xml, text-own, text-held}
+use Rattle.attributes.specs.Attributes.{text-unprefixed, text-xml, text-own, text-held}
 use Rattle.attributes.specs.Short.{short-declaration, short-unknown, short-unprefixed, short-xml, short-own, short-held}
 use borrow.Author.Needs.{needs}
 use Rattle.attributes.proofs.is_short.Statement.{statement}

@@ -1,8 +1,7 @@
 -- `attributes::role_at` meets its contract, by the class.
 use Rattle.spec.specs.Namespaces.{xmlName}
 use Rattle.spec.specs.Bytes.{ascii}
-use Rattle.names.specs.Classes.{text-unprefixed, text-xml, text-own, text-held}
-use Rattle.attributes.specs.Attributes.{no-role-declaration, no-role-unknown, role-unprefixed, role-xml, role-own, role-held}
+use Rattle.attributes.specs.Attributes.{no-role-declaration, no-role-unknown, role-unprefixed, role-xml, role-own, role-held, text-unprefixed, text-xml, text-own, text-held}
 use borrow.Author.Needs.{needs}
 use Rattle.attributes.proofs.role_at.Statement.{statement}
 use Rattle.attributes.proofs.role_at.Tie as tie

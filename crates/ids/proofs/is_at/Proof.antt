@@ -29,23 +29,23 @@ equal-requires c κs = search needs
 returns-2 : tie.Need-returns-2
 returns-2 c = c .equal .ensures ∙ ap (same _) (past-end _ _ _ (omega arith))
 
-add-equal : tie.Need-add-equal
-add-equal c = search needs
+add-equal-from-end : tie.Need-add-equal-from-end
+add-equal-from-end c = search needs
 
-sub-equal-2 : tie.Need-sub-equal-2
-sub-equal-2 c = search needs
+sub-equal-from-end : tie.Need-sub-equal-from-end
+sub-equal-from-end c = search needs
 
-part-equal-start-2 : tie.Need-part-equal-start-2
-part-equal-start-2 c = search needs
+part-equal-from-end-start : tie.Need-part-equal-from-end-start
+part-equal-from-end-start c = search needs
 
-part-equal-end-2 : tie.Need-part-equal-end-2
-part-equal-end-2 c = search needs
+part-equal-from-end-end : tie.Need-part-equal-from-end-end
+part-equal-from-end-end c = search needs
 
-equal-requires-2 : tie.Need-equal-requires-2
-equal-requires-2 c κs = search needs
+equal-from-end-requires : tie.Need-equal-from-end-requires
+equal-from-end-requires c κs = search needs
 
 returns-3 : tie.Need-returns-3
-returns-3 c = c .equal2 .ensures ∙ ap (same _) (part-of _ _ _)
+returns-3 c = c .equal-from-end .ensures ∙ ap (same _) (part-of _ _ _)
 
 pub is-at-spec : {M : Type 1} → statement M
 is-at-spec =
@@ -58,9 +58,9 @@ is-at-spec =
     part-equal-end
     equal-requires
     returns-2
-    add-equal
-    sub-equal-2
-    part-equal-start-2
-    part-equal-end-2
-    equal-requires-2
+    add-equal-from-end
+    sub-equal-from-end
+    part-equal-from-end-start
+    part-equal-from-end-end
+    equal-from-end-requires
     returns-3)

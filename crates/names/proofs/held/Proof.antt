@@ -1,6 +1,5 @@
 -- `names::held` meets its contract. The loop's invariant: none of the rows from `i` on binds the prefix.
-use mathlib.Core.Path.{sym, ap, _∙_}
-use Rattle.spec.specs.Bytes.{same}
+use mathlib.Core.Path.{sym, _∙_}
 use Rattle.names.specs.Found.{Sought, sought-begins, sought-more, sought-hit, sought-done}
 use native.Mathlib.Omega.{arith}
 use borrow.Author.Needs.{needs}
@@ -19,32 +18,23 @@ loop-holds c = sought-begins
 sub-i : tie.Need-sub-i Inv-loop μ-loop
 sub-i c = search needs
 
-row-word-requires : tie.Need-row-word-requires Inv-loop μ-loop
-row-word-requires c κs = search needs
-
-row-word-requires-2 : tie.Need-row-word-requires-2 Inv-loop μ-loop
-row-word-requires-2 c κs = search needs
-
-piece-requires : tie.Need-piece-requires Inv-loop μ-loop
-piece-requires c κs = search needs
+prefix-at-requires : tie.Need-prefix-at-requires Inv-loop μ-loop
+prefix-at-requires c κs = search needs
 
 equal-requires : tie.Need-equal-requires Inv-loop μ-loop
 equal-requires c κs = search needs
 
-row-word-requires-3 : tie.Need-row-word-requires-3 Inv-loop μ-loop
-row-word-requires-3 c κs = search needs
-
-add-t12 : tie.Need-add-t12 Inv-loop μ-loop
-add-t12 c = search needs
+held-at-requires : tie.Need-held-at-requires Inv-loop μ-loop
+held-at-requires c κs = search needs
 
 returns : tie.Need-returns Inv-loop μ-loop
-returns c = sought-hit (c .before .before .before .before .before .before .before .loop .inv) (omega arith) (c .before .before .before .before .before .row-word .ensures) (c .before .before .before .before .row-word2 .ensures) (sym (c .before .before .equal .ensures ∙ ap (same _) (c .before .before .before .piece .ensures)) ∙ c .before .if1 .taken) (c .row-word3 .ensures)
+returns c = sought-hit (c .before .before .before .before .before .loop .inv) (omega arith) (c .before .before .before .prefix-at .ensures) (sym (c .before .before .equal .ensures) ∙ c .before .if1 .taken) (c .held-at .ensures)
 
 loop-less : tie.Need-loop-less Inv-loop μ-loop
 loop-less c = search needs
 
 loop-again : tie.Need-loop-again Inv-loop μ-loop
-loop-again c = sought-more (c .before .before .before .before .before .before .loop .inv) (omega arith) (c .before .before .before .before .row-word .ensures) (c .before .before .before .row-word2 .ensures) (sym (c .before .equal .ensures ∙ ap (same _) (c .before .before .piece .ensures)) ∙ c .if1 .left)
+loop-again c = sought-more (c .before .before .before .before .loop .inv) (omega arith) (c .before .before .prefix-at .ensures) (sym (c .before .equal .ensures) ∙ c .if1 .left)
 
 returns-2 : tie.Need-returns-2 Inv-loop μ-loop
 returns-2 c = sought-done (c .before .loop .inv) (omega arith)
@@ -57,12 +47,9 @@ held-spec =
     μ-loop
     loop-holds
     sub-i
-    row-word-requires
-    row-word-requires-2
-    piece-requires
+    prefix-at-requires
     equal-requires
-    row-word-requires-3
-    add-t12
+    held-at-requires
     returns
     loop-less
     loop-again

@@ -1,8 +1,8 @@
--- `names::same_from_shorter` meets its contract. Test by test, lengths first.
+-- `names::same_from_shorter` meets its contract. Test by test: lengths first, then the last bytes, and the fronts at last.
 use mathlib.Core.Path.{sym, _∙_}
 use borrow.Author.Tests.{not-true, not-false}
 use Rattle.copy.specs.Copy.{rest-of}
-use Rattle.names.specs.Joined.{too-short, other-length, fronts-differ, middles-differ, backs-decide}
+use Rattle.names.specs.Joined.{too-short, other-length, backs-differ, middles-differ, fronts-decide}
 use native.Mathlib.Omega.{arith}
 use borrow.Author.Needs.{needs}
 use Rattle.names.proofs.same_from_shorter.Statement.{statement}
@@ -33,7 +33,7 @@ equal-requires : tie.Need-equal-requires
 equal-requires c κs = search needs
 
 returns-3 : tie.Need-returns-3
-returns-3 c = fronts-differ _ _ _ _ (c .before .before .before .before .before .before .before .before .before .pre) (sym (c .before .equal .ensures) ∙ not-true _ (c .if3 .taken))
+returns-3 c = backs-differ (c .before .before .before .before .before .before .before .before .before .args .a .now) (c .before .before .before .before .before .before .before .before .before .args .b .now) (c .before .before .before .before .before .before .before .before .before .args .c .now) (c .before .before .before .before .before .before .before .before .before .args .d .now) (c .before .before .before .before .before .before .before .before .before .pre) (omega arith) (rw rest-of at (sym (c .before .equal .ensures) ∙ not-true _ (c .if3 .taken)))
 
 sub-begins : tie.Need-sub-begins
 sub-begins c = search needs
@@ -48,22 +48,22 @@ begins-requires : tie.Need-begins-requires
 begins-requires c κs = search needs
 
 returns-4 : tie.Need-returns-4
-returns-4 c = middles-differ _ _ _ _ (c .before .before .before .before .before .before .before .before .before .before .before .before .pre) (sym (c .before .before .before .before .equal .ensures) ∙ not-false _ (c .before .before .before .if3 .left)) (sym (rw rest-of at (c .before .begins .ensures)) ∙ not-true _ (c .if4 .taken))
+returns-4 c = middles-differ (c .before .before .before .before .before .before .before .before .before .before .before .before .args .a .now) (c .before .before .before .before .before .before .before .before .before .before .before .before .args .b .now) (c .before .before .before .before .before .before .before .before .before .before .before .before .args .c .now) (c .before .before .before .before .before .before .before .before .before .before .before .before .args .d .now) (c .before .before .before .before .before .before .before .before .before .before .before .before .pre) (omega arith) (rw rest-of at (sym (c .before .begins .ensures) ∙ not-true _ (c .if4 .taken)))
 
-sub-equal-2 : tie.Need-sub-equal-2
-sub-equal-2 c = search needs
+sub-equal-long : tie.Need-sub-equal-long
+sub-equal-long c = search needs
 
-part-equal-start-2 : tie.Need-part-equal-start-2
-part-equal-start-2 c = search needs
+part-equal-long-start : tie.Need-part-equal-long-start
+part-equal-long-start c = search needs
 
-part-equal-end-2 : tie.Need-part-equal-end-2
-part-equal-end-2 c = search needs
+part-equal-long-end : tie.Need-part-equal-long-end
+part-equal-long-end c = search needs
 
-equal-requires-2 : tie.Need-equal-requires-2
-equal-requires-2 c κs = search needs
+equal-long-requires : tie.Need-equal-long-requires
+equal-long-requires c κs = search needs
 
 returns-5 : tie.Need-returns-5
-returns-5 c = rw rest-of at (c .equal2 .ensures) ∙ backs-decide _ _ _ _ (c .before .before .before .before .before .before .before .before .before .before .before .before .before .before .pre) (sym (c .before .before .before .before .before .before .equal .ensures) ∙ not-false _ (c .before .before .before .before .before .if3 .left)) (sym (rw rest-of at (c .before .before .before .begins .ensures)) ∙ not-false _ (c .before .before .if4 .left))
+returns-5 c = c .equal-long .ensures ∙ fronts-decide (c .before .before .before .before .before .before .before .before .before .before .before .before .before .before .args .a .now) (c .before .before .before .before .before .before .before .before .before .before .before .before .before .before .args .b .now) (c .before .before .before .before .before .before .before .before .before .before .before .before .before .before .args .c .now) (c .before .before .before .before .before .before .before .before .before .before .before .before .before .before .args .d .now) (c .before .before .before .before .before .before .before .before .before .before .before .before .before .before .pre) (omega arith) (rw rest-of at (sym (c .before .before .before .before .before .before .equal .ensures) ∙ not-false _ (c .before .before .before .before .before .if3 .left))) (rw rest-of at (sym (c .before .before .before .begins .ensures) ∙ not-false _ (c .before .before .if4 .left)))
 
 pub same-from-shorter-spec : {M : Type 1} → statement M
 same-from-shorter-spec =
@@ -83,8 +83,8 @@ same-from-shorter-spec =
     part-begins-end
     begins-requires
     returns-4
-    sub-equal-2
-    part-equal-start-2
-    part-equal-end-2
-    equal-requires-2
+    sub-equal-long
+    part-equal-long-start
+    part-equal-long-end
+    equal-long-requires
     returns-5)

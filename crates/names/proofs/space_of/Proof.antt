@@ -1,7 +1,7 @@
--- `attributes::space_of` meets its contract, by the class.
+-- `names::space_of` meets its contract, by the class.
 use borrow.Author.Needs.{needs}
-use Rattle.attributes.proofs.space_of.Statement.{statement}
-use Rattle.attributes.proofs.space_of.Tie as tie
+use Rattle.names.proofs.space_of.Statement.{statement}
+use Rattle.names.proofs.space_of.Tie as tie
 
 enum-told : tie.Need-enum-told
 enum-told c = search needs

@@ -1,0 +1,166 @@
+// Repeated names among many attributes. Each is marked with its last bytes as two numbers, so that nearly all pairs are told apart by
+// numbers, eight pairs at once.
+ghost use mathlib.Core.Path.{_≡_};
+ghost use mathlib.Core.List.{_++_};
+ghost use Prim.Native.Nat.{_<_, _≤_};
+ghost use lib.ListN.{length};
+ghost use Rattle.spec.specs.Bytes.{among};
+ghost use Rattle.names.specs.Pairs.{behindIn, pairs};
+ghost use Rattle.names.specs.Classes.{sameKeys};
+ghost use Rattle.crowded.specs.Marks.{byteFromEnd, markOf, Room, Marks, Marked, Next};
+use crate::PLACES;
+use names::Class;
+use names::XML;
+
+// The bytes that a mark has.
+const BYTES: usize = 8;
+
+// Marks that are compared at once.
+const BLOCK: usize = 8;
+
+// Do two of the k attributes repeat, by what they are compared by?
+pub fn repeated<'a>(
+    scratch: &'a [u8],
+    spans: &[u32],
+    k: usize,
+    work: &'a [u8],
+    classes: &[usize],
+) -> bool
+    requires { ⌜ k ≤ 8_192 ⌝ }
+    ensures { λ r. ⌜ r ≡ pairs (sameKeys (now (scratch .entry)) (now (spans .entry)) (now (work .entry)) (now (classes .entry))) 0 k ⌝ }
+{
+    let mut near = [0u64; PLACES];
+    let mut far = [0u64; PLACES];
+    mark_all(scratch, spans, k, work, classes, &mut near, &mut far);
+    let mut j = 0;
+    while j < k {
+        if repeated_behind(scratch, spans, k, work, classes, &near, &far, j) {
+            return true;
+        }
+        j += 1;
+    }
+    false
+}
+
+// The two marks of each of the k attributes: of its last bytes, and of those before them.
+fn mark_all<'a>(
+    scratch: &'a [u8],
+    spans: &[u32],
+    k: usize,
+    work: &'a [u8],
+    classes: &[usize],
+    near: &mut [u64],
+    far: &mut [u64],
+)
+    requires { ⌜ Room k (now near) (now far) ⌝ }
+    ensures { λ _. ⌜ Marks (now (scratch .entry)) (now (spans .entry)) (now (work .entry)) (now (classes .entry)) k (now (near .entry)) (now (far .entry)) (now (near .exit)) (now (far .exit)) ⌝ }
+{
+    let mut j = 0;
+    while j < k {
+        let class = Class::load(classes, j);
+        let space = names::space_of(class, scratch, work, &XML);
+        let name = names::tail_of(class, scratch, spans, j);
+        near[j] = mark(space, name, 0);
+        far[j] = mark(space, name, BYTES);
+        j += 1;
+    }
+}
+
+// Does one of the k attributes behind attribute j repeat it? Only those with its marks are compared.
+fn repeated_behind<'a>(
+    scratch: &'a [u8],
+    spans: &[u32],
+    k: usize,
+    work: &'a [u8],
+    classes: &[usize],
+    near: &[u64],
+    far: &[u64],
+    j: usize,
+) -> bool
+    requires { ⌜ Marked (now scratch) (now spans) (now work) (now classes) k (now near) (now far) k × (j < k) ⌝ }
+    ensures { λ r. ⌜ r ≡ behindIn (sameKeys (now (scratch .entry)) (now (spans .entry)) (now (work .entry)) (now (classes .entry))) j k ⌝ }
+{
+    let class = Class::load(classes, j);
+    let space = names::space_of(class, scratch, work, &XML);
+    let name = names::tail_of(class, scratch, spans, j);
+    let mut i = next_marked(near, j + 1, k, near[j]);
+    while i < k {
+        if far[i] == far[j] {
+            if names::is_key(scratch, spans, work, classes, j, class, space, name, i) {
+                return true;
+            }
+        }
+        i = next_marked(near, i + 1, k, near[j]);
+    }
+    false
+}
+
+// The first of the marks from `from` on that is this one, or `to`.
+fn next_marked(marks: &[u64], from: usize, to: usize, mark: u64) -> usize
+    requires { ⌜ (from ≤ to) × (to ≤ length (now marks)) ⌝ }
+    ensures { λ r. ⌜ Next (now (marks .entry)) from to mark r ⌝ }
+{
+    let mut i = from;
+    while i < to {
+        if BLOCK <= to - i {
+            let end = i + BLOCK;
+            if !has_mark(&marks[i..end], mark) {
+                i = end;
+                continue;
+            }
+        }
+        if marks[i] == mark {
+            return i;
+        }
+        i += 1;
+    }
+    i
+}
+
+// Is one of a block this mark? No branch inside the loop, so that all are compared at once.
+fn has_mark(block: &[u64], mark: u64) -> bool
+    ensures { λ r. ⌜ r ≡ among (now (block .entry)) mark ⌝ }
+{
+    let mut found = false;
+    let mut j = 0;
+    while j < block.len() {
+        found = found | (block[j] == mark);
+        j += 1;
+    }
+    found
+}
+
+// The bytes of a text in two parts that `skip` bytes follow, as a number; 0 for each that is missing.
+fn mark(front: &[u8], back: &[u8], skip: usize) -> u64
+    requires { ⌜ skip ≤ 8 ⌝ }
+    ensures { λ m. ⌜ m ≡ markOf (now (front .entry) ++ now (back .entry)) skip ⌝ }
+{
+    let mut m: u64 = 0;
+    let mut i = 0;
+    while i < BYTES {
+        m = m % 72_057_594_037_927_936 * 256 + wide(byte_from_end(front, back, skip + i));
+        i += 1;
+    }
+    m
+}
+
+// The byte that i bytes follow, 0 where there is none.
+fn byte_from_end(front: &[u8], back: &[u8], i: usize) -> u8
+    ensures { λ b. ⌜ b ≡ byteFromEnd (now (front .entry) ++ now (back .entry)) i ⌝ }
+{
+    if i < back.len() {
+        return back[back.len() - 1 - i];
+    }
+    let more = i - back.len();
+    if more < front.len() {
+        return front[front.len() - 1 - more];
+    }
+    0
+}
+
+// A byte as a number.
+fn wide(b: u8) -> u64
+    ensures { λ n. ⌜ (n ≡ b) × (n < 256) ⌝ }
+{
+    b as u64
+}
