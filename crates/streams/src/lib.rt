@@ -35,10 +35,10 @@ pub enum Got {
     Failed,
 }
 
-// How many bytes of a text standard output took, and whether these are all.
+// How many bytes of a text standard output took, and whether these are all. Only `print` makes one: its fields are its own.
 pub struct Printed {
-    pub whole: bool,
-    pub bytes: usize,
+    whole: bool,
+    bytes: usize,
 }
 
 impl Moved {
@@ -104,13 +104,25 @@ impl Got {
 
 impl Printed {
     // So many bytes of `most`.
-    pub fn of(bytes: usize, most: usize) -> Self
+    fn of(bytes: usize, most: usize) -> Self
         ensures { λ r. ⌜ r ≡ printedOf bytes most ⌝ }
     {
         Printed {
             whole: bytes == most,
             bytes,
         }
+    }
+
+    pub fn is_whole(self) -> bool
+        ensures { λ r. ⌜ r ≡ self .whole ⌝ }
+    {
+        self.whole
+    }
+
+    pub fn taken(self) -> usize
+        ensures { λ r. ⌜ r ≡ self .bytes ⌝ }
+    {
+        self.bytes
     }
 }
 

@@ -29,7 +29,7 @@ returns-3 : tie.Need-returns-3
 returns-3 c = follow-on (c .enum-told .given .1)
 
 same-length : tie.Need-same-length
-same-length c = c .before .before .read .ensures .room
+same-length c = c .before .input .given
 
 returns-4 : tie.Need-returns-4
 returns-4 c = follow-more (c .before .before .before .before .before .before .before .before .pause .given .1) (c .before .before .before .before .before .before .number-of .ensures) (c .before .before .before .before .before .if1 .left) (c .before .before .before .before .if2 .left) (c .before .before .read .ensures)
