@@ -26,7 +26,8 @@ use Rattle.pyx2nt.specs.declared.Place.{Place}
 use Rattle.pyx2nt.specs.declared.Next.{Next}
 use Rattle.pyx2nt.specs.declared.Next.the-variants.{On, Over}
 use Rattle.pyx2nt.specs.declared.Outcome.{Outcome}
-use Rattle.pyx2nt.specs.declared.Outcome.the-variants.{Done, Unwritten, Unread}
+use Rattle.pyx2nt.specs.declared.How.{How}
+use Rattle.pyx2nt.specs.declared.How.the-variants.{Done, Unwritten, Unread}
 use Rattle.pyx2nt.specs.Way.{Spot, spot, start, Leads, Ended, Cut, Unfinished}
 
 -- ---- places
@@ -57,6 +58,10 @@ pub record Sums (p : Place) (f : Fed) (n : ℕ) : Type 0 where
 abbrev pub withMore : Place → ℕ → ℕ → Place
 withMore p n m = record { registers = p .registers; count = p .count; used = p .used; event = p .event; bytes = p .bytes; from = 0; to = n + m; last = eqb m 0 }
 
+-- here the program ends
+abbrev pub overAt : Place → How → Next
+overAt p how = Over (record { how = how; event = p .event; bytes = p .bytes })
+
 -- behind a read: how many bytes it gave, and where the program goes on. One that failed is not the end of the input
 abbrev pub amount : Got → ℕ
 amount (got.Bytes n) = n
@@ -66,7 +71,7 @@ amount got.Failed = 0
 abbrev pub resumedWith : Place → ℕ → Got → Next
 resumedWith p n (got.Bytes m) = On (withMore p n m)
 resumedWith p n got.End = On (withMore p n 0)
-resumedWith p n got.Failed = Over (Unread (p .event) (p .bytes))
+resumedWith p n got.Failed = overAt p Unread
 
 -- the bytes at hand, and how many they are
 abbrev pub sizeAt : Place → ℕ
@@ -121,8 +126,8 @@ pub data Follows (p : Place) (input : List ℕ) : Pause → Next → List ℕ �
   -- more input
   more : {n : Next} {input′ : List ℕ} → p .last ≡ false → Reads p input n input′ → Follows p input (Stop Incomplete) n input′
   -- the end: of the input, or by a refusal
-  over : p .last ≡ true → Follows p input (Stop Incomplete) (Over (Done (finishing (p .registers)) (p .event) (p .bytes))) input
-  refused : {why : Refusal} → (why ≡ Incomplete → ⊥) → Follows p input (Stop why) (Over (Done (number why) (p .event) (p .bytes))) input
+  over : p .last ≡ true → Follows p input (Stop Incomplete) (overAt p (Done (finishing (p .registers)))) input
+  refused : {why : Refusal} → (why ≡ Incomplete → ⊥) → Follows p input (Stop why) (overAt p (Done (number why))) input
 
 -- ---- what follows a print of the lines
 
@@ -134,7 +139,7 @@ pub record Counted (p : Place) (f : Fed) (w : Printed) (input : List ℕ) : Type
 -- a write that failed is the end; after one that took all the program goes on
 pub record GoesOn (p : Place) (input : List ℕ) (f : Fed) (w : Printed) (n : Next) (input′ : List ℕ) : Type 0 where
   pub room : length input′ ≡ length input
-  pub cut : w .whole ≡ false → n ≡ Over (Unwritten (p .event) (p .bytes + w .bytes))
+  pub cut : w .whole ≡ false → n ≡ Over (record { how = Unwritten; event = p .event; bytes = p .bytes + w .bytes })
   pub on : w .whole ≡ true → Follows (behindOf p f (w .bytes)) input (f .pause) n input′
 
 -- ---- a turn
@@ -172,22 +177,14 @@ pub record Lengths (l : Lent) (input : List ℕ) (l′ : Lent) (input′ : List 
   pub out : length (l′ .out) ≡ length (l .out)
   pub buffer : length input′ ≡ length input
 
--- the event at the end, and how many bytes were taken
-abbrev pub eventOf : Outcome → ℕ
-eventOf (Done n k b) = k
-eventOf (Unwritten k b) = k
-eventOf (Unread k b) = k
-
-abbrev pub taken : Outcome → ℕ
-taken (Done n k b) = b
-taken (Unwritten k b) = b
-taken (Unread k b) = b
-
 -- what the program comes to from somewhere
+abbrev pub ComesBy : Spot → How → ℕ → ℕ → Type 0
+ComesBy s (Done n) k b = Ended s n k b
+ComesBy s Unwritten k b = Cut s k b
+ComesBy s Unread k b = Unfinished s k b
+
 abbrev pub Comes : Spot → Outcome → Type 0
-Comes s (Done n k b) = Ended s n k b
-Comes s (Unwritten k b) = Cut s k b
-Comes s (Unread k b) = Unfinished s k b
+Comes s o = ComesBy s (o .how) (o .event) (o .bytes)
 
 -- a turn leads to a next place, behind no more events than the input has bytes and no more bytes than the output, or to the end
 abbrev pub Cases : Place → Lent → List ℕ → Next → Lent → List ℕ → Type 0
@@ -197,7 +194,7 @@ Cases p l input (On p′) l′ input′ =
     × (p′ .event ≤ p .event + 131_072)
     × (p′ .bytes ≤ p .bytes + 131_072)
     × Leads (spotAt p l input) (spotAt p′ l′ input′)
-Cases p l input (Over o) l′ input′ = Comes (spotAt p l input) o × (taken o ≤ p .bytes + 131_072)
+Cases p l input (Over o) l′ input′ = Comes (spotAt p l input) o × (o .bytes ≤ p .bytes + 131_072)
 
 pub record Turns (p : Place) (l : Lent) (input : List ℕ) (n : Next) (l′ : Lent) (input′ : List ℕ) : Type 0 where
   pub lengths : Lengths l input l′ input′

@@ -15,9 +15,10 @@ use Rattle.pyx2nt.specs.declared.Place.{Place}
 use Rattle.pyx2nt.specs.declared.Next.{Next}
 use Rattle.pyx2nt.specs.declared.Next.the-variants.{On, Over}
 use Rattle.pyx2nt.specs.declared.Outcome.{Outcome}
-use Rattle.pyx2nt.specs.declared.Outcome.the-variants.{Done, Unwritten, Unread}
+use Rattle.pyx2nt.specs.declared.How.{How}
+use Rattle.pyx2nt.specs.declared.How.the-variants.{Done, Unwritten, Unread}
 use Rattle.pyx2nt.specs.Way.{Spot, start, Leads, leads-here, leads-then, leads-end, leads-cut, leads-unfinished}
-use Rattle.pyx2nt.specs.Places.{firstPlace, spotAt, Within, Made, Stands, Lengths, taken, eventOf, Comes, Cases, Turns}
+use Rattle.pyx2nt.specs.Places.{firstPlace, spotAt, Within, Made, Stands, Lengths, ComesBy, Comes, Cases, Turns}
 
 -- the turns that are left bound the events and bytes to come
 pub record Running (p : Place) (turns : ℕ) (l : Lent) (input : List ℕ) : Type 0 where
@@ -74,19 +75,19 @@ running-begins {l = l} {input = input} e m =
 
 -- ---- from turn to turn
 
-leads-comes : {s t : Spot} (o : Outcome) → Leads s t → Comes t o → Comes s o
-leads-comes (Done n k b) p q = leads-end p q
-leads-comes (Unwritten k b) p q = leads-cut p q
-leads-comes (Unread k b) p q = leads-unfinished p q
+leads-comes : {s t : Spot} (how : How) (k b : ℕ) → Leads s t → ComesBy t how k b → ComesBy s how k b
+leads-comes (Done n) k b p q = leads-end p q
+leads-comes Unwritten k b p q = leads-cut p q
+leads-comes Unread k b p q = leads-unfinished p q
 
 -- events are counted from 1
-some-event : (o : Outcome) → Comes start o → 0 < eventOf o
-some-event (Done n k b) h = omega (arith, h .later)
-some-event (Unwritten k b) h = omega (arith, h .event, h .way .later)
-some-event (Unread k b) h = omega (arith, h .event, h .way .later)
+some-event : (how : How) (k b : ℕ) → ComesBy start how k b → 0 < k
+some-event (Done n) k b h = omega (arith, h .later)
+some-event Unwritten k b h = omega (arith, h .event, h .way .later)
+some-event Unread k b h = omega (arith, h .event, h .way .later)
 
-pub end-event : {o o′ : Outcome} → Comes start o → o ≡ o′ → 0 < eventOf o′
-end-event {o′ = o′} h e = some-event o′ (rw e at h)
+pub end-event : (o : Outcome) → Comes start o → 0 < o .event
+end-event o h = some-event (o .how) (o .event) (o .bytes) h
 
 module _ {p : Place} {turns : ℕ} {l : Lent} {input : List ℕ} (r : Running p turns l input) where
   pub running-stands : 0 < turns → Stands p l input
@@ -116,10 +117,10 @@ module _ {p : Place} {turns : ℕ} {l : Lent} {input : List ℕ} (r : Running p 
         }
 
     -- what it comes to is the end of a way from the start
-    pub running-ends : {o : Outcome} → 0 < turns → n ≡ Over o → Comes start o × (taken o < 9_223_372_036_854_775_808)
+    pub running-ends : {o : Outcome} → 0 < turns → n ≡ Over o → Comes start o × (o .bytes < 9_223_372_036_854_775_808)
     running-ends {o} h e =
         let x : Cases p l input (Over o) l′ input′ = rw e at (t .cases) in
-        (leads-comes o (r .leads) (x .0), omega (arith, r .measured, x .1))
+        (leads-comes (o .how) (o .event) (o .bytes) (r .leads) (x .0), omega (arith, r .measured, x .1))
 
 -- ---- arrays of their own
 

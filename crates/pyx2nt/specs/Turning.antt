@@ -37,9 +37,9 @@ use Rattle.streams.specs.Answers.{Prints}
 use Rattle.pyx2nt.specs.declared.Place.{Place}
 use Rattle.pyx2nt.specs.declared.Next.{Next}
 use Rattle.pyx2nt.specs.declared.Next.the-variants.{On, Over}
-use Rattle.pyx2nt.specs.declared.Outcome.the-variants.{Done, Unwritten}
+use Rattle.pyx2nt.specs.declared.How.the-variants.{Done, Unwritten}
 use Rattle.pyx2nt.specs.Way.{Leads, leads-here, leads-then, leads-end, leads-on, leads-read, ends-refused, ends-over}
-use Rattle.pyx2nt.specs.Places.{behindOf, Sums, withMore, amount, resumedWith, sizeAt, restAt, spotAt, finishing, Within, Reads, Paused, Follows, on, more, over, refused}
+use Rattle.pyx2nt.specs.Places.{behindOf, Sums, overAt, withMore, amount, resumedWith, sizeAt, restAt, spotAt, finishing, Within, Reads, Paused, Follows, on, more, over, refused}
 use Rattle.pyx2nt.specs.Places.{Counted, GoesOn, Stands, Cases, Turns}
 
 -- ---- the end of a document
@@ -72,12 +72,12 @@ pub waiting : {pause : Pause} {why : Refusal} {n : ℕ} → pause ≡ Stop why �
 waiting {why = why} e q h = e ∙ ap Stop (number-injective why Incomplete (sym q ∙ h))
 
 module _ {p : Place} {input : List ℕ} {pause : Pause} {why : Refusal} {n : ℕ} (e : pause ≡ Stop why) (q : n ≡ number why) where
-  pub follow-refused : (n ≡ 1 → ⊥) → Follows p input pause (Over (Done n (p .event) (p .bytes))) input
-  follow-refused h = rw (e, q) (refused λ z. h (q ∙ ap number z))
+  pub follow-refused : {x : Next} → (n ≡ 1 → ⊥) → x ≡ overAt p (Done n) → Follows p input pause x input
+  follow-refused h o = rw (o, e, q) (refused λ z. h (q ∙ ap number z))
 
   module _ (h : n ≡ 1) where
-    pub follow-over : {m : ℕ} → p .last ≡ true → m ≡ finishing (p .registers) → Follows p input pause (Over (Done m (p .event) (p .bytes))) input
-    follow-over l f = rw (waiting e q h, f) (over l)
+    pub follow-over : {m : ℕ} {x : Next} → p .last ≡ true → m ≡ finishing (p .registers) → x ≡ overAt p (Done m) → Follows p input pause x input
+    follow-over l f o = rw (o, waiting e q h, f) (over l)
 
     pub follow-more : {x : Next} {input′ : List ℕ} → p .last ≡ false → Reads p input x input′ → Follows p input pause x input′
     follow-more l r = rw (waiting e q h) (more l r)
@@ -91,7 +91,7 @@ follows-room (refused h) = refl
 -- ---- what follows a print
 
 module _ {p : Place} {f : Fed} {w : Printed} {input : List ℕ} {whole : Bool} {n : ℕ} (a : whole ≡ w .whole) (b : n ≡ w .bytes) where
-  pub print-cut : whole ≡ false → GoesOn p input f w (Over (Unwritten (p .event) (p .bytes + n))) input
+  pub print-cut : whole ≡ false → GoesOn p input f w (Over (record { how = Unwritten; event = p .event; bytes = p .bytes + n })) input
   print-cut h = record { room = refl; cut = λ _. rw b; on = λ e. absurd (true≢false (sym e ∙ sym a ∙ h)) }
 
   pub print-whole : {p′ : Place} {x : Next} {input′ : List ℕ} → whole ≡ true → p′ ≡ behindOf p f n → Follows p′ input (f .pause) x input′ → GoesOn p input f w x input′

@@ -8,8 +8,8 @@ ghost use Rattle.copy.specs.Copy.{Wrote};
 ghost use Rattle.event.specs.Progress.{lent};
 ghost use Rattle.reader.specs.Asked.{Roomy, Areas};
 ghost use Rattle.pyx2nt.specs.Way.{start, Ended};
-ghost use Rattle.pyx2nt.specs.Places.{firstPlace, Sums, behindOf, withMore, amount, resumedWith, finishing, Moves, Readable, Reads, Paused, Follows};
-ghost use Rattle.pyx2nt.specs.Places.{Counted, GoesOn, Stands, Turns, Made, Comes, taken};
+ghost use Rattle.pyx2nt.specs.Places.{firstPlace, Sums, behindOf, overAt, withMore, amount, resumedWith, finishing, Moves, Readable, Reads, Paused, Follows};
+ghost use Rattle.pyx2nt.specs.Places.{Counted, GoesOn, Stands, Turns, Made, Comes};
 use frames::Frame;
 use frames::Row;
 use ids::IdTable;
@@ -40,12 +40,18 @@ enum Next {
     Over(Outcome),
 }
 
-// How the program ends: with the document, at the number of its refusal, 0 for none; at a write that failed; or at a read that failed.
-// Beside it the event, the next behind those that are whole, and how many bytes of lines standard output took.
-enum Outcome {
-    Done(u8, usize, usize),
-    Unwritten(usize, usize),
-    Unread(usize, usize),
+// How the program ends; and the event, the next behind those that are whole, and how many bytes of lines standard output took.
+struct Outcome {
+    how: How,
+    event: usize,
+    bytes: usize,
+}
+
+// With the document, at the number of its refusal, 0 for none; at a write that failed; or at a read that failed.
+enum How {
+    Done(u8),
+    Unwritten,
+    Unread,
 }
 
 impl Place {
@@ -118,8 +124,19 @@ impl Place {
         match got {
             Got::Bytes(n) => Next::On(self.with(rest, n)),
             Got::End => Next::On(self.with(rest, 0)),
-            Got::Failed => Next::Over(Outcome::Unread(self.event, self.bytes)),
+            Got::Failed => self.over(How::Unread),
         }
+    }
+
+    // Here the program ends.
+    fn over(self, how: How) -> Next
+        ensures { λ n. ⌜ n ≡ overAt self how ⌝ }
+    {
+        Next::Over(Outcome {
+            how,
+            event: self.event,
+            bytes: self.bytes,
+        })
     }
 }
 
@@ -265,7 +282,11 @@ fn go_on(place: Place, fed: Fed, printed: Printed, input: &mut [u8]) -> Next
     let whole = printed.is_whole();
     let taken = printed.taken();
     if !whole {
-        return Next::Over(Outcome::Unwritten(place.event, place.bytes + taken));
+        return Next::Over(Outcome {
+            how: How::Unwritten,
+            event: place.event,
+            bytes: place.bytes + taken,
+        });
     }
     let pause = fed.pause;
     follow(place.behind(fed, taken), pause, input)
@@ -281,10 +302,10 @@ fn follow(place: Place, pause: Pause, input: &mut [u8]) -> Next
         Pause::Stop(why) => {
             let number = report::number_of(why);
             if number != 1 {
-                return Next::Over(Outcome::Done(number, place.event, place.bytes));
+                return place.over(How::Done(number));
             }
             if place.last {
-                return Next::Over(Outcome::Done(finish(place.registers), place.event, place.bytes));
+                return place.over(How::Done(finish(place.registers)));
             }
             read(place, input)
         }
@@ -327,12 +348,15 @@ fn to_front(buffer: &mut [u8], from: usize, to: usize) -> usize
 
 // The program at the end of its way: its last line, or what failed, told.
 fn end(outcome: Outcome)
-    requires { ⌜ Comes start outcome × (taken outcome < 9_223_372_036_854_775_808) ⌝ }
+    requires { ⌜ Comes start outcome × (outcome .bytes < 9_223_372_036_854_775_808) ⌝ }
 {
-    match outcome {
-        Outcome::Done(number, event, bytes) => print_last(number, event, bytes),
-        Outcome::Unwritten(event, bytes) => tell_unwritten(event, bytes),
-        Outcome::Unread(event, bytes) => streams::tell(b"pyx2nt: read failed", event - 1, bytes),
+    let event = outcome.event;
+    let bytes = outcome.bytes;
+    let how = outcome.how;
+    match how {
+        How::Done(number) => print_last(number, event, bytes),
+        How::Unwritten => tell_unwritten(event, bytes),
+        How::Unread => streams::tell(b"pyx2nt: read failed", event - 1, bytes),
     }
 }
 

@@ -4,26 +4,26 @@ use Rattle.pyx2nt.specs.Running.{end-event}
 use Rattle.pyx2nt.proofs.end.Statement.{statement}
 use Rattle.pyx2nt.proofs.end.Tie as tie
 
-enum-known-outcome : tie.Need-enum-known-outcome
-enum-known-outcome c = search needs
+enum-known-how : tie.Need-enum-known-how
+enum-known-how c = search needs
 
 print-last-requires : tie.Need-print-last-requires
-print-last-requires c κs = rw (c .before .outcome .given .1) at (c .before .before .before .pre)
+print-last-requires c κs = rw (c .before .how .given .1) at (c .before .before .before .pre)
 
-enum-known-outcome-2 : tie.Need-enum-known-outcome-2
-enum-known-outcome-2 c = search needs
+enum-told : tie.Need-enum-told
+enum-told c = search needs
 
 tell-unwritten-requires : tie.Need-tell-unwritten-requires
-tell-unwritten-requires c κs = end-event (c .before .before .before .pre .0) (c .before .outcome2 .given .1)
+tell-unwritten-requires c κs = end-event (c .before .before .args .outcome) (c .before .before .pre .0)
 
-enum-known-outcome-3 : tie.Need-enum-known-outcome-3
-enum-known-outcome-3 c = search needs
+enum-told-2 : tie.Need-enum-told-2
+enum-told-2 c = search needs
 
 slice-aggregate-tell : tie.Need-slice-aggregate-tell
 slice-aggregate-tell c = search needs
 
 sub-tell : tie.Need-sub-tell
-sub-tell c = end-event (c .before .before .before .before .pre .0) (c .before .before .outcome3 .given .1)
+sub-tell c = end-event (c .before .before .before .args .outcome) (c .before .before .before .pre .0)
 
 tell-requires : tie.Need-tell-requires
 tell-requires c κs = search needs
@@ -38,4 +38,4 @@ returns-3 : tie.Need-returns-3
 returns-3 c = search needs
 
 pub end-spec : {M : Type 1} → statement M
-end-spec = tie.close (tie.spec enum-known-outcome print-last-requires enum-known-outcome-2 tell-unwritten-requires enum-known-outcome-3 slice-aggregate-tell sub-tell tell-requires returns returns-2 returns-3)
+end-spec = tie.close (tie.spec enum-known-how print-last-requires enum-told tell-unwritten-requires enum-told-2 slice-aggregate-tell sub-tell tell-requires returns returns-2 returns-3)

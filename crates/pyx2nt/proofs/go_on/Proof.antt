@@ -11,8 +11,8 @@ is-whole-requires c κs = search needs
 taken-requires : tie.Need-taken-requires
 taken-requires c κs = search needs
 
-add-t9 : tie.Need-add-t9
-add-t9 c = search needs
+add-t10 : tie.Need-add-t10
+add-t10 c = search needs
 
 returns : tie.Need-returns
 returns c = print-cut (c .before .before .before .is-whole .ensures) (c .before .before .taken .ensures) (not-true _ (c .before .if1 .taken))
@@ -30,4 +30,4 @@ returns-2 : tie.Need-returns-2
 returns-2 c = print-whole (c .before .before .before .before .before .before .before .is-whole .ensures) (c .before .before .before .before .before .before .taken .ensures) (not-false _ (c .before .before .before .before .before .if1 .left)) (c .before .before .before .before .behind .ensures) (c .before .before .follow .ensures)
 
 pub go-on-spec : {M : Type 1} → statement M
-go-on-spec = tie.close (tie.spec is-whole-requires taken-requires add-t9 returns behind-requires follow-requires same-length returns-2)
+go-on-spec = tie.close (tie.spec is-whole-requires taken-requires add-t10 returns behind-requires follow-requires same-length returns-2)
