@@ -1,9 +1,10 @@
 #!/usr/bin/env python3
 """faults.py PYX2NT
 
-What pyx2nt does where its input or its output fails: a full device and a full disk, a limit on a file's size, streams that are closed, or open
-the wrong way, or that would have to wait, a reader that goes away, a sender that breaks off, an argument that it does not know. What was written
-must be the front of the whole output, of exactly the number of bytes that is told, and hold the lines of all events that are told as whole.
+What pyx2nt does where its input or its output fails: a full device and a full disk, a limit on a file's size, streams
+that are closed, or open the wrong way, or that would have to wait, a reader that goes away, a sender that breaks off, an
+argument that it does not know. What was written must be the front of the whole output, of exactly the number of bytes
+that is told, and hold the lines of all events that are told as whole.
 """
 import contextlib
 import fcntl
@@ -27,6 +28,9 @@ LIMIT = 100_000  # bytes of a file, no end of a line or of a block
 ROOM = 256 * 1024  # bytes of a small disk
 PATIENCE = 60
 NOT_MOUNTED = 77
+NOTHING_WRITTEN = b'pyx2nt: write failed after 0 whole events and 0 bytes: '
+NOTHING_READ = b'pyx2nt: read failed after 0 whole events and 0 bytes: '
+UNKNOWN = b'pyx2nt: unknown argument: %s; it takes none and reads standard input\n'
 TOLD = re.compile(rb'pyx2nt: (write|read) failed after (\d+) whole events and (\d+) bytes: ([^\n]*)\n')
 REFUSED = re.compile(rb'# refused (\d+) at event (\d+)\n')
 
@@ -66,8 +70,10 @@ class Tester:
     def run(self, stdin=None, stdout=None, words=(), **how):
         """Its exit status and what it said; what it wrote is in the target, unless it went elsewhere."""
         with open(self.source, 'rb') as source, open(self.target, 'wb') as target:
-            done = subprocess.run([*self.command, *words], stdin=source if stdin is None else stdin, stdout=target if stdout is None else stdout,
-                                  stderr=subprocess.PIPE, timeout=PATIENCE, **how)
+            stdin = source if stdin is None else stdin
+            stdout = target if stdout is None else stdout
+            done = subprocess.run([*self.command, *words], stdin=stdin, stdout=stdout, stderr=subprocess.PIPE,
+                                  timeout=PATIENCE, **how)
         return done.returncode, done.stderr
 
     def start(self, stdin, stdout, **how):
@@ -102,13 +108,13 @@ class Tester:
     def full_device(self):
         with open('/dev/full', 'wb') as full:
             status, said = self.run(stdout=full)
-        assert (status, said) == (0, b'pyx2nt: write failed after 0 whole events and 0 bytes: No space left on device\n'), said
+        assert (status, said) == (0, NOTHING_WRITTEN + b'No space left on device\n'), said
 
     def last_line_unwritten(self):
         """The last line fails, behind no other."""
         with open('/dev/full', 'wb') as full:
             done = subprocess.run(self.command, input=b'', stdout=full, stderr=subprocess.PIPE, timeout=PATIENCE)
-        assert done.stderr == b'pyx2nt: write failed after 0 whole events and 0 bytes: No space left on device\n', done.stderr
+        assert done.stderr == NOTHING_WRITTEN + b'No space left on device\n', done.stderr
 
     def limit_told(self):
         status, said = self.run(preexec_fn=limited(signal.SIG_IGN), restore_signals=False)
@@ -126,9 +132,11 @@ class Tester:
             raise NotTried('there is no unshare')
         disk = self.folder / 'disk'
         disk.mkdir()
-        script = f'mount -t tmpfs -o size={ROOM} none "$0" 2>/dev/null || exit {NOT_MOUNTED}; "$@" > "$0/output"; cat "$0/output"'
+        mount = f'mount -t tmpfs -o size={ROOM} none "$0" 2>/dev/null || exit {NOT_MOUNTED}'
+        script = mount + '; "$@" > "$0/output"; cat "$0/output"'
         with open(self.source, 'rb') as source:
-            done = subprocess.run(['unshare', '-rm', 'sh', '-c', script, disk, *self.command], stdin=source, capture_output=True, timeout=PATIENCE)
+            done = subprocess.run(['unshare', '-rm', 'sh', '-c', script, disk, *self.command], stdin=source,
+                                  capture_output=True, timeout=PATIENCE)
         if done.returncode:
             raise NotTried('a tmpfs may not be mounted here')
         size = self.failed(done.stderr, b'write', b'No space left on device', done.stdout)
@@ -136,7 +144,7 @@ class Tester:
 
     def closed_output(self):
         status, said = self.run(preexec_fn=lambda: os.close(1))
-        assert (status, said) == (0, b'pyx2nt: write failed after 0 whole events and 0 bytes: Bad file descriptor\n'), said
+        assert (status, said) == (0, NOTHING_WRITTEN + b'Bad file descriptor\n'), said
 
     def closed_input(self):
         self.unread(b'Bad file descriptor', preexec_fn=lambda: os.close(0))
@@ -152,7 +160,7 @@ class Tester:
     def unread(self, why, **how):
         """Nothing could be read: no line of a refusal either."""
         status, said = self.run(**how)
-        assert (status, said) == (0, b'pyx2nt: read failed after 0 whole events and 0 bytes: ' + why + b'\n'), said
+        assert (status, said) == (0, NOTHING_READ + why + b'\n'), said
         assert self.target.read_bytes() == b''
 
     def slow_reader(self):
@@ -199,14 +207,16 @@ class Tester:
         assert self.whole.startswith(out)
 
     def gone_told(self):
-        out, said, status = self.gone(preexec_fn=lambda: signal.signal(signal.SIGPIPE, signal.SIG_IGN), restore_signals=False)
+        ignoring = lambda: signal.signal(signal.SIGPIPE, signal.SIG_IGN)
+        out, said, status = self.gone(preexec_fn=ignoring, restore_signals=False)
         told = TOLD.fullmatch(said)
         assert told and (told[1], told[4], status) == (b'write', b'Broken pipe', 0), said
         assert len(out) <= int(told[3]) < len(self.whole), said
         assert self.whole[:int(told[3])].startswith(self.lines_of(int(told[2])) if int(told[2]) else b''), said
 
     def broken_off(self):
-        """The sender breaks off in the middle: a socket whose other end is closed with bytes unread fails behind those that it still holds."""
+        """The sender breaks off in the middle: a socket whose other end is closed with bytes unread fails behind those
+        that it still holds."""
         ours, theirs = socket.socketpair()
         theirs.sendall(b'unread')
         with open(self.target, 'wb') as target:
@@ -220,7 +230,7 @@ class Tester:
 
     def argument(self, word, shown):
         status, said = self.run(words=[word])
-        assert (status, said) == (0, b'pyx2nt: unknown argument: ' + shown + b'; it takes none and reads standard input\n'), said
+        assert (status, said) == (0, UNKNOWN % shown), said
         assert self.target.read_bytes() == b''
 
     def unknown_argument(self):

@@ -21,8 +21,8 @@ use state::Registers;
 use streams::Got;
 use streams::Printed;
 
-// Where the program stands: what is behind the events so far, the number of the next one, how many bytes of lines standard output took, which
-// bytes of the input are at hand, and whether no more follow.
+// Where the program stands: what is behind the events so far, the number of the next one, how many bytes of lines
+// standard output took, which bytes of the input are at hand, and whether no more follow.
 struct Place {
     registers: Registers,
     count: usize,
@@ -40,7 +40,8 @@ enum Next {
     Over(Outcome),
 }
 
-// How the program ends; and the event, the next behind those that are whole, and how many bytes of lines standard output took.
+// How the program ends; and the event, the next behind those that are whole, and how many bytes of lines standard
+// output took.
 struct Outcome {
     how: How,
     event: usize,

@@ -4,7 +4,7 @@ use mathlib.Core.Path.{_≡_, refl, sym, ap, _∙_}
 use mathlib.Core.Bool.{Bool, true, false, true≢false}
 use native.Mathlib.Nat.{min-le-right}
 use native.Mathlib.Omega.{arith}
-use lib.Dec.{T, ltb}
+use lib.Dec.{T}
 use lib.IntN.{ℤ, pos, negsuc, natAbs}
 use lib.Signed.{leZ, nonNeg}
 use mir.Syntax.{w32, w64}
@@ -16,20 +16,23 @@ use Rattle.streams.specs.declared.Moved.the-variants.{Bytes, Later, Fail
 use Rattle.streams.specs.declared.Got.{Got}
 use Rattle.streams.specs.declared.Got.the-variants as got
 use Rattle.streams.specs.declared.Printed.{Printed}
-use Rattle.streams.specs.Answers.{eintr, eagain, passing, unmoved, movedOf, AtMost, waitsFor, bytesOf, printedOf, Prints, gotOf, Fills}
+use Rattle.streams.specs.Answers.{eintr, eagain, passing, unmoved, movedOf, AtMost, waitsFor}
+use Rattle.streams.specs.Answers.{bytesOf, printedOf, Prints, gotOf, Fills}
 
 -- ---- the answer
 
 module _ {got : ℤ} (f : SFits w64 got) where
   -- from 0 on
-  pub some-cast : leZ (pos 0) (toZ w64 (ofZ w64 got)) ≡ true → T (nonNeg (toZ w64 (ofZ w64 got))) × Fits w64 (natAbs (toZ w64 (ofZ w64 got)))
+  pub some-cast : leZ (pos 0) (toZ w64 (ofZ w64 got)) ≡ true
+      → T (nonNeg (toZ w64 (ofZ w64 got))) × Fits w64 (natAbs (toZ w64 (ofZ w64 got)))
   some-cast h = rw (toZ-ofZ w64 got f) (go got f (rw (toZ-ofZ w64 got f) at h))
     where
       go : (z : ℤ) → SFits w64 z → leZ (pos 0) z ≡ true → T (nonNeg z) × Fits w64 (natAbs z)
       go (pos n) b e = (tt, record { fits = omega (arith, b .sfits) })
       go (negsuc n) b e = absurd (true≢false (sym e))
 
-  pub some-moved : (error : ℤ) (most : ℕ) {n : ℕ} → leZ (pos 0) (toZ w64 (ofZ w64 got)) ≡ true → n ≡ min (natAbs (toZ w64 (ofZ w64 got))) most → Bytes n ≡ movedOf got error most
+  pub some-moved : (error : ℤ) (most : ℕ) {n : ℕ} → leZ (pos 0) (toZ w64 (ofZ w64 got)) ≡ true
+      → n ≡ min (natAbs (toZ w64 (ofZ w64 got))) most → Bytes n ≡ movedOf got error most
   unfolding movedOf
   some-moved error most {n} h e = go got (rw (toZ-ofZ w64 got f) at h) (rw (toZ-ofZ w64 got f) at e)
     where
@@ -38,7 +41,8 @@ module _ {got : ℤ} (f : SFits w64 got) where
       go (negsuc k) b q = absurd (true≢false (sym b))
 
   -- below 0: by errno
-  pub none-moved : (error : ℤ) (most : ℕ) {b : Bool} → leZ (pos 0) (toZ w64 (ofZ w64 got)) ≡ false → passing error ≡ b → unmoved b ≡ movedOf got error most
+  pub none-moved : (error : ℤ) (most : ℕ) {b : Bool} → leZ (pos 0) (toZ w64 (ofZ w64 got)) ≡ false
+      → passing error ≡ b → unmoved b ≡ movedOf got error most
   unfolding movedOf
   none-moved error most h e = rw (← e) (go got (rw (toZ-ofZ w64 got f) at h))
     where

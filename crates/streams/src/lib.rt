@@ -1,4 +1,5 @@
-// Standard input and output of a program: what a call answered, tried again where nothing could be moved yet, told where it failed.
+// Standard input and output of a program: what a call answered, tried again where nothing could be moved yet, told
+// where it failed.
 ghost use Prim.Native.Nat.{_+_, _≤_, min};
 ghost use mathlib.Core.Path.{_≡_};
 ghost use mathlib.Core.List.{_++_};
@@ -21,7 +22,8 @@ const WHAT: usize = 64;
 // The most of an argument that is told.
 const WORD: usize = 256;
 
-// What a call that moves bytes came to: so many; none yet, and it is to be tried again; or it failed, and errno says why.
+// What a call that moves bytes came to: so many; none yet, and it is to be tried again; or it failed, and errno says
+// why.
 pub enum Moved {
     Bytes(usize),
     Later,
@@ -35,7 +37,8 @@ pub enum Got {
     Failed,
 }
 
-// How many bytes of a text standard output took, and whether these are all. Only `print` makes one: its fields are its own.
+// How many bytes of a text standard output took, and whether these are all. Only `print` makes one: its fields are
+// its own.
 pub struct Printed {
     whole: bool,
     bytes: usize,
@@ -45,7 +48,8 @@ impl Moved {
     // A proved loop has to end, and nothing says that a byte can be moved at last: more tries than any run makes.
     const TRIES: usize = 17_592_186_044_416;
 
-    // By what a call answered that was lent `most` bytes, and by errno: one that was interrupted, or would have had to wait, is tried again.
+    // By what a call answered that was lent `most` bytes, and by errno: one that was interrupted, or would have had to
+    // wait, is tried again.
     pub fn of(got: isize, error: i32, most: usize) -> Self
         ensures { λ r. ⌜ r ≡ movedOf got error most ⌝ }
     {
@@ -72,7 +76,8 @@ impl Moved {
         }
     }
 
-    // How many bytes a write took. None is a failure, whatever the call answered: of a text that has bytes it could be tried for ever.
+    // How many bytes a write took. None is a failure, whatever the call answered: of a text that has bytes it could be
+    // tried for ever.
     fn bytes(self) -> usize
         ensures { λ n. ⌜ n ≡ bytesOf self ⌝ }
     {
@@ -189,8 +194,8 @@ fn try_read(into: &mut [u8]) -> Moved
     Moved::of(got, os::errno(), into.len())
 }
 
-// One line on standard error: what failed, after how many whole events and bytes, and errno's text. Errno is still that of the call that
-// failed, so no other call of C stands in between.
+// One line on standard error: what failed, after how many whole events and bytes, and errno's text. Errno is that of
+// the call that failed as long as no other call of C stands in between.
 pub fn tell(what: &[u8], events: usize, bytes: usize) {
     let mut line = [0u8; LINE];
     let most = least(what.len(), WHAT);

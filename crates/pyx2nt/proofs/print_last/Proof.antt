@@ -1,8 +1,7 @@
 -- `pyx2nt::print_last` is safe: the line is no longer than what is lent for it, and its bytes can be counted.
-use native.Mathlib.Omega.{arith}
+use mathlib.Core.Path.{refl}
 use borrow.Author.Needs.{needs}
 use Rattle.streams.specs.Telling.{line-size}
-use mathlib.Core.Path.{refl}
 use Rattle.pyx2nt.specs.LastLine.{last-counted}
 use Rattle.pyx2nt.proofs.print_last.Statement.{statement}
 use Rattle.pyx2nt.proofs.print_last.Tie as tie
