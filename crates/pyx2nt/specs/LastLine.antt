@@ -1,26 +1,20 @@
 -- The last line: two texts with a number behind each, and a line end.
-use Prim.Native.Nat.{ℕ, zero, suc, _+_, _-_, _≤_}
-use mathlib.Core.Path.{_≡_, refl, sym, _∙_}
+use Prim.Native.Nat.{ℕ, zero, suc, _+_, _≤_, _<_}
+use mathlib.Core.Path.{_≡_, refl}
 use mathlib.Core.Bool.{Bool}
 use mathlib.Core.List.{List, _++_, append-assoc}
 use native.Mathlib.Omega.{arith}
-use lib.ListN.{length, take, drop, length-append, length-drop}
+use lib.ListN.{length, take, length-append}
 use lib.Seq.{length-take-le}
+use mir.Syntax.{w64}
+use mir.Val.{Fits}
 use Rattle.spec.specs.Bytes.{Bytes, ascii}
 use Rattle.spec.specs.NTriples.{decimal}
 use Rattle.spec.specs.Pyx2nt.{lastLine}
-use Rattle.copy.specs.Copy.{Put, Wrote, then, wrote-none, put-fits, rest-of, wrote-same}
-use Rattle.label.specs.Digits.{Decimals, length-decimal}
-
--- a text, and the digits of a number behind it
-pub number-put : {d e f : List ℕ} {at : ℕ} {s : Bytes} {v : ℕ} {ds : List ℕ} {from : ℕ} {r q : Bool} → at + length s + 20 ≤ length d → Decimals v ds from
-    → Put d at s e r → Put e (at + length s) (take (20 - from) (drop from ds)) f q → Wrote d f at (at + length s + (20 - from)) (s ++ decimal v)
-number-put {d} {e} {f} {at} {s} {v} {ds} {from} h n p k =
-    let digits : take (20 - from) (drop from ds) ≡ decimal v = rw (← n .size) (rest-of ds from) ∙ n .text in
-    let size : 20 - from ≡ length (decimal v) = rw (← n .size, ← n .text) (sym (length-drop from ds)) in
-    let w = put-fits p (omega arith) in
-    let x = put-fits (rw digits at k) (omega (arith, p .same, length-decimal v)) in
-    rw size (then w x)
+use Rattle.copy.specs.Copy.{Put, Wrote, then, wrote-none, put-fits, wrote-same}
+use Rattle.label.specs.Digits.{length-decimal}
+use Rattle.streams.specs.declared.Printed.{Printed}
+use Rattle.streams.specs.Answers.{Prints}
 
 -- no refusal, no line
 pub no-line : (d : List ℕ) (n k : ℕ) → n ≡ 0 → Wrote d d 0 0 (lastLine n k)
@@ -42,6 +36,8 @@ line-made {d} {e} {f} {g} {m} {to} (suc n) k h some w x p =
     let y = put-fits p (omega (arith, w .up, x .up, wrote-same w, wrote-same x)) in
     simp append-assoc at (then w (then x y))
 
--- what is to be printed of it
-pub line-size : {d e : List ℕ} {to : ℕ} {s : Bytes} → Wrote d e 0 to s → to ≡ length (take to e)
-line-size {e = e} {to = to} w = sym (length-take-le to e (omega (arith, wrote-same w, w .up, w .room)))
+-- the bytes of the line that were taken, behind those of the lines before it, fit a word
+pub last-counted : {d e : List ℕ} {to n b : ℕ} {s : Bytes} {w : Printed} → length d ≡ 64 → Wrote d e 0 to s → Prints (length (take to e)) w → n ≡ w .bytes
+    → b < 9_223_372_036_854_775_808 → Fits w64 (b + n)
+last-counted {d} {e} {to} h v p q k =
+    record { fits = omega (arith, p .fewer, length-take-le to e (omega (arith, wrote-same v, v .up, v .room)), v .up, v .room) }

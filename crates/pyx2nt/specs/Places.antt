@@ -19,28 +19,59 @@ use Rattle.report.specs.declared.fed.Pause.{Pause}
 use Rattle.report.specs.declared.fed.Pause.the-variants.{Full, Stop}
 use Rattle.report.specs.declared.fed.Fed.{Fed}
 use Rattle.report.specs.Meaning.{overIn}
+use Rattle.streams.specs.declared.Got.{Got}
+use Rattle.streams.specs.declared.Got.the-variants as got
+use Rattle.streams.specs.declared.Printed.{Printed}
 use Rattle.pyx2nt.specs.declared.Place.{Place}
 use Rattle.pyx2nt.specs.declared.Next.{Next}
 use Rattle.pyx2nt.specs.declared.Next.the-variants.{On, Over}
-use Rattle.pyx2nt.specs.Way.{Spot, spot, Leads, Ended}
+use Rattle.pyx2nt.specs.declared.Outcome.{Outcome}
+use Rattle.pyx2nt.specs.declared.How.{How}
+use Rattle.pyx2nt.specs.declared.How.the-variants.{Done, Unwritten, Unread}
+use Rattle.pyx2nt.specs.Way.{Spot, spot, start, Leads, Ended, Cut, Unfinished}
 
 -- ---- places
 
 abbrev pub firstPlace : Place
-firstPlace = record { registers = startedWith false 0; count = 0; used = 0; event = 1; from = 0; to = 0; last = false }
+firstPlace = record { registers = startedWith false 0; count = 0; used = 0; event = 1; bytes = 0; from = 0; to = 0; last = false }
 
--- behind the events that were done; the sums fit a word
-abbrev pub behindOf : Place → Fed → Place
-behindOf p f =
-    record { registers = f .registers; count = f .count; used = f .used; event = p .event + f .events; from = p .from + f .consumed; to = p .to; last = p .last }
+-- behind the events that were done, with n bytes of their lines taken; the sums fit a word
+abbrev pub behindOf : Place → Fed → ℕ → Place
+behindOf p f n =
+    record {
+      registers = f .registers;
+      count = f .count;
+      used = f .used;
+      event = p .event + f .events;
+      bytes = p .bytes + n;
+      from = p .from + f .consumed;
+      to = p .to;
+      last = p .last;
+    }
 
-pub record Sums (p : Place) (f : Fed) : Type 0 where
+pub record Sums (p : Place) (f : Fed) (n : ℕ) : Type 0 where
   pub event : p .event + f .events < 18_446_744_073_709_551_616
+  pub bytes : p .bytes + n < 18_446_744_073_709_551_616
   pub from : p .from + f .consumed < 18_446_744_073_709_551_616
 
 -- with n bytes of the rest at the front, and m more
 abbrev pub withMore : Place → ℕ → ℕ → Place
-withMore p n m = record { registers = p .registers; count = p .count; used = p .used; event = p .event; from = 0; to = n + m; last = eqb m 0 }
+withMore p n m = record { registers = p .registers; count = p .count; used = p .used; event = p .event; bytes = p .bytes; from = 0; to = n + m; last = eqb m 0 }
+
+-- here the program ends
+abbrev pub overAt : Place → How → Next
+overAt p how = Over (record { how = how; event = p .event; bytes = p .bytes })
+
+-- behind a read: how many bytes it gave, and where the program goes on. One that failed is not the end of the input
+abbrev pub amount : Got → ℕ
+amount (got.Bytes n) = n
+amount got.End = 0
+amount got.Failed = 0
+
+abbrev pub resumedWith : Place → ℕ → Got → Next
+resumedWith p n (got.Bytes m) = On (withMore p n m)
+resumedWith p n got.End = On (withMore p n 0)
+resumedWith p n got.Failed = overAt p Unread
 
 -- the bytes at hand, and how many they are
 abbrev pub sizeAt : Place → ℕ
@@ -51,7 +82,7 @@ restAt p input = part input (p .from) (sizeAt p)
 
 -- where the program stands on its way
 abbrev pub spotAt : Place → Lent → List ℕ → Spot
-spotAt p l input = spot (p .event) (p .last) (restAt p input) (docIn (p .registers) (p .count) l)
+spotAt p l input = spot (p .event) (p .bytes) (p .last) (restAt p input) (docIn (p .registers) (p .count) l)
 
 -- the number of the refusal of a document that is over, 0 for none
 abbrev pub finishing : Registers → ℕ
@@ -75,11 +106,11 @@ pub record Readable (p : Place) (input : List ℕ) : Type 0 where
   pub rest : Within p input
   pub block : sizeAt p + 65_536 ≤ length input
 
--- so many bytes were read, behind the rest
-pub record Reads (p : Place) (input : List ℕ) (p′ : Place) (input′ : List ℕ) : Type 0 where
-  pub got : ℕ
-  pub place : p′ ≡ withMore p (sizeAt p) got
-  pub fits : sizeAt p + got ≤ length input
+-- what a read gave, behind the rest
+pub record Reads (p : Place) (input : List ℕ) (n : Next) (input′ : List ℕ) : Type 0 where
+  pub got : Got
+  pub next : n ≡ resumedWith p (sizeAt p) got
+  pub fits : sizeAt p + amount got ≤ length input
   pub room : length input′ ≡ length input
   pub rest : take (sizeAt p) input′ ≡ restAt p input
 
@@ -93,10 +124,23 @@ pub data Follows (p : Place) (input : List ℕ) : Pause → Next → List ℕ �
   -- the next events
   on : Follows p input Full (On p) input
   -- more input
-  more : {p′ : Place} {input′ : List ℕ} → p .last ≡ false → Reads p input p′ input′ → Follows p input (Stop Incomplete) (On p′) input′
+  more : {n : Next} {input′ : List ℕ} → p .last ≡ false → Reads p input n input′ → Follows p input (Stop Incomplete) n input′
   -- the end: of the input, or by a refusal
-  over : p .last ≡ true → Follows p input (Stop Incomplete) (Over (finishing (p .registers)) (p .event)) input
-  refused : {why : Refusal} → (why ≡ Incomplete → ⊥) → Follows p input (Stop why) (Over (number why) (p .event)) input
+  over : p .last ≡ true → Follows p input (Stop Incomplete) (overAt p (Done (finishing (p .registers)))) input
+  refused : {why : Refusal} → (why ≡ Incomplete → ⊥) → Follows p input (Stop why) (overAt p (Done (number why))) input
+
+-- ---- what follows a print of the lines
+
+-- the events that were done can be counted, with the bytes of their lines that were taken, and what follows is at hand
+pub record Counted (p : Place) (f : Fed) (w : Printed) (input : List ℕ) : Type 0 where
+  pub sums : Sums p f (w .bytes)
+  pub paused : Paused (behindOf p f (w .bytes)) (f .pause) input
+
+-- a write that failed is the end; after one that took all the program goes on
+pub record GoesOn (p : Place) (input : List ℕ) (f : Fed) (w : Printed) (n : Next) (input′ : List ℕ) : Type 0 where
+  pub room : length input′ ≡ length input
+  pub cut : w .whole ≡ false → n ≡ Over (record { how = Unwritten; event = p .event; bytes = p .bytes + w .bytes })
+  pub on : w .whole ≡ true → Follows (behindOf p f (w .bytes)) input (f .pause) n input′
 
 -- ---- a turn
 
@@ -109,14 +153,19 @@ pub record Made (l : Lent) (input : List ℕ) : Type 0 where
   pub places : length (l .places) ≡ 512
   pub sizes : length (l .sizes) ≡ 512
   pub ids : length (l .ids) ≡ 32_768
+  pub out : length (l .out) ≡ 131_072
   pub buffer : length input ≡ 131_072
 
--- where a turn can begin: the document is open, what is at hand lies in the input, and the events can be counted
+-- where a turn can begin: on the way from the start, with all lines so far taken; the document is open, what is at hand lies in the input, and the
+-- events and bytes can be counted
 pub record Stands (p : Place) (l : Lent) (input : List ℕ) : Type 0 where
+  pub way : Leads start (spotAt p l input)
   pub asks : Asks (p .registers) (p .count) (p .used) l
   pub rest : Within p input
   pub size : length input ≡ 131_072
+  pub room : length (l .out) ≡ 131_072
   pub event : p .event < 9_223_372_036_854_775_808
+  pub bytes : p .bytes < 9_223_372_036_854_775_808
 
 -- the same lengths
 pub record Lengths (l : Lent) (input : List ℕ) (l′ : Lent) (input′ : List ℕ) : Type 0 where
@@ -128,11 +177,24 @@ pub record Lengths (l : Lent) (input : List ℕ) (l′ : Lent) (input′ : List 
   pub out : length (l′ .out) ≡ length (l .out)
   pub buffer : length input′ ≡ length input
 
--- it leads to a next place, behind no more events than the input has bytes, or to the end
+-- what the program comes to from somewhere
+abbrev pub ComesBy : Spot → How → ℕ → ℕ → Type 0
+ComesBy s (Done n) k b = Ended s n k b
+ComesBy s Unwritten k b = Cut s k b
+ComesBy s Unread k b = Unfinished s k b
+
+abbrev pub Comes : Spot → Outcome → Type 0
+Comes s o = ComesBy s (o .how) (o .event) (o .bytes)
+
+-- a turn leads to a next place, behind no more events than the input has bytes and no more bytes than the output, or to the end
 abbrev pub Cases : Place → Lent → List ℕ → Next → Lent → List ℕ → Type 0
 Cases p l input (On p′) l′ input′ =
-    Asks (p′ .registers) (p′ .count) (p′ .used) l′ × Within p′ input′ × (p′ .event ≤ p .event + 131_072) × Leads (spotAt p l input) (spotAt p′ l′ input′)
-Cases p l input (Over n k) l′ input′ = Ended (spotAt p l input) n k
+    Asks (p′ .registers) (p′ .count) (p′ .used) l′
+    × Within p′ input′
+    × (p′ .event ≤ p .event + 131_072)
+    × (p′ .bytes ≤ p .bytes + 131_072)
+    × Leads (spotAt p l input) (spotAt p′ l′ input′)
+Cases p l input (Over o) l′ input′ = Comes (spotAt p l input) o × (o .bytes ≤ p .bytes + 131_072)
 
 pub record Turns (p : Place) (l : Lent) (input : List ℕ) (n : Next) (l′ : Lent) (input′ : List ℕ) : Type 0 where
   pub lengths : Lengths l input l′ input′

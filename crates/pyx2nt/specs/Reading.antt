@@ -8,8 +8,12 @@ use native.Mathlib.Omega.{arith}
 use lib.ListN.{length, take, drop, getD, set, length-drop, length-set}
 use lib.Seq.{take-suc, drop-drop, drop-set-lt, take-suc-set, getD-drop}
 use Rattle.copy.specs.Copy.{part, rest-of}
+use Rattle.streams.specs.declared.Got.{Got}
+use Rattle.streams.specs.declared.Got.the-variants as got
+use Rattle.streams.specs.Answers.{Fills}
 use Rattle.pyx2nt.specs.declared.Place.{Place}
-use Rattle.pyx2nt.specs.Places.{withMore, Moves, Within, Reads}
+use Rattle.pyx2nt.specs.declared.Next.{Next}
+use Rattle.pyx2nt.specs.Places.{amount, resumedWith, Moves, Within, Reads}
 
 -- ---- the loop that moves: i bytes are at the front, and those behind them are as they were
 
@@ -47,14 +51,28 @@ module _ {b : List ℕ} {from to : ℕ} (h : to ≤ length b) where
 
 -- ---- a block read behind what was moved
 
-pub reads : {p p′ : Place} {b b′ e : List ℕ} {n m : ℕ} → Within p b → Moves b (p .from) (p .to) b′ n → length e ≡ length b → take n e ≡ take n b′
-    → m ≤ length (take (length e - n) (drop n e)) → p′ ≡ withMore p n m → Reads p b p′ e
-reads {p} {p′} {b} {b′} {e} {n} {m} h v room first k q =
-    let fits : m ≤ length b - n = rw (rest-of e n, length-drop, room) at k in
+-- what a read gives has room
+pub amount-fits : {room : ℕ} (g : Got) → Fills room g → amount g ≤ room
+unfolding Fills
+amount-fits (got.Bytes n) h = h .1
+amount-fits got.End h = omega arith
+amount-fits got.Failed h = omega arith
+
+pub reads : {p : Place} {x : Next} {b b′ e : List ℕ} {n : ℕ} (g : Got) → Within p b → Moves b (p .from) (p .to) b′ n → length e ≡ length b → take n e ≡ take n b′
+    → Fills (length (take (length b′ - n) (drop n b′))) g → x ≡ resumedWith p n g → Reads p b x e
+reads {p} {x} {b} {b′} {e} {n} g h v room first k q =
+    let fits : amount g ≤ length b - n = rw (rest-of b′ n, length-drop, v .room) at (amount-fits g k) in
     record {
-      got = m;
-      place = rw (← v .size) q;
+      got = g;
+      next = rw (← v .size) q;
       fits = omega (arith, v .size, h .within);
       room = room;
       rest = rw (← v .size) (first ∙ v .front);
     }
+
+-- and is counted
+pub block-fits : {b b′ : List ℕ} {from to n : ℕ} (g : Got) → Moves b from to b′ n → to ≤ length b → Fills (length (take (length b′ - n) (drop n b′))) g
+    → n + amount g ≤ length b
+block-fits {b} {b′} {from} {to} {n} g v h k =
+    let fits : amount g ≤ length b - n = rw (rest-of b′ n, length-drop, v .room) at (amount-fits g k) in
+    omega (arith, v .size)

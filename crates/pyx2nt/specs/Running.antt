@@ -14,15 +14,20 @@ use Rattle.reader.specs.Asked.{Asks}
 use Rattle.pyx2nt.specs.declared.Place.{Place}
 use Rattle.pyx2nt.specs.declared.Next.{Next}
 use Rattle.pyx2nt.specs.declared.Next.the-variants.{On, Over}
-use Rattle.pyx2nt.specs.Way.{start, Leads, Ended, leads-here, leads-then, leads-end}
-use Rattle.pyx2nt.specs.Places.{firstPlace, spotAt, Within, Made, Stands, Lengths, Cases, Turns}
+use Rattle.pyx2nt.specs.declared.Outcome.{Outcome}
+use Rattle.pyx2nt.specs.declared.How.{How}
+use Rattle.pyx2nt.specs.declared.How.the-variants.{Done, Unwritten, Unread}
+use Rattle.pyx2nt.specs.Way.{Spot, start, Leads, leads-here, leads-then, leads-end, leads-cut, leads-unfinished}
+use Rattle.pyx2nt.specs.Places.{firstPlace, spotAt, Within, Made, Stands, Lengths, ComesBy, Comes, Cases, Turns}
 
--- the turns that are left bound the events to come
+-- the turns that are left bound the events and bytes to come
 pub record Running (p : Place) (turns : ℕ) (l : Lent) (input : List ℕ) : Type 0 where
   pub asks : Asks (p .registers) (p .count) (p .used) l
   pub rest : Within p input
   pub size : length input ≡ 131_072
+  pub room : length (l .out) ≡ 131_072
   pub counted : p .event + turns * 131_072 ≤ 2_305_843_009_213_693_953
+  pub measured : p .bytes + turns * 131_072 ≤ 2_305_843_009_213_693_952
   pub leads : Leads start (spotAt p l input)
 
 -- ---- lengths
@@ -62,15 +67,40 @@ running-begins {l = l} {input = input} e m =
       };
       rest = record { upto = omega arith; within = omega arith };
       size = m .buffer;
+      room = m .out;
       counted = omega arith;
+      measured = omega arith;
       leads = rw (started-means false 0 (l .frames) (l .bindings) (l .inners) (l .work)) leads-here;
     })
 
 -- ---- from turn to turn
 
+leads-comes : {s t : Spot} (how : How) (k b : ℕ) → Leads s t → ComesBy t how k b → ComesBy s how k b
+leads-comes (Done n) k b p q = leads-end p q
+leads-comes Unwritten k b p q = leads-cut p q
+leads-comes Unread k b p q = leads-unfinished p q
+
+-- events are counted from 1
+some-event : (how : How) (k b : ℕ) → ComesBy start how k b → 0 < k
+some-event (Done n) k b h = omega (arith, h .later)
+some-event Unwritten k b h = omega (arith, h .event, h .way .later)
+some-event Unread k b h = omega (arith, h .event, h .way .later)
+
+pub end-event : (o : Outcome) → Comes start o → 0 < o .event
+end-event o h = some-event (o .how) (o .event) (o .bytes) h
+
 module _ {p : Place} {turns : ℕ} {l : Lent} {input : List ℕ} (r : Running p turns l input) where
   pub running-stands : 0 < turns → Stands p l input
-  running-stands h = record { asks = r .asks; rest = r .rest; size = r .size; event = omega (arith, r .counted) }
+  running-stands h =
+      record {
+        way = r .leads;
+        asks = r .asks;
+        rest = r .rest;
+        size = r .size;
+        room = r .room;
+        event = omega (arith, r .counted);
+        bytes = omega (arith, r .measured);
+      }
 
   module _ {n : Next} {l′ : Lent} {input′ : List ℕ} (t : Turns p l input n l′ input′) where
     pub running-on : {p′ : Place} → 0 < turns → n ≡ On p′ → Running p′ (turns - 1) l′ input′
@@ -80,13 +110,17 @@ module _ {p : Place} {turns : ℕ} {l : Lent} {input : List ℕ} (r : Running p 
           asks = x .0;
           rest = x .1;
           size = t .lengths .buffer ∙ r .size;
+          room = t .lengths .out ∙ r .room;
           counted = omega (arith, r .counted, x .2);
-          leads = leads-then (r .leads) (x .3);
+          measured = omega (arith, r .measured, x .3);
+          leads = leads-then (r .leads) (x .4);
         }
 
-    -- its last line is that of a way from the start
-    pub running-ends : {m k : ℕ} → n ≡ Over m k → Ended start m k
-    running-ends {m} {k} e = let x : Cases p l input (Over m k) l′ input′ = rw e at (t .cases) in leads-end (r .leads) x
+    -- what it comes to is the end of a way from the start
+    pub running-ends : {o : Outcome} → 0 < turns → n ≡ Over o → Comes start o × (o .bytes < 9_223_372_036_854_775_808)
+    running-ends {o} h e =
+        let x : Cases p l input (Over o) l′ input′ = rw e at (t .cases) in
+        (leads-comes (o .how) (o .event) (o .bytes) (r .leads) (x .0), omega (arith, r .measured, x .1))
 
 -- ---- arrays of their own
 
@@ -100,5 +134,6 @@ made =
       places = length-replicate {A = ℕ} 512 0;
       sizes = length-replicate {A = ℕ} 512 0;
       ids = length-replicate {A = ℕ} 32_768 0;
+      out = length-replicate {A = ℕ} 131_072 0;
       buffer = length-replicate {A = ℕ} 131_072 0;
     }

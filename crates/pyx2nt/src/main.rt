@@ -1,43 +1,58 @@
 // PYX from standard input, N-Triples to standard output, as they come; after a refusal one last line, which says its number and event.
+// The first write or read that fails ends the program, and one line on standard error says which, and behind how much.
 ghost use Prim.Native.Nat.{_+_, _≤_, _<_};
 ghost use mathlib.Core.Path.{_≡_};
-ghost use mathlib.Core.List.{_++_};
 ghost use lib.ListN.{length};
-ghost use Rattle.spec.specs.NTriples.{decimal};
 ghost use Rattle.spec.specs.Pyx2nt.{lastLine};
 ghost use Rattle.copy.specs.Copy.{Wrote};
 ghost use Rattle.event.specs.Progress.{lent};
 ghost use Rattle.reader.specs.Asked.{Roomy, Areas};
 ghost use Rattle.pyx2nt.specs.Way.{start, Ended};
-ghost use Rattle.pyx2nt.specs.Places.{firstPlace, Sums, behindOf, withMore, finishing, Moves, Readable, Reads, Paused, Follows, Stands, Turns, Made};
+ghost use Rattle.pyx2nt.specs.Places.{firstPlace, Sums, behindOf, overAt, withMore, amount, resumedWith, finishing, Moves, Readable, Reads, Paused, Follows};
+ghost use Rattle.pyx2nt.specs.Places.{Counted, GoesOn, Stands, Turns, Made, Comes};
 use frames::Frame;
 use frames::Row;
 use ids::IdTable;
-use label::Decimal;
-use libc::STDIN_FILENO;
-use libc::STDOUT_FILENO;
 use reader::stream::Taken;
 use report::fed::Fed;
 use report::fed::Pause;
 use spec::Refusal;
 use state::Registers;
+use streams::Got;
+use streams::Printed;
 
-// Where the program stands: what is behind the events so far, the number of the next one, which bytes of the input are at hand, and whether
-// no more follow.
+// Where the program stands: what is behind the events so far, the number of the next one, how many bytes of lines
+// standard output took, which bytes of the input are at hand, and whether no more follow.
 struct Place {
     registers: Registers,
     count: usize,
     used: usize,
     event: usize,
+    bytes: usize,
     from: usize,
     to: usize,
     last: bool,
 }
 
-// Where the program goes on; or it is over, and this is the number of its refusal, 0 for none, and the event.
+// Where the program goes on; or it is over.
 enum Next {
     On(Place),
-    Over(u8, usize),
+    Over(Outcome),
+}
+
+// How the program ends; and the event, the next behind those that are whole, and how many bytes of lines standard
+// output took.
+struct Outcome {
+    how: How,
+    event: usize,
+    bytes: usize,
+}
+
+// With the document, at the number of its refusal, 0 for none; at a write that failed; or at a read that failed.
+enum How {
+    Done(u8),
+    Unwritten,
+    Unread,
 }
 
 impl Place {
@@ -59,16 +74,17 @@ impl Place {
             count: 0,
             used: 0,
             event: 1,
+            bytes: 0,
             from: 0,
             to: 0,
             last: false,
         }
     }
 
-    // Behind the events that were done.
-    fn behind(self, fed: Fed) -> Self
-        requires { ⌜ Sums self fed ⌝ }
-        ensures { λ p. ⌜ p ≡ behindOf self fed ⌝ }
+    // Behind the events that were done, with so many bytes of their lines taken.
+    fn behind(self, fed: Fed, taken: usize) -> Self
+        requires { ⌜ Sums self fed taken ⌝ }
+        ensures { λ p. ⌜ p ≡ behindOf self fed taken ⌝ }
     {
         let registers = fed.registers;
         Place {
@@ -76,6 +92,7 @@ impl Place {
             count: fed.count,
             used: fed.used,
             event: self.event + fed.events,
+            bytes: self.bytes + taken,
             from: self.from + fed.consumed,
             to: self.to,
             last: self.last,
@@ -93,14 +110,47 @@ impl Place {
             count: self.count,
             used: self.used,
             event: self.event,
+            bytes: self.bytes,
             from: 0,
             to: rest + got,
             last: got == 0,
         }
     }
+
+    // What follows a read. One that failed is not the end of the input.
+    fn resumed(self, rest: usize, got: Got) -> Next
+        requires { ⌜ rest + amount got < 18_446_744_073_709_551_616 ⌝ }
+        ensures { λ n. ⌜ n ≡ resumedWith self rest got ⌝ }
+    {
+        match got {
+            Got::Bytes(n) => Next::On(self.with(rest, n)),
+            Got::End => Next::On(self.with(rest, 0)),
+            Got::Failed => self.over(How::Unread),
+        }
+    }
+
+    // Here the program ends.
+    fn over(self, how: How) -> Next
+        ensures { λ n. ⌜ n ≡ overAt self how ⌝ }
+    {
+        Next::Over(Outcome {
+            how,
+            event: self.event,
+            bytes: self.bytes,
+        })
+    }
 }
 
 fn main() {
+    if os::arg_count() > 1 {
+        streams::tell_unknown(b"pyx2nt", 1, b"it takes none and reads standard input");
+        return;
+    }
+    convert();
+}
+
+// A document, over tables, stores and buffers of its own.
+fn convert() {
     let mut frames = [0u32; Frame::TABLE];
     let mut bindings = [0u32; Row::BINDINGS];
     let mut inners = [0u32; Row::INNERS];
@@ -167,8 +217,8 @@ fn run(
         );
         match next {
             Next::On(p) => place = p,
-            Next::Over(number, event) => {
-                end(number, event);
+            Next::Over(outcome) => {
+                end(outcome);
                 return;
             }
         }
@@ -221,9 +271,26 @@ fn turn(
         area,
     );
     let written = fed.written;
-    io::write_all(STDOUT_FILENO, &output[..written]);
+    let printed = streams::print(&output[..written]);
+    go_on(place, fed, printed, input)
+}
+
+// What follows the lines of a turn. Behind a write that failed nothing does.
+fn go_on(place: Place, fed: Fed, printed: Printed, input: &mut [u8]) -> Next
+    requires { ⌜ Counted place fed printed (now input) ⌝ }
+    ensures { λ n. ⌜ GoesOn place (now (input .entry)) fed printed n (now (input .exit)) ⌝ }
+{
+    let whole = printed.is_whole();
+    let taken = printed.taken();
+    if !whole {
+        return Next::Over(Outcome {
+            how: How::Unwritten,
+            event: place.event,
+            bytes: place.bytes + taken,
+        });
+    }
     let pause = fed.pause;
-    follow(place.behind(fed), pause, input)
+    follow(place.behind(fed, taken), pause, input)
 }
 
 // By why no further event was done: the next ones, more input, or the end.
@@ -236,12 +303,12 @@ fn follow(place: Place, pause: Pause, input: &mut [u8]) -> Next
         Pause::Stop(why) => {
             let number = report::number_of(why);
             if number != 1 {
-                return Next::Over(number, place.event);
+                return place.over(How::Done(number));
             }
             if place.last {
-                return Next::Over(finish(place.registers), place.event);
+                return place.over(How::Done(finish(place.registers)));
             }
-            Next::On(read(place, input))
+            read(place, input)
         }
     }
 }
@@ -256,15 +323,14 @@ fn finish(registers: Registers) -> u8
     report::number_of(Refusal::NotWellFormed)
 }
 
-// A block behind the rest. A read that fails is the end of the input, as one that gives no bytes.
-fn read(place: Place, input: &mut [u8]) -> Place
+// A block behind the rest.
+fn read(place: Place, input: &mut [u8]) -> Next
     requires { ⌜ Readable place (now input) ⌝ }
-    ensures { λ p. ⌜ Reads place (now (input .entry)) p (now (input .exit)) ⌝ }
+    ensures { λ n. ⌜ Reads place (now (input .entry)) n (now (input .exit)) ⌝ }
 {
     let rest = to_front(input, place.from, place.to);
-    let got = libc::read(STDIN_FILENO, &mut input[rest..]);
-    let n = io::count(got, &input[rest..]);
-    place.with(rest, n)
+    let got = streams::read(&mut input[rest..]);
+    place.resumed(rest, got)
 }
 
 // The bytes from `from` to `to` at the front: how many they are.
@@ -281,13 +347,40 @@ fn to_front(buffer: &mut [u8], from: usize, to: usize) -> usize
     n
 }
 
-// The last line, if there is one, printed: the program is at the end of its way.
-fn end(number: u8, event: usize)
-    requires { ⌜ Ended start number event ⌝ }
+// The program at the end of its way: its last line, or what failed, told.
+fn end(outcome: Outcome)
+    requires { ⌜ Comes start outcome × (outcome .bytes < 9_223_372_036_854_775_808) ⌝ }
+{
+    let event = outcome.event;
+    let bytes = outcome.bytes;
+    let how = outcome.how;
+    match how {
+        How::Done(number) => print_last(number, event, bytes),
+        How::Unwritten => tell_unwritten(event, bytes),
+        How::Unread => streams::tell(b"pyx2nt: read failed", event - 1, bytes),
+    }
+}
+
+// A write failed: all lines of the events before `event` were taken, and `bytes` bytes in all.
+fn tell_unwritten(event: usize, bytes: usize)
+    requires { ⌜ 0 < event ⌝ }
+{
+    streams::tell(b"pyx2nt: write failed", event - 1, bytes);
+}
+
+// The last line, if there is one, printed behind `bytes` bytes of lines.
+fn print_last(number: u8, event: usize, bytes: usize)
+    requires { ⌜ Ended start number event bytes × (bytes < 9_223_372_036_854_775_808) ⌝ }
 {
     let mut line = [0u8; 64];
     let n = last_line(&mut line, number, event);
-    io::write_all(STDOUT_FILENO, &line[..n]);
+    let printed = streams::print(&line[..n]);
+    let whole = printed.is_whole();
+    let taken = printed.taken();
+    if whole {
+        return;
+    }
+    tell_unwritten(event, bytes + taken);
 }
 
 // The line after a refusal, to the front of `line`: its length.
@@ -298,21 +391,8 @@ fn last_line(line: &mut [u8], number: u8, event: usize) -> usize
     if number == 0 {
         return 0;
     }
-    let n = put_number(line, 0, b"# refused ", number as u64);
-    let m = put_number(line, n, b" at event ", event as u64);
+    let n = streams::put_number(line, 0, b"# refused ", number as u64);
+    let m = streams::put_number(line, n, b" at event ", event as u64);
     copy::put(line, m, b"\n");
     m + 1
-}
-
-// The text and a number behind it, from `at` on: where they end.
-fn put_number(line: &mut [u8], at: usize, text: &[u8], number: u64) -> usize
-    requires { ⌜ at + length (now text) + 20 ≤ length (now line) ⌝ }
-    ensures { λ to. ⌜ Wrote (now (line .entry)) (now (line .exit)) at to (now (text .entry) ++ decimal number) ⌝ }
-{
-    let decimal = Decimal::of(number);
-    let from = decimal.from;
-    let digits = decimal.digits;
-    copy::put(line, at, text);
-    copy::put(line, at + text.len(), &digits[from..]);
-    at + text.len() + (20 - from)
 }

@@ -1,34 +1,41 @@
--- `pyx2nt::end` is safe: the line is no longer than what is lent for it.
+-- `pyx2nt::end` is safe: each end is one of a way from the start, behind which an event can be counted.
 use borrow.Author.Needs.{needs}
-use Rattle.pyx2nt.specs.LastLine.{line-size}
+use Rattle.pyx2nt.specs.Running.{end-event}
 use Rattle.pyx2nt.proofs.end.Statement.{statement}
 use Rattle.pyx2nt.proofs.end.Tie as tie
 
-slice-aggregate-last-line : tie.Need-slice-aggregate-last-line
-slice-aggregate-last-line c = search needs
+enum-known-how : tie.Need-enum-known-how
+enum-known-how c = search needs
 
-last-line-requires : tie.Need-last-line-requires
-last-line-requires c κs = search needs
+print-last-requires : tie.Need-print-last-requires
+print-last-requires c κs = rw (c .before .how .given .1) at (c .before .before .before .pre)
 
-array-share-prefix-line : tie.Need-array-share-prefix-line
-array-share-prefix-line c = search needs
+enum-told : tie.Need-enum-told
+enum-told c = search needs
 
-slice-aggregate-write-all : tie.Need-slice-aggregate-write-all
-slice-aggregate-write-all c = line-size (c .before .before .last-line .ensures)
+tell-unwritten-requires : tie.Need-tell-unwritten-requires
+tell-unwritten-requires c κs = end-event (c .before .before .args .outcome) (c .before .before .pre .0)
 
-write-all-requires : tie.Need-write-all-requires
-write-all-requires c κs = search needs
+enum-told-2 : tie.Need-enum-told-2
+enum-told-2 c = search needs
+
+slice-aggregate-tell : tie.Need-slice-aggregate-tell
+slice-aggregate-tell c = search needs
+
+sub-tell : tie.Need-sub-tell
+sub-tell c = end-event (c .before .before .before .args .outcome) (c .before .before .before .pre .0)
+
+tell-requires : tie.Need-tell-requires
+tell-requires c κs = search needs
 
 returns : tie.Need-returns
 returns c = search needs
 
+returns-2 : tie.Need-returns-2
+returns-2 c = search needs
+
+returns-3 : tie.Need-returns-3
+returns-3 c = search needs
+
 pub end-spec : {M : Type 1} → statement M
-end-spec =
-    tie.close
-    (tie.spec
-    slice-aggregate-last-line
-    last-line-requires
-    array-share-prefix-line
-    slice-aggregate-write-all
-    write-all-requires
-    returns)
+end-spec = tie.close (tie.spec enum-known-how print-last-requires enum-told tell-unwritten-requires enum-told-2 slice-aggregate-tell sub-tell tell-requires returns returns-2 returns-3)

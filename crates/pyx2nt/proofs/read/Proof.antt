@@ -4,7 +4,7 @@ use native.Mathlib.Omega.{arith}
 use lib.ListN.{length}
 use borrow.Rule.Slice.PartMut.{take-put}
 use borrow.Author.Needs.{needs}
-use Rattle.pyx2nt.specs.Reading.{reads}
+use Rattle.pyx2nt.specs.Reading.{block-fits, reads}
 use Rattle.pyx2nt.proofs.read.Statement.{statement}
 use Rattle.pyx2nt.proofs.read.Tie as tie
 
@@ -23,40 +23,14 @@ part-read-end c = search needs
 read-requires : tie.Need-read-requires
 read-requires c κs = search needs
 
-sub-count : tie.Need-sub-count
-sub-count c = search needs
-
-part-count-start : tie.Need-part-count-start
-part-count-start c = search needs
-
-part-count-end : tie.Need-part-count-end
-part-count-end c = search needs
-
-count-requires : tie.Need-count-requires
-count-requires c κs = search needs
-
-with-requires : tie.Need-with-requires
-with-requires c κs = search needs
+resumed-requires : tie.Need-resumed-requires
+resumed-requires c κs = omega (arith, block-fits _ (c .before .before .before .before .before .before .to-front .ensures) (c .before .before .before .before .before .before .before .before .before .pre .rest .within) (c .before .before .read .ensures), c .before .before .before .before .before .before .before .before .before .pre .rest .within)
 
 same-length : tie.Need-same-length
 same-length c = search needs
 
 returns : tie.Need-returns
-returns c = reads (c .before .before .before .before .before .before .before .before .before .before .before .before .before .pre .rest) (c .before .before .before .before .before .before .before .before .before .before .to-front .ensures) (search needs) (take-put (c .before .before .before .before .before .before .before .before .before .before .to-front .result) (length (c .before .before .before .before .before .before .before .before .before .before .to-front .last .0) - c .before .before .before .before .before .before .before .before .before .before .to-front .result) (c .before .before .before .before .before .before .before .before .before .before .to-front .last .0) (c .before .before .before .before .before .before .read .last .1 .0) (omega (arith, c .before .before .before .before .before .before .before .before .before .before .to-front .ensures .size, c .before .before .before .before .before .before .before .before .before .before .to-front .ensures .room, c .before .before .before .before .before .before .before .before .before .before .before .before .before .pre .rest .within))) (c .before .count .ensures .0 .0) (c .with .ensures)
+returns c = reads _ (c .before .before .before .before .before .before .before .before .before .before .pre .rest) (c .before .before .before .before .before .before .before .to-front .ensures) (search needs) (take-put (c .before .before .before .before .before .before .before .to-front .result) (length (c .before .before .before .before .before .before .before .to-front .last .0) - c .before .before .before .before .before .before .before .to-front .result) (c .before .before .before .before .before .before .before .to-front .last .0) (c .before .before .before .read .last .0) (omega (arith, c .before .before .before .before .before .before .before .to-front .ensures .size, c .before .before .before .before .before .before .before .to-front .ensures .room, c .before .before .before .before .before .before .before .before .before .before .pre .rest .within))) (c .before .before .before .read .ensures) (c .resumed .ensures)
 
 pub read-spec : {M : Type 1} → statement M
-read-spec =
-    tie.close
-    (tie.spec
-    to-front-requires
-    sub-read
-    part-read-start
-    part-read-end
-    read-requires
-    sub-count
-    part-count-start
-    part-count-end
-    count-requires
-    with-requires
-    same-length
-    returns)
+read-spec = tie.close (tie.spec to-front-requires sub-read part-read-start part-read-end read-requires resumed-requires same-length returns)

@@ -1,8 +1,8 @@
--- `pyx2nt::put_number` meets its contract: the text, the digits.
+-- `streams::put_number` meets its contract: the text, the digits.
 use borrow.Author.Needs.{needs}
-use Rattle.pyx2nt.specs.LastLine.{number-put}
-use Rattle.pyx2nt.proofs.put_number.Statement.{statement}
-use Rattle.pyx2nt.proofs.put_number.Tie as tie
+use Rattle.streams.specs.Telling.{number-put}
+use Rattle.streams.proofs.put_number.Statement.{statement}
+use Rattle.streams.proofs.put_number.Tie as tie
 
 of-requires : tie.Need-of-requires
 of-requires c κs = search needs

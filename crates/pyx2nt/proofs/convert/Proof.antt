@@ -1,9 +1,9 @@
--- `pyx2nt::main` is safe: what it lends has the lengths that `run` asks for.
+-- `pyx2nt::convert` is safe: what it lends has the lengths that `run` asks for.
 use borrow.Author.Needs.{needs}
 use Rattle.reader.specs.Asked.{roomy}
 use Rattle.pyx2nt.specs.Running.{made}
-use Rattle.pyx2nt.proofs.main.Statement.{statement}
-use Rattle.pyx2nt.proofs.main.Tie as tie
+use Rattle.pyx2nt.proofs.convert.Statement.{statement}
+use Rattle.pyx2nt.proofs.convert.Tie as tie
 
 slice-aggregate-run : tie.Need-slice-aggregate-run
 slice-aggregate-run c = search needs
@@ -41,8 +41,8 @@ run-requires c κs = (made, roomy)
 returns : tie.Need-returns
 returns c = search needs
 
-pub main-spec : {M : Type 1} → statement M
-main-spec =
+pub convert-spec : {M : Type 1} → statement M
+convert-spec =
     tie.close
     (tie.spec
     slice-aggregate-run
