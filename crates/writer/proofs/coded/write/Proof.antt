@@ -35,17 +35,17 @@ escape-requires c κs = search needs
 add-next : tie.Need-add-next Inv-loop μ-loop
 add-next c = search needs
 
-sub-run : tie.Need-sub-run Inv-loop μ-loop
-sub-run c = search needs
+sub-run-behind : tie.Need-sub-run-behind Inv-loop μ-loop
+sub-run-behind c = search needs
 
-part-run-start : tie.Need-part-run-start Inv-loop μ-loop
-part-run-start c = search needs
+part-run-behind-start : tie.Need-part-run-behind-start Inv-loop μ-loop
+part-run-behind-start c = search needs
 
-part-run-end : tie.Need-part-run-end Inv-loop μ-loop
-part-run-end c = search needs
+part-run-behind-end : tie.Need-part-run-behind-end Inv-loop μ-loop
+part-run-behind-end c = search needs
 
-run-requires-2 : tie.Need-run-requires-2 Inv-loop μ-loop
-run-requires-2 c κs = search needs
+run-behind-requires : tie.Need-run-behind-requires Inv-loop μ-loop
+run-behind-requires c κs = search needs
 
 add-i : tie.Need-add-i Inv-loop μ-loop
 add-i c = search needs
@@ -63,10 +63,10 @@ bytes-requires-2 : tie.Need-bytes-requires-2 Inv-loop μ-loop
 bytes-requires-2 c κs = search needs
 
 loop-less : tie.Need-loop-less Inv-loop μ-loop
-loop-less c = going-less (c .before .before .before .before .before .run2 .result) (omega arith)
+loop-less c = going-less (c .before .before .before .before .before .run-behind .result) (omega arith)
 
 loop-again : tie.Need-loop-again Inv-loop μ-loop
-loop-again c = going-more (c .before .before .before .before .before .before .before .before .before .before .before .before .before .loop .inv) (omega arith) (c .before .before .before .before .before .before .before .before .before .escape .ensures) (c .before .before .before .before .before .run2 .ensures) (c .before .before .bytes2 .ensures)
+loop-again c = going-more (c .before .before .before .before .before .before .before .before .before .before .before .before .before .loop .inv) (omega arith) (c .before .before .before .before .before .before .before .before .before .escape .ensures) (c .before .before .before .before .before .run-behind .ensures) (c .before .before .bytes2 .ensures)
 
 same-length : tie.Need-same-length Inv-loop μ-loop
 same-length c = going-done (c .before .before .before .before .before .before .before .run .ensures) (c .before .before .before .before .bytes .ensures) (c .before .loop .inv) (omega arith) .same
@@ -87,10 +87,10 @@ write-spec =
     shared-slice-read-escape
     escape-requires
     add-next
-    sub-run
-    part-run-start
-    part-run-end
-    run-requires-2
+    sub-run-behind
+    part-run-behind-start
+    part-run-behind-end
+    run-behind-requires
     add-i
     sub-bytes
     part-bytes-start
