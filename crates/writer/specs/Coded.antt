@@ -1,13 +1,13 @@
 -- A text written byte by byte, in runs: bytes that are written as they are go together.
-use Prim.Native.Nat.{ℕ, zero, suc, _+_, _-_, _<_, _≤_}
-use mathlib.Core.Path.{_≡_, refl, sym, _∙_}
+use Prim.Native.Nat.{ℕ, zero, suc, _+_, _-_, _*_, _<_, _≤_}
+use mathlib.Core.Path.{_≡_, refl, sym}
 use mathlib.Core.Bool.{Bool, false, _||_}
 use mathlib.Core.List.{List, [], _∷_, _++_, append-assoc, append-nil}
 use mathlib.Core.Logic.{⊎-elim}
 use native.Mathlib.Numerals.{add-one}
-use native.Mathlib.Nat.{eq-or-lt-of-le}
+use native.Mathlib.Nat.{eq-or-lt-of-le, mul-suc}
 use native.Mathlib.Omega.{arith}
-use lib.ListN.{length, take, drop, getD, length-drop}
+use lib.ListN.{length, take, drop, getD, length-append, length-drop}
 use lib.Seq.{take-suc, take-length, take-add}
 use Rattle.spec.specs.Bytes.{Bytes}
 use Rattle.spec.specs.NTriples.{coded}
@@ -27,6 +27,12 @@ module _ (w : ℕ → Bytes) where
 
   coded-suc : (s : Bytes) (i : ℕ) → i < length s → coded w (take (i + 1) s) ≡ coded w (take i s) ++ w (getD s i 0)
   coded-suc s i h = rw (add-one, take-suc s i 0, coded-append, coded-one)
+
+  -- where no word has more than k bytes
+  pub length-coded : (k : ℕ) → ((c : ℕ) → length (w c) ≤ k) → (s : Bytes) → length (coded w s) ≤ k * length s
+  unfolding coded
+  length-coded k h [] = omega arith
+  length-coded k h (c ∷ s) = simp (length-append, mul-suc) (omega (arith, h c, length-coded k h s))
 
 -- ---- the search for the next marked byte: the first `i` bytes are written as they are
 

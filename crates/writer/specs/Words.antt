@@ -2,13 +2,14 @@
 use Prim.Native.Nat.{ℕ, _≤_, _<_, _/_, _%_}
 use mathlib.Core.Path.{_≡_, refl, sym, _∙_}
 use mathlib.Core.Bool.{Bool, true, false, _||_, _&&_, false≢true}
-use mathlib.Core.List.{List, [], _∷_, _++_}
+use mathlib.Core.List.{List, [], _∷_}
 use mathlib.Core.Logic.{_⊎_, inl, inr, ⊎-elim}
 use native.Mathlib.Nat.{eq-or-lt-of-le}
 use native.Mathlib.Omega.{arith}
 use types.Run.{OneOf}
 use lib.Dec.{eqb, leb}
 use lib.Bits.{bitAnd}
+use lib.ListN.{length}
 use borrow.Author.Tests.{ne-eqb, le-leb, lt-leb, leb-false}
 use Rattle.spec.specs.Bytes.{Bytes, ascii, byte, if_then_else_, among, every}
 use Rattle.spec.specs.NTriples.{literalByte, iriByte, hexDigit, forbidden}
@@ -38,6 +39,23 @@ iri-same h = rw h
 pub iri-digits : (c : ℕ) → forbidden c ≡ true → 92 ∷ 117 ∷ 48 ∷ 48 ∷ hexDigit (c / 16) ∷ hexDigit (c % 16) ∷ [] ≡ iriByte c
 unfolding iriByte if_then_else_ ascii
 iri-digits c h = rw h
+
+-- ---- how long a word is
+
+short-if : (t : Bool) (s r : Bytes) (k : ℕ) → length s ≤ k → length r ≤ k → length (if t then s else r) ≤ k
+unfolding if_then_else_
+short-if true s r k a b = a
+short-if false s r k a b = b
+
+pub length-literal-byte : (c : ℕ) → length (literalByte c) ≤ 2
+unfolding literalByte ascii
+length-literal-byte c =
+    let two : (t : Bool) (a b : ℕ) (r : Bytes) → length r ≤ 2 → length (if t then a ∷ b ∷ [] else r) ≤ 2 = λ t a b r. short-if t (a ∷ b ∷ []) r 2 (omega arith) in
+    two _ _ _ _ (two _ _ _ _ (two _ _ _ _ (two _ _ _ (c ∷ []) (omega arith))))
+
+pub length-iri-byte : (c : ℕ) → length (iriByte c) ≤ 6
+unfolding iriByte ascii
+length-iri-byte c = short-if (forbidden c) _ (c ∷ []) 6 (omega arith) (omega arith)
 
 -- ---- forbidden bytes
 

@@ -68,7 +68,7 @@ fn run_behind(s: &[u8], rule: Rule) -> usize
     run(s, rule)
 }
 
-// How many bytes stand at the front in blocks without a marked one. The last block may begin among those tested before it.
+// The same in blocks, up to one with a marked byte. The last block may begin among the bytes tested before it.
 fn skip_blocks(s: &[u8], rule: Rule) -> usize
     ensures { λ r. ⌜ Plain (byteOf rule) (now (s .entry)) r ⌝ }
 {

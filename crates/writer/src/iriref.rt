@@ -9,6 +9,9 @@ ghost use Rattle.writer.specs.Rules.{Spells};
 use crate::coded::Rule;
 use crate::coded::Word;
 
+// The most bytes that a byte is written as.
+pub const MOST: usize = 6;
+
 pub fn write(out: &mut [u8], at: usize, on: bool, s: &[u8]) -> usize
     ensures { λ r. ⌜ Put on (now (out .entry)) (now (out .exit)) at r (coded iriByte (now (s .entry))) ⌝ }
 {
@@ -18,7 +21,8 @@ pub fn write(out: &mut [u8], at: usize, on: bool, s: &[u8]) -> usize
     crate::coded::write(out, at, on, s, Rule::Iri)
 }
 
-// Coarser than `is_forbidden`: fewer tests, in an order in which a block takes few instructions. The mask is that of <, >, \, ^ and |.
+// Coarser than `is_forbidden`: fewer tests, in an order in which a block takes few instructions.
+// The mask is that of <, >, \, ^ and |.
 pub fn is_marked(b: u8) -> bool
     ensures { λ r. ⌜ (r ≡ false → iriByte b ≡ b ∷ []) ⌝ }
 {

@@ -8,6 +8,9 @@ ghost use Rattle.writer.specs.Rules.{Spells};
 use crate::coded::Rule;
 use crate::coded::Word;
 
+// The most bytes that a byte is written as.
+pub const MOST: usize = 2;
+
 pub fn write(out: &mut [u8], at: usize, on: bool, s: &[u8]) -> usize
     ensures { λ r. ⌜ Put on (now (out .entry)) (now (out .exit)) at r (coded literalByte (now (s .entry))) ⌝ }
 {
