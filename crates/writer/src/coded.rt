@@ -17,9 +17,9 @@ pub enum Rule {
     Value,
 }
 
-// What a byte is written as: the first `len` of these.
+// What a byte is written as: the first `len` of these. No word has more than six; eight are copied at once.
 pub struct Word {
-    pub bytes: [u8; 6],
+    pub bytes: [u8; 8],
     pub len: usize,
 }
 

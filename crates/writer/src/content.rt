@@ -27,27 +27,27 @@ pub fn spell(b: u8) -> Word
 {
     match b {
         b'&' => Word {
-            bytes: *b"&amp; ",
+            bytes: *b"&amp;   ",
             len: 5,
         },
         b'<' => Word {
-            bytes: *b"&lt;  ",
+            bytes: *b"&lt;    ",
             len: 4,
         },
         b'>' => Word {
-            bytes: *b"&gt;  ",
+            bytes: *b"&gt;    ",
             len: 4,
         },
         b'"' => Word {
-            bytes: *b"&quot;",
+            bytes: *b"&quot;  ",
             len: 6,
         },
         b'\'' => Word {
-            bytes: *b"&apos;",
+            bytes: *b"&apos;  ",
             len: 6,
         },
         _ => Word {
-            bytes: [b; 6],
+            bytes: [b; 8],
             len: 1,
         },
     }

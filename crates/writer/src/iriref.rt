@@ -34,11 +34,11 @@ pub fn spell(b: u8) -> Word
 {
     if !is_forbidden(b) {
         return Word {
-            bytes: [b; 6],
+            bytes: [b; 8],
             len: 1,
         };
     }
-    let bytes = [b'\\', b'u', b'0', b'0', hex(b / 16), hex(b % 16)];
+    let bytes = [b'\\', b'u', b'0', b'0', hex(b / 16), hex(b % 16), 0, 0];
     Word { bytes, len: 6 }
 }
 

@@ -32,23 +32,23 @@ pub fn spell(b: u8) -> Word
 {
     match b {
         b'"' => Word {
-            bytes: *b"\\\"    ",
+            bytes: *b"\\\"      ",
             len: 2,
         },
         b'\\' => Word {
-            bytes: *b"\\\\    ",
+            bytes: *b"\\\\      ",
             len: 2,
         },
         b'\n' => Word {
-            bytes: *b"\\n    ",
+            bytes: *b"\\n      ",
             len: 2,
         },
         b'\r' => Word {
-            bytes: *b"\\r    ",
+            bytes: *b"\\r      ",
             len: 2,
         },
         _ => Word {
-            bytes: [b; 6],
+            bytes: [b; 8],
             len: 1,
         },
     }

@@ -27,31 +27,31 @@ pub fn spell(b: u8) -> Word
 {
     match b {
         b'&' => Word {
-            bytes: *b"&amp; ",
+            bytes: *b"&amp;   ",
             len: 5,
         },
         b'<' => Word {
-            bytes: *b"&lt;  ",
+            bytes: *b"&lt;    ",
             len: 4,
         },
         b'"' => Word {
-            bytes: *b"&quot;",
+            bytes: *b"&quot;  ",
             len: 6,
         },
         b'\t' => Word {
-            bytes: *b"&#x9; ",
+            bytes: *b"&#x9;   ",
             len: 5,
         },
         b'\n' => Word {
-            bytes: *b"&#xA; ",
+            bytes: *b"&#xA;   ",
             len: 5,
         },
         b'\r' => Word {
-            bytes: *b"&#xD; ",
+            bytes: *b"&#xD;   ",
             len: 5,
         },
         _ => Word {
-            bytes: [b; 6],
+            bytes: [b; 8],
             len: 1,
         },
     }
