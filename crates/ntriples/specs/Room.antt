@@ -48,22 +48,25 @@ length-typed s d = simp length-append (omega (arith, length-quoted s, length-iri
 
 -- ---- lines
 
-length-line : (s : Subject) (p : Bytes) (o : Term) → length (line (triple s p o)) ≤ length (writeSubject s) + 6 * length p + length (writeTerm o) + 7
+length-line : (s : Subject) (p : Bytes) (o : Term)
+    → length (line (triple s p o)) ≤ length (writeSubject s) + 6 * length p + length (writeTerm o) + 7
 unfolding line ascii
 length-line s p o = simp length-append (omega (arith, length-iri p))
 
 -- the lines of an rdf:ID have one name of the rdf namespace, or two
-length-rdf : (length (rdf "type") ≡ 47) × (length (rdf "Statement") ≡ 52) × (length (rdf "subject") ≡ 50) × (length (rdf "predicate") ≡ 52) × (length (rdf "object") ≡ 49)
+length-rdf : (length (rdf "type") ≡ 47) × (length (rdf "Statement") ≡ 52)
+    × (length (rdf "subject") ≡ 50) × (length (rdf "predicate") ≡ 52) × (length (rdf "object") ≡ 49)
 unfolding rdf ascii
 length-rdf = (refl, refl, refl, refl, refl)
 
--- where a statement's own line has at most m bytes
+-- a statement whose own line has at most m bytes; an rdf:ID adds four lines
 unfoldable pub statementRoom : ℕ → Option Bytes → ℕ
 statementRoom m none = m
 statementRoom m (some i) = 2 * m + 24 * length i + 1533
 
 module _ (s : Subject) (p : Bytes) (o : Term) where
-  pub length-statement : (i : Option Bytes) {m : ℕ} → length (writeSubject s) + 6 * length p + length (writeTerm o) + 7 ≤ m
+  pub length-statement : (i : Option Bytes) {m : ℕ}
+      → length (writeSubject s) + 6 * length p + length (writeTerm o) + 7 ≤ m
       → length (write (statement (record { subject = s; iri = p; id = i }) o)) ≤ statementRoom m i
   unfolding statementRoom statement reification write
   length-statement none h = rw append-nil (omega (arith, length-line s p o))

@@ -23,13 +23,13 @@ use Rattle.inside.specs.Laws.{found}
 use Rattle.ntriples.specs.Room.{length-named, length-blank, length-node, length-plain, length-tagged, length-typed, statementRoom, length-statement}
 use Rattle.statements.specs.Object.{propertyLines, literalLines}
 
-length-part : (w : List ℕ) (a n : ℕ) → length (part w a n) ≤ n
+part-at-most : (w : List ℕ) (a n : ℕ) → length (part w a n) ≤ n
 unfolding part
-length-part w a n = rw length-take (omega arith)
+part-at-most w a n = rw length-take (omega arith)
 
-length-span : (w : List ℕ) (a b : ℕ) → length (span w a b) ≤ b - a
+span-at-most : (w : List ℕ) (a b : ℕ) → length (span w a b) ≤ b - a
 unfolding span
-length-span w a b = length-part w a (b - a)
+span-at-most w a b = part-at-most w a (b - a)
 
 length-node-of : (h : ℕ) (s : Bytes) → length (writeSubject (nodeOf h s)) ≤ 6 * length s + 2
 unfolding nodeOf
@@ -42,7 +42,8 @@ length-node-of h s = go (eqb h 0)
 -- ---- a statement, whose object has at most so many bytes beside six marks
 
 pub record StatementFits (n f : Frame) (object room : ℕ) : Type 0 where
-  pub fits : (w : List ℕ) (o : Term) → length (writeTerm o) ≤ object + 6 → length (write (statement (propertyOf f w (subjectOf n w)) o)) ≤ room
+  pub fits : (w : List ℕ) (o : Term) → length (writeTerm o) ≤ object + 6
+      → length (write (statement (propertyOf f w (subjectOf n w)) o)) ≤ room
 
 -- its own line
 abbrev pub lineRoom : Frame → Frame → ℕ → ℕ
@@ -52,7 +53,8 @@ own-line : (n f : Frame) (object : ℕ) (w : List ℕ) (o : Term) → length (wr
     → length (writeSubject (subjectOf n w)) + 6 * length (span w (at f 4) (at f 5)) + length (writeTerm o) + 7 ≤ lineRoom n f object
 unfolding subjectOf
 own-line n f object w o h =
-    omega (arith, length-node-of (has n 2) (span w (at n 4) (at n 5)), length-span w (at n 4) (at n 5), length-span w (at f 4) (at f 5))
+    let s : Bytes = span w (at n 4) (at n 5) in
+    omega (arith, length-node-of (has n 2) s, span-at-most w (at n 4) (at n 5), span-at-most w (at f 4) (at f 5))
 
 module _ {n f : Frame} {object room : ℕ} where
   pub fits-one : has f 3 ≡ 0 → lineRoom n f object ≤ room → StatementFits n f object room
@@ -73,14 +75,11 @@ module _ {n f : Frame} {object room : ℕ} where
             rw (ne-eqb (has f 3) 0 z)
             (omega (
               arith,
-              length-span w (at f 5) (at f 6),
-              length-statement (subjectOf n w) (span w (at f 4) (at f 5)) o (some (span w (at f 5) (at f 6))) (own-line n f object w o h),
+              span-at-most w (at f 5) (at f 6),
+              length-statement (subjectOf n w) (span w (at f 4) (at f 5)) o (some (span w (at f 5) (at f 6)))
+                  (own-line n f object w o h),
             ));
       }
-
-length-datatype : length (rdf "XMLLiteral") ≡ 53
-unfolding rdf ascii
-length-datatype = refl
 
 -- ---- the object of a default property: h marks what it is
 
@@ -103,7 +102,8 @@ length-object : (d l : Option Bytes) (h : ℕ) (s : Bytes) {n : ℕ} → length 
 unfolding objectOf objectTerm
 length-object d l h s {n} e = go (eqb h 0) (eqb h 1) (eqb h 2)
   where
-    go : (a b c : Bool) → length (writeTerm (objectTerm d l (pick a noObject (pick b (nodeObject (named s)) (pick c (nodeObject (blank s)) (textObject s))))))
+    go : (a b c : Bool)
+        → length (writeTerm (objectTerm d l (pick a noObject (pick b (nodeObject (named s)) (pick c (nodeObject (blank s)) (textObject s))))))
         ≤ pick b (6 * n) (2 * n) + 6 * size d + size l + 6
     go true true c = omega (arith, length-literal d l [])
     go true false c = omega (arith, length-literal d l [])
@@ -124,24 +124,31 @@ unfolding found size
 size-found l w = go (l .there)
   where
     go : (t : Bool) → size (pick t (some (part w (l .at) (l .len))) none) ≤ l .len
-    go true = length-part w (l .at) (l .len)
+    go true = part-at-most w (l .at) (l .len)
     go false = omega arith
 
-module _ {n f : Frame} {room : ℕ} where
-  pub property-fits : (l : Found) → StatementFits n f (objectRoom (has f 5) (at f 8 - at f 7) + 6 * (at f 7 - at f 6) + l .len) room
-      → (w : List ℕ) → length (write (propertyLines n f l w)) ≤ room
-  property-fits l p w =
-      let d : Bytes = span w (at f 6) (at f 7) in
-      p .fits w _
-      (omega (
-        arith,
-        length-object (optional (has f 4) d) (found l w) (has f 5) (span w (at f 7) (at f 8)) (length-span w (at f 7) (at f 8)),
-        size-optional (has f 4) d,
-        length-span w (at f 6) (at f 7),
-        size-found l w,
-      ))
+pub property-fits : {n f : Frame} {room : ℕ} (l : Found)
+    → StatementFits n f (objectRoom (has f 5) (at f 8 - at f 7) + 6 * (at f 7 - at f 6) + l .len) room
+    → (w : List ℕ) → length (write (propertyLines n f l w)) ≤ room
+property-fits {f = f} l p w =
+    let d : Bytes = span w (at f 6) (at f 7) in
+    p .fits w _
+    (omega (
+      arith,
+      length-object (optional (has f 4) d) (found l w) (has f 5) (span w (at f 7) (at f 8)) (span-at-most w (at f 7) (at f 8)),
+      size-optional (has f 4) d,
+      span-at-most w (at f 6) (at f 7),
+      size-found l w,
+    ))
 
-  -- ---- that of a Literal property
+-- ---- the text of a Literal property
 
-  pub literal-fits : StatementFits n f (2 * (at f 8 - at f 7) + 318) room → (w : List ℕ) → length (write (literalLines n f w)) ≤ room
-  literal-fits p w = p .fits w _ (omega (arith, length-typed (span w (at f 7) (at f 8)) (rdf "XMLLiteral"), length-span w (at f 7) (at f 8), length-datatype))
+length-datatype : length (rdf "XMLLiteral") ≡ 53
+unfolding rdf ascii
+length-datatype = refl
+
+pub literal-fits : {n f : Frame} {room : ℕ} → StatementFits n f (2 * (at f 8 - at f 7) + 6 * 53) room
+    → (w : List ℕ) → length (write (literalLines n f w)) ≤ room
+literal-fits {f = f} p w =
+    let s : Bytes = span w (at f 7) (at f 8) in
+    p .fits w _ (omega (arith, length-typed s (rdf "XMLLiteral"), length-datatype, span-at-most w (at f 7) (at f 8)))

@@ -36,7 +36,7 @@ const MOST_TAG: usize = 65_536;
 // The most bytes of a line beside what is written of its IRIs, texts and tags: brackets, quotes, spaces, the end.
 const MOST_MARKS: usize = 15;
 
-// The same for the four lines that an rdf:ID adds, with their rdf names, less MOST_MARKS.
+// What the four lines of an rdf:ID have at most beside the rdf:ID and another line's bytes: rdf names and marks.
 const MOST_RDF: usize = 1_533;
 
 // The statement of a default property: its object so far, or the empty literal.
@@ -243,7 +243,7 @@ fn statement(
 
 // Is there surely room for it, where its object takes at most `object` bytes beside its marks? An rdf:ID adds four lines.
 fn statement_fits(room: usize, n: Frame, f: Frame, object: usize) -> bool
-    requires { ⌜ object < 1099511627776 ⌝ }
+    requires { ⌜ object < 256 * 4294967296 ⌝ }
     ensures { λ r. ⌜ (r ≡ true → StatementFits n f object room) ⌝ }
 {
     let has = f.has;

@@ -79,9 +79,13 @@ pub clean-less : {w : ℕ → Bytes} {s : Bytes} {a b i : ℕ} {m : Bool} → Cl
 clean-less h l = record { each = λ n k x y. h .each n k x (omega arith) }
 
 -- a block without a marked byte, which begins among those that were plain before
-pub plain-block : {w : ℕ → Bytes} {s : Bytes} {i a b : ℕ} {m : Bool} → Plain w s i → a ≤ i → Clean w s a b m → m ≡ false → b ≤ length s → Plain w s b
+pub plain-block : {w : ℕ → Bytes} {s : Bytes} {i a b : ℕ} {m : Bool} → Plain w s i → a ≤ i
+    → Clean w s a b m → m ≡ false → b ≤ length s → Plain w s b
 plain-block {w} {s} {i} {a} {b} {m} p l c n u =
-    record { upto = u; each = λ k h. ⊎-elim (λ (x : i ≤ k). c .each n k (omega arith) h) (λ (x : k < i). p .each k x) (compare i k) }
+    record {
+      upto = u;
+      each = λ k h. ⊎-elim (λ (x : i ≤ k). c .each n k (omega arith) h) (λ (x : k < i). p .each k x) (compare i k);
+    }
 
 -- ---- the loop that writes, behind a first run of `j` bytes: whoever wrote those has written the first `i` now
 

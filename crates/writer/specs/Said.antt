@@ -33,7 +33,8 @@ says-wrote {d} {f} {s} w =
     }
 
 -- all of it is known to have room
-pub says-sure : {on : Bool} {d f s : List ℕ} {n : ℕ} → Put on d f 0 n s → on ≡ true → length d < most → length s ≤ length d → Says d f s (record { fits = true; written = n })
+pub says-sure : {on : Bool} {d f s : List ℕ} {n : ℕ} → Put on d f 0 n s → on ≡ true → length d < most → length s ≤ length d
+    → Says d f s (record { fits = true; written = n })
 says-sure p t l h = says-wrote (put-wrote p t (omega arith) (omega arith))
 
 -- there was nothing to write

@@ -50,7 +50,8 @@ short-if false s r k a b = b
 pub length-literal-byte : (c : ℕ) → length (literalByte c) ≤ 2
 unfolding literalByte ascii
 length-literal-byte c =
-    let two : (t : Bool) (a b : ℕ) (r : Bytes) → length r ≤ 2 → length (if t then a ∷ b ∷ [] else r) ≤ 2 = λ t a b r. short-if t (a ∷ b ∷ []) r 2 (omega arith) in
+    let two : (t : Bool) (a b : ℕ) (r : Bytes) → length r ≤ 2 → length (if t then a ∷ b ∷ [] else r) ≤ 2 =
+    λ t a b r. short-if t (a ∷ b ∷ []) r 2 (omega arith) in
     two _ _ _ _ (two _ _ _ _ (two _ _ _ _ (two _ _ _ (c ∷ []) (omega arith))))
 
 pub length-iri-byte : (c : ℕ) → length (iriByte c) ≤ 6
@@ -157,5 +158,6 @@ unfolding iriMarked every
 iri-unmarked c h =
     let d = neither ((eqb (bitAnd c 157) 28 || eqb c 96) || leb c 34) (leb 123 c && leb c 127) h in
     let low : 34 < c = leb-false c 34 (neither (eqb (bitAnd c 157) 28 || eqb c 96) (leb c 34) (d .0) .1) in
-    let out : (c < 123) ⊎ (126 ≤ c) = ⊎-elim (λ (x : 123 ≤ c). inr (omega (arith, leb-false c 127 (rw (le-leb 123 c x) at (d .1))))) inl (compare 123 c) in
+    let out : (c < 123) ⊎ (126 ≤ c) =
+    ⊎-elim (λ (x : 123 ≤ c). inr (omega (arith, leb-false c 127 (rw (le-leb 123 c x) at (d .1))))) inl (compare 123 c) in
     iri-same (allowed (omega arith) (λ m. false≢true (sym h ∙ one-of iriMarked 34 (60 ∷ 62 ∷ 92 ∷ 94 ∷ 96 ∷ []) c refl m)) out)

@@ -21,8 +21,7 @@ pub fn write(out: &mut [u8], at: usize, on: bool, s: &[u8]) -> usize
     crate::coded::write(out, at, on, s, Rule::Iri)
 }
 
-// Coarser than `is_forbidden`: fewer tests, in an order in which a block takes few instructions.
-// The mask is that of <, >, \, ^ and |.
+// Coarser than `is_forbidden`, some tests less: the mask is that of <, >, \, ^ and |.
 pub fn is_marked(b: u8) -> bool
     ensures { λ r. ⌜ (r ≡ false → iriByte b ≡ b ∷ []) ⌝ }
 {
