@@ -87,7 +87,7 @@ plain-block {w} {s} {i} {a} {b} {m} p l c n u =
       each = λ k h. ⊎-elim (λ (x : i ≤ k). c .each n k (omega arith) h) (λ (x : k < i). p .each k x) (compare i k);
     }
 
--- ---- the loop that writes, behind a first run of `j` bytes: whoever wrote those has written the first `i` now
+-- ---- the loops that write, behind a first run of `j` bytes: whoever wrote those has written the first `i` now
 
 pub record Going (w : ℕ → Bytes) (on : Bool) (d e : List ℕ) (at to : ℕ) (s : Bytes) (j i : ℕ) : Type 0 where
   pub upto : i ≤ length s
@@ -96,19 +96,30 @@ pub record Going (w : ℕ → Bytes) (on : Bool) (d e : List ℕ) (at to : ℕ) 
 pub going-begins : {w : ℕ → Bytes} {on : Bool} {d : List ℕ} {at j : ℕ} {s : Bytes} → Plain w s j → Going w on d d at at s j j
 going-begins h = record { upto = h .upto; put = λ p. p }
 
--- one byte more, and the run behind it
-pub going-more : {w : ℕ → Bytes} {on : Bool} {d e f g : List ℕ} {at to up by j i n : ℕ} {s : Bytes} → Going w on d e at to s j i → i < length s
-    → Put on e f to up (w (getD s i 0)) → Plain w (take (length s - (i + 1)) (drop (i + 1) s)) n
-    → Put on f g up by (take (i + 1 + n - (i + 1)) (drop (i + 1) s)) → Going w on d g at by s j (i + 1 + n)
-going-more {w} {on} {d} {e} {f} {g} {at} {to} {up} {by} {j} {i} {n} {s} h b p r q =
-    let run : Plain w (drop (i + 1) s) n = rw rest-of at r in
-    let size : i + 1 + n - (i + 1) ≡ n = omega arith in
-    let more : coded w (take (i + 1 + n) s) ≡ (coded w (take i s) ++ w (getD s i 0)) ++ take n (drop (i + 1) s) =
-    rw (take-add (i + 1) n s, coded-append, coded-suc w s i b, plain-coded n run) in
-    record {
-      upto = omega (arith, simp length-drop at (run .upto));
-      put = λ first. put-as (puts (puts (h .put first) p) (rw size at q)) (sym more);
-    }
+-- one byte more
+pub going-byte : {w : ℕ → Bytes} {on : Bool} {d e f : List ℕ} {at to up j i : ℕ} {s : Bytes} → Going w on d e at to s j i → i < length s
+    → Put on e f to up (w (getD s i 0)) → Going w on d f at up s j (i + 1)
+going-byte {w} {i = i} {s = s} h l p =
+    record { upto = omega arith; put = λ first. put-as (puts (h .put first) p) (sym (coded-suc w s i l)) }
+
+-- `n` bytes more
+going-part : {w : ℕ → Bytes} {on : Bool} {d e f : List ℕ} {at to up j i : ℕ} {s : Bytes} (n : ℕ) → Going w on d e at to s j i
+    → i + n ≤ length s → Put on e f to up (coded w (take n (drop i s))) → Going w on d f at up s j (i + n)
+going-part {i = i} {s = s} n h l p =
+    record { upto = l; put = λ first. put-as (puts (h .put first) p) (sym (rw (take-add i n s, coded-append))) }
+
+-- a row, and the run behind it
+pub going-more : {w : ℕ → Bytes} {on : Bool} {d e f g : List ℕ} {at to up by j i : ℕ} {s : Bytes} (n m : ℕ) → Going w on d e at to s j i
+    → n ≤ length (take (length s - i) (drop i s)) → Put on e f to up (coded w (take (i + n - i) (drop i s)))
+    → Plain w (take (length s - (i + n)) (drop (i + n) s)) m → Put on f g up by (take (i + n + m - (i + n)) (drop (i + n) s))
+    → Going w on d g at by s j (i + n + m)
+going-more {w} {on} {d} {e} {f} {g} {at} {to} {up} {by} {j} {i} {s} n m h l p r q =
+    let row : i + n - i ≡ n = omega arith in
+    let size : i + n + m - (i + n) ≡ m = omega arith in
+    let upto : i + n ≤ length s = omega (arith, h .upto, simp length-drop at (rw rest-of at l)) in
+    let run : Plain w (drop (i + n) s) m = rw rest-of at r in
+    let before : Going w on d f at up s j (i + n) = going-part n h upto (rw row at p) in
+    going-part m before (omega (arith, simp length-drop at (run .upto))) (put-as (rw size at q) (sym (plain-coded m run)))
 
 pub going-done : {w : ℕ → Bytes} {on : Bool} {b d e : List ℕ} {a at to j i : ℕ} {s : Bytes} → Plain w s j → Put on b d a at (take j s)
     → Going w on d e at to s j i → length s ≤ i → Put on b e a to (coded w s)
@@ -116,9 +127,17 @@ going-done {w} {on} {b} {d} {e} {a} {at} {to} {j} {i} {s} h p g l =
     let q : i ≡ length s = omega arith in
     put-as (g .put (put-as p (sym (plain-coded j h)))) (rw (q, take-length s))
 
+-- with no first run
+pub going-whole : {w : ℕ → Bytes} {on : Bool} {d e : List ℕ} {at to i : ℕ} {s : Bytes} → at ≤ most → Going w on d e at to s 0 i
+    → length s ≤ i → Put on d e at to (coded w s)
+unfolding coded
+going-whole {i = i} {s = s} m g l =
+    let q : i ≡ length s = omega (arith, g .upto) in
+    put-as (g .put (put-none m)) (rw (q, take-length s))
+
 -- what is left falls
-pub going-less : {l i : ℕ} (n : ℕ) → i < l → l - (i + 1 + n) < l - i
-going-less n h = omega arith
+pub going-less : {l i n : ℕ} (m : ℕ) → i < l → 0 < n → l - (i + n + m) < l - i
+going-less m h p = omega arith
 
 -- nothing to code, nothing written
 pub coded-none : (w : ℕ → Bytes) {on : Bool} {d : List ℕ} (s : Bytes) {at : ℕ} → length s ≡ 0 → at ≤ most → Put on d d at at (coded w s)

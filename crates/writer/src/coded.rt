@@ -2,7 +2,7 @@
 ghost use mathlib.Core.Path.{_≡_};
 ghost use mathlib.Core.Bool.{false};
 ghost use mathlib.Core.List.{[], _∷_};
-ghost use Prim.Native.Nat.{_≤_, min};
+ghost use Prim.Native.Nat.{_<_, _≤_, min};
 ghost use lib.ListN.{length};
 ghost use Rattle.spec.specs.NTriples.{coded};
 ghost use Rattle.writer.specs.Put.{Put};
@@ -26,16 +26,16 @@ pub struct Word {
 // The bytes that are tested at once.
 const BLOCK: usize = 16;
 
-// A run of bytes that are written as they are, a marked one, and so on.
+// A run of bytes that are written as they are, a row of marked ones, and so on.
 pub fn write(out: &mut [u8], at: usize, on: bool, s: &[u8], rule: Rule) -> usize
     ensures { λ r. ⌜ Put on (now (out .entry)) (now (out .exit)) at r (coded (byteOf rule) (now (s .entry))) ⌝ }
 {
     let mut i = run(s, rule);
     let mut to = crate::bytes(out, at, on, &s[..i]);
     while i < s.len() {
-        to = escape(out, to, on, s[i], rule);
-        let next = i + 1;
-        i = next + run_behind(&s[next..], rule);
+        let next = i + row(&s[i..], rule);
+        to = escape_row(out, to, on, &s[i..next], rule);
+        i = next + run(&s[next..], rule);
         to = crate::bytes(out, to, on, &s[next..i]);
     }
     to
@@ -53,19 +53,6 @@ fn run(s: &[u8], rule: Rule) -> usize
         i += 1;
     }
     i
-}
-
-// The same behind a marked byte: another often follows it.
-fn run_behind(s: &[u8], rule: Rule) -> usize
-    ensures { λ r. ⌜ Plain (byteOf rule) (now (s .entry)) r ⌝ }
-{
-    if s.len() == 0 {
-        return 0;
-    }
-    if is_marked(s[0], rule) {
-        return 0;
-    }
-    run(s, rule)
 }
 
 // The same in blocks, up to one with a marked byte. The last block may begin among the bytes tested before it.
@@ -112,6 +99,34 @@ fn is_marked(b: u8, rule: Rule) -> bool
         Rule::Content => crate::content::is_marked(b),
         Rule::Value => crate::value::is_marked(b),
     }
+}
+
+// How many bytes are marked in a row, from a first one that is.
+fn row(s: &[u8], rule: Rule) -> usize
+    requires { ⌜ 0 < length (now s) ⌝ }
+    ensures { λ r. ⌜ (0 < r) × (r ≤ length (now (s .entry))) ⌝ }
+{
+    let mut i = 1;
+    while i < s.len() {
+        if !is_marked(s[i], rule) {
+            return i;
+        }
+        i += 1;
+    }
+    i
+}
+
+// Each byte as its word.
+fn escape_row(out: &mut [u8], at: usize, on: bool, s: &[u8], rule: Rule) -> usize
+    ensures { λ r. ⌜ Put on (now (out .entry)) (now (out .exit)) at r (coded (byteOf rule) (now (s .entry))) ⌝ }
+{
+    let mut i = 0;
+    let mut to = at;
+    while i < s.len() {
+        to = escape(out, to, on, s[i], rule);
+        i += 1;
+    }
+    to
 }
 
 // One byte.
