@@ -12,17 +12,16 @@ use Rattle.spec.specs.Bytes.{Bytes, isEmpty, _>>_, require_or_}
 use Rattle.spec.specs.Numbers.{refuse, good}
 use Rattle.spec.specs.declared.Refusal.the-variants.{EmptyLiteral, LabelsSpent}
 use Rattle.spec.specs.Limits.{mostLabels}
-use Rattle.spec.specs.Rdf.{rdf}
-use Rattle.spec.specs.NTriples.{Subject, node, typed, Triple}
+use Rattle.spec.specs.NTriples.{Subject, node}
 use Rattle.spec.specs.Document.{collection, Property, Doc, withFrames, withLabels, languageInForce}
 use Rattle.spec.specs.Productions.{statement}
-use Rattle.spec.specs.EndTag.{objectTerm, cells, headCell, endValue, endKind}
+use Rattle.spec.specs.EndTag.{cells, headCell, endValue, endKind}
 use Rattle.frames.specs.declared.Kind.{Kind}
 use Rattle.frames.specs.declared.Kind.the-variants.{Rdf, PropertyElt, ParseTypeCollectionPropertyElt, ParseTypeLiteralPropertyElt, ParseTypeOtherPropertyElt}
 use Rattle.frames.specs.declared.Frame.{Frame}
 use Rattle.frames.specs.Words.{frameAt, load-frame}
 use Rattle.state.specs.declared.Registers.{Registers}
-use Rattle.state.specs.Meaning.{at, has, count, first, span, optional, objectOf, childrenOf, subjectOf, propertyOf, whatOf, subjectBelow, framesOf, startOf, elementsOf, docOf}
+use Rattle.state.specs.Meaning.{at, count, first, span, childrenOf, subjectOf, propertyOf, whatOf, subjectBelow, framesOf, startOf, elementsOf, docOf}
 use Rattle.state.specs.Valid.{kindOk, nodeBelow, stands, Sound}
 use Rattle.state.specs.Held.{room}
 use Rattle.stack.specs.declared.Changed.{Changed}
@@ -31,9 +30,10 @@ use Rattle.stack.specs.Change.{Holds, holds-doc, labelledTo, labelled-holds, po
 use Rattle.stack.specs.Calls.{topFrame, mayPop, Pops}
 use Rattle.stack.specs.Laws.{topmost}
 use Rattle.inside.specs.Calls.{languageIn}
-use Rattle.inside.specs.Laws.{found, language-read}
+use Rattle.inside.specs.Laws.{language-read}
 use Rattle.nodes.specs.Take as N
 use Rattle.event.specs.declared.Outcome.the-variants.{Stop}
+use Rattle.statements.specs.Object.{propertyLines, literalLines}
 use Rattle.statements.specs.Cells.{nil, Listed, length-children}
 use Rattle.closing.specs.Ends.{Closing, Ends, Tells, without, refused}
 
@@ -107,11 +107,6 @@ same-top : (u : Registers) (n : ℕ) (fs : List ℕ) → topFrame (labelledTo u 
 unfolding topFrame
 same-top u n fs = refl
 
--- the statement of a default property of frame f, in the node of frame n, where language l is in force
-abbrev pub propertyLines : Frame → Frame → Found → List ℕ → List Triple
-propertyLines n f l w =
-    statement (propertyOf f w (subjectOf n w)) (objectTerm (optional (has f 4) (span w (at f 6) (at f 7))) (found l w) (objectOf (has f 5) (span w (at f 7) (at f 8))))
-
 -- ---- no lines
 
 -- an element of kind q leaves nothing but the document without it
@@ -160,7 +155,7 @@ module _ {r : Registers} {fs w : List ℕ} {p : Changed} (o : Pops r fs p) where
   -- ---- a Literal property
 
   pub literal-tells : {n f : Frame} → f ≡ topFrame r fs → n ≡ topFrame (p .registers) fs → isEmpty (span w (at f 7) (at f 8)) ≡ false
-      → Tells ParseTypeLiteralPropertyElt r (p .registers) fs w (statement (propertyOf f w (subjectOf n w)) (typed (span w (at f 7) (at f 8)) (rdf "XMLLiteral")))
+      → Tells ParseTypeLiteralPropertyElt r (p .registers) fs w (literalLines n f w)
   unfolding whatOf endKind endValue stands _>>_ require_or_
   literal-tells x y z =
       record {

@@ -7,9 +7,10 @@ ghost use Rattle.spec.specs.Pyx.{closing};
 ghost use Rattle.stack.specs.Calls.{topFrame};
 ghost use Rattle.nodes.specs.Take.{mainSize};
 ghost use Rattle.writer.specs.Said.{Says};
+ghost use Rattle.statements.specs.Object.{propertyLines, literalLines};
 ghost use Rattle.event.specs.Result.{Asks, Handles};
 ghost use Rattle.closing.specs.Ends.{Ends};
-ghost use Rattle.closing.specs.Kinds.{Silent, Whole, propertyLines};
+ghost use Rattle.closing.specs.Kinds.{Silent, Whole};
 ghost use Rattle.closing.specs.Node.{HeldAfter};
 use event::Done;
 use event::Outcome;
@@ -115,23 +116,21 @@ fn end_property(r: Registers, frames: &[u32], work: &[u8], out: &mut [u8]) -> Ou
     })
 }
 
-// Its statement, if all of it has room.
+// Its statement, if all of it has room: measured first, unless that is sure.
 fn say_property(out: &mut [u8], n: Frame, f: Frame, language: Found, work: &[u8]) -> Said
     ensures { λ s. ⌜ Says (now (out .entry)) (now (out .exit)) (write (propertyLines n f language (now (work .entry)))) s ⌝ }
 {
-    let mut draft = [0u8; writer::DRAFT];
-    let size = statements::property_lines(&mut draft, true, n, f, language, work);
-    if out.len() < size {
+    if statements::property_fits(out.len(), n, f, language) {
+        let written = statements::property_lines(out, true, n, f, language, work);
+        return Said {
+            fits: true,
+            written,
+        };
+    }
+    if out.len() < statements::property_lines(out, false, n, f, language, work) {
         return Said {
             fits: false,
             written: 0,
-        };
-    }
-    if size <= writer::DRAFT {
-        copy::put(out, 0, &draft[..size]);
-        return Said {
-            fits: true,
-            written: size,
         };
     }
     let written = statements::property_lines(out, true, n, f, language, work);
@@ -155,14 +154,38 @@ fn end_literal(r: Registers, frames: &[u32], work: &[u8], out: &mut [u8]) -> Out
     if !inside::holds_no_more(behind) {
         return Outcome::Stop(Refusal::OverLimit);
     }
-    if out.len() < statements::literal_lines(out, false, n, f, work) {
+    let said = say_literal(out, n, f, work);
+    if !said.fits {
         return Outcome::Stop(Refusal::NoRoom);
     }
-    let written = statements::literal_lines(out, true, n, f, work);
     Outcome::Did(Done {
-        written,
+        written: said.written,
         registers: behind,
     })
+}
+
+// Its statement, in the same way.
+fn say_literal(out: &mut [u8], n: Frame, f: Frame, work: &[u8]) -> Said
+    ensures { λ s. ⌜ Says (now (out .entry)) (now (out .exit)) (write (literalLines n f (now (work .entry)))) s ⌝ }
+{
+    if statements::literal_fits(out.len(), n, f) {
+        let written = statements::literal_lines(out, true, n, f, work);
+        return Said {
+            fits: true,
+            written,
+        };
+    }
+    if out.len() < statements::literal_lines(out, false, n, f, work) {
+        return Said {
+            fits: false,
+            written: 0,
+        };
+    }
+    let written = statements::literal_lines(out, true, n, f, work);
+    Said {
+        fits: true,
+        written,
+    }
 }
 
 // Each child takes a label for its cell.

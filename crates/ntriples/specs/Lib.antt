@@ -2,3 +2,5 @@
 pub mod Terms
 -- The parts of a line, one after the other.
 pub mod Lines
+-- How many bytes they have at most.
+pub mod Room

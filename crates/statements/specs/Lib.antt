@@ -2,3 +2,5 @@
 pub mod Object
 -- The cells of a Collection.
 pub mod Cells
+-- How many bytes it has at most.
+pub mod Room

@@ -7,7 +7,8 @@ use mathlib.Core.List.{List, [], _++_, append-nil}
 use lib.Dec.{eqb}
 use borrow.Author.Tests.{eq-eqb, ne-eqb}
 use Rattle.spec.specs.Bytes.{Bytes}
-use Rattle.spec.specs.NTriples.{Subject, named, blank, write}
+use Rattle.spec.specs.Rdf.{rdf}
+use Rattle.spec.specs.NTriples.{Subject, named, blank, typed, Triple, write}
 use Rattle.spec.specs.Productions.{literalOf, statement}
 use Rattle.spec.specs.Document.{Property, noObject, textObject}
 use Rattle.spec.specs.EndTag.{objectTerm}
@@ -22,6 +23,15 @@ use Rattle.ntriples.specs.declared.Node.the-variants as node-kind
 use Rattle.ntriples.specs.declared.Term.{Term}
 use Rattle.ntriples.specs.declared.Term.the-variants as term-kind
 use Rattle.ntriples.specs.Terms as T
+
+-- the statement of a default property of frame f, in the node of frame n, where language l is in force
+abbrev pub propertyLines : Frame → Frame → Found → List ℕ → List Triple
+propertyLines n f l w =
+    statement (propertyOf f w (subjectOf n w)) (objectTerm (optional (has f 4) (span w (at f 6) (at f 7))) (found l w) (objectOf (has f 5) (span w (at f 7) (at f 8))))
+
+-- that of a Literal property
+abbrev pub literalLines : Frame → Frame → List ℕ → List Triple
+literalLines n f w = statement (propertyOf f w (subjectOf n w)) (typed (span w (at f 7) (at f 8)) (rdf "XMLLiteral"))
 
 -- ---- what kind of term it is, whatever its bytes are
 

@@ -1,23 +1,23 @@
 // The lines that the end tag of a property writes, counted always and stored where `on`: crate writer says how.
 // `f` is the property's frame and `n` that of the node around it, which is its subject.
 ghost use mathlib.Core.Path.{_≡_};
-ghost use mathlib.Core.List.{[], _++_};
-ghost use Prim.Native.Nat.{_+_, _-_, _≤_, _<_};
+ghost use mathlib.Core.Bool.{true};
+ghost use mathlib.Core.List.{List, [], _++_};
+ghost use Prim.Native.Nat.{ℕ, _+_, _-_, _*_, _≤_, _<_};
 ghost use lib.Dec.{eqb};
 ghost use lib.ListN.{length};
 ghost use Rattle.spec.specs.Limits.{mostLabels};
-ghost use Rattle.spec.specs.Rdf.{rdf};
-ghost use Rattle.spec.specs.NTriples.{node, typed, label, write};
+ghost use Rattle.spec.specs.NTriples.{node, label, write};
 ghost use Rattle.spec.specs.Productions.{statement};
-ghost use Rattle.spec.specs.EndTag.{objectTerm, cells, headCell};
+ghost use Rattle.spec.specs.EndTag.{cells, headCell};
 ghost use Rattle.copy.specs.Copy.{part};
 ghost use Rattle.frames.specs.Words.{pick};
-ghost use Rattle.state.specs.Meaning.{at, has, count, span, optional, objectOf, childrenOf, subjectOf, propertyOf};
-ghost use Rattle.inside.specs.Laws.{found};
+ghost use Rattle.state.specs.Meaning.{at, has, count, span, childrenOf, subjectOf, propertyOf};
 ghost use Rattle.nodes.specs.Laws.{childNode};
 ghost use Rattle.writer.specs.Put.{Put};
 ghost use Rattle.ntriples.specs.Terms.{termOf, cellOf};
-ghost use Rattle.statements.specs.Object.{NodeFor, LiteralFor, TermFor};
+ghost use Rattle.statements.specs.Object.{propertyLines, literalLines, NodeFor, LiteralFor, TermFor};
+ghost use Rattle.statements.specs.Room.{objectRoom, StatementFits};
 ghost use Rattle.statements.specs.Cells.{nil, listAt, Listed};
 use frames::Frame;
 use frames::wide;
@@ -27,6 +27,17 @@ use nodes::Child;
 use ntriples::Node;
 use ntriples::Term;
 use stack::Found;
+use writer::iriref;
+use writer::quoted;
+
+// The longest language tag for which there may surely be room.
+const MOST_TAG: usize = 65_536;
+
+// The most bytes of a line beside what is written of its IRIs, texts and tags: brackets, quotes, spaces, the end.
+const MOST_MARKS: usize = 15;
+
+// What the four lines of an rdf:ID have at most beside the rdf:ID and another line's bytes: rdf names and marks.
+const MOST_RDF: usize = 1_533;
 
 // The statement of a default property: its object so far, or the empty literal.
 pub fn property_lines(
@@ -37,7 +48,7 @@ pub fn property_lines(
     language: Found,
     work: &[u8],
 ) -> usize
-    ensures { λ r. ⌜ Put on (now (out .entry)) (now (out .exit)) 0 r (write (statement (propertyOf f (now (work .entry)) (subjectOf n (now (work .entry)))) (objectTerm (optional (has f 4) (span (now (work .entry)) (at f 6) (at f 7))) (found language (now (work .entry))) (objectOf (has f 5) (span (now (work .entry)) (at f 7) (at f 8)))))) ⌝ }
+    ensures { λ r. ⌜ Put on (now (out .entry)) (now (out .exit)) 0 r (write (propertyLines n f language (now (work .entry)))) ⌝ }
 {
     let has = f.has;
     let term = object_term(has[5], has[4], language.there);
@@ -46,9 +57,26 @@ pub fn property_lines(
     statement(out, 0, on, n, f, work, term, text, extra)
 }
 
+// Is there surely room for its lines?
+pub fn property_fits(room: usize, n: Frame, f: Frame, language: Found) -> bool
+    ensures { λ r. ⌜ (r ≡ true → (w : List ℕ) → length (write (propertyLines n f language w)) ≤ room) ⌝ }
+{
+    let has = f.has;
+    if language.len > MOST_TAG {
+        return false;
+    }
+    let text = object_room(has[5], part_size(f, 7));
+    statement_fits(
+        room,
+        n,
+        f,
+        text + iriref::MOST * part_size(f, 6) + language.len,
+    )
+}
+
 // The statement of a Literal property: its XML text.
 pub fn literal_lines(out: &mut [u8], on: bool, n: Frame, f: Frame, work: &[u8]) -> usize
-    ensures { λ r. ⌜ Put on (now (out .entry)) (now (out .exit)) 0 r (write (statement (propertyOf f (now (work .entry)) (subjectOf n (now (work .entry)))) (typed (span (now (work .entry)) (at f 7) (at f 8)) (rdf "XMLLiteral")))) ⌝ }
+    ensures { λ r. ⌜ Put on (now (out .entry)) (now (out .exit)) 0 r (write (literalLines n f (now (work .entry)))) ⌝ }
 {
     let text = part_of(work, f, 7);
     statement(
@@ -61,6 +89,18 @@ pub fn literal_lines(out: &mut [u8], on: bool, n: Frame, f: Frame, work: &[u8]) 
         Term::Typed,
         text,
         &ntriples::RDF_XML_LITERAL,
+    )
+}
+
+// Is there surely room for its lines?
+pub fn literal_fits(room: usize, n: Frame, f: Frame) -> bool
+    ensures { λ r. ⌜ (r ≡ true → (w : List ℕ) → length (write (literalLines n f w)) ≤ room) ⌝ }
+{
+    statement_fits(
+        room,
+        n,
+        f,
+        quoted::MOST * part_size(f, 7) + iriref::MOST * ntriples::RDF_XML_LITERAL.len(),
     )
 }
 
@@ -201,6 +241,33 @@ fn statement(
     )
 }
 
+// Is there surely room for it, where its object takes at most `object` bytes beside its marks? An rdf:ID adds four lines.
+fn statement_fits(room: usize, n: Frame, f: Frame, object: usize) -> bool
+    requires { ⌜ object < 256 * 4294967296 ⌝ }
+    ensures { λ r. ⌜ (r ≡ true → StatementFits n f object room) ⌝ }
+{
+    let has = f.has;
+    let line = iriref::MOST * part_size(n, 4)
+        + iriref::MOST * part_size(f, 4)
+        + object
+        + MOST_MARKS;
+    if has[3] == 0 {
+        return line <= room;
+    }
+    2 * line + 4 * (iriref::MOST * part_size(f, 5)) + MOST_RDF <= room
+}
+
+// The most bytes that an object of `size` bytes takes beside its marks: an IRI, or else a label or a text.
+fn object_room(what: u32, size: usize) -> usize
+    requires { ⌜ size < 4294967296 ⌝ }
+    ensures { λ r. ⌜ (r ≡ objectRoom what size) × (r ≤ 6 * size) ⌝ }
+{
+    if what == 1 {
+        return iriref::MOST * size;
+    }
+    quoted::MOST * size
+}
+
 // What the object of a default property is: none means the empty literal.
 fn object_term(what: u32, datatype: u32, language: bool) -> Term
     ensures { λ r. ⌜ TermFor what datatype language r ⌝ }
@@ -261,6 +328,20 @@ fn part_of(work: &[u8], f: Frame, k: usize) -> &[u8]
         return names::piece(work, from, 0);
     }
     names::piece(work, from, to - from)
+}
+
+// How many bytes it has.
+fn part_size(f: Frame, k: usize) -> usize
+    requires { ⌜ k < 8 ⌝ }
+    ensures { λ r. ⌜ (r ≡ at f (k + 1) - at f k) × (r < 4294967296) ⌝ }
+{
+    let at = f.at;
+    let from = wide(at[k]);
+    let to = wide(at[k + 1]);
+    if to < from {
+        return 0;
+    }
+    to - from
 }
 
 fn node_of(blank: bool) -> Node

@@ -1,13 +1,13 @@
 -- A text written byte by byte, in runs: bytes that are written as they are go together.
-use Prim.Native.Nat.{ℕ, suc, _+_, _-_, _<_, _≤_}
-use mathlib.Core.Path.{_≡_, refl, sym, _∙_}
+use Prim.Native.Nat.{ℕ, zero, suc, _+_, _-_, _*_, _<_, _≤_}
+use mathlib.Core.Path.{_≡_, refl, sym}
 use mathlib.Core.Bool.{Bool, false, _||_}
 use mathlib.Core.List.{List, [], _∷_, _++_, append-assoc, append-nil}
 use mathlib.Core.Logic.{⊎-elim}
 use native.Mathlib.Numerals.{add-one}
-use native.Mathlib.Nat.{eq-or-lt-of-le}
+use native.Mathlib.Nat.{eq-or-lt-of-le, mul-suc}
 use native.Mathlib.Omega.{arith}
-use lib.ListN.{length, take, drop, getD, length-drop}
+use lib.ListN.{length, take, drop, getD, length-append, length-drop}
 use lib.Seq.{take-suc, take-length, take-add}
 use Rattle.spec.specs.Bytes.{Bytes}
 use Rattle.spec.specs.NTriples.{coded}
@@ -28,21 +28,66 @@ module _ (w : ℕ → Bytes) where
   coded-suc : (s : Bytes) (i : ℕ) → i < length s → coded w (take (i + 1) s) ≡ coded w (take i s) ++ w (getD s i 0)
   coded-suc s i h = rw (add-one, take-suc s i 0, coded-append, coded-one)
 
--- ---- the search for the next byte that is not written as it is: the first `i` bytes are
+  -- where no word has more than k bytes
+  pub length-coded : (k : ℕ) → ((c : ℕ) → length (w c) ≤ k) → (s : Bytes) → length (coded w s) ≤ k * length s
+  unfolding coded
+  length-coded k h [] = omega arith
+  length-coded k h (c ∷ s) = simp (length-append, mul-suc) (omega (arith, h c, length-coded k h s))
+
+-- ---- the search for the next marked byte: the first `i` bytes are written as they are
 
 pub record Plain (w : ℕ → Bytes) (s : Bytes) (i : ℕ) : Type 0 where
   pub upto : i ≤ length s
-  pub eq : coded w (take i s) ≡ take i s
+  pub each : (k : ℕ) → k < i → w (getD s k 0) ≡ getD s k 0 ∷ []
+
+plain-coded : {w : ℕ → Bytes} {s : Bytes} (i : ℕ) → Plain w s i → coded w (take i s) ≡ take i s
+unfolding coded
+plain-coded zero h = refl
+plain-coded {w} {s} (suc i) h =
+    let before : Plain w s i = record { upto = omega (arith, h .upto); each = λ k l. h .each k (omega arith) } in
+    rw (take-suc s i 0 (omega (arith, h .upto)), coded-append, coded-one, plain-coded i before, h .each i (omega arith))
 
 pub plain-begins : {w : ℕ → Bytes} {s : Bytes} → Plain w s 0
-unfolding coded
-plain-begins = record { upto = omega arith; eq = refl }
+plain-begins = record { upto = omega arith; each = λ k h. absurd (omega arith) }
 
 pub plain-more : {w : ℕ → Bytes} {s : Bytes} {i : ℕ} → Plain w s i → i < length s → w (getD s i 0) ≡ getD s i 0 ∷ [] → Plain w s (i + 1)
 plain-more {w} {s} {i} h b e =
-    record { upto = omega arith; eq = coded-suc w s i b ∙ rw (h .eq, e) (sym (rw add-one (take-suc s i 0 b))) }
+    record {
+      upto = omega arith;
+      each = λ k l. ⊎-elim (λ (x : k ≡ i). rw x e) (λ (x : k < i). h .each k x) (eq-or-lt-of-le (omega arith));
+    }
 
--- ---- the loop that writes, behind a first run of `j` bytes: whoever wrote those has written the first `i` now
+-- ---- the test of a block: unless one was marked, the bytes from `a` up to `b` are written as they are
+
+pub record Clean (w : ℕ → Bytes) (s : Bytes) (a b : ℕ) (marked : Bool) : Type 0 where
+  pub each : marked ≡ false → (k : ℕ) → a ≤ k → k < b → w (getD s k 0) ≡ getD s k 0 ∷ []
+
+pub clean-none : {w : ℕ → Bytes} {s : Bytes} {a : ℕ} {m : Bool} → Clean w s a a m
+clean-none = record { each = λ n k l h. absurd (omega arith) }
+
+pub clean-more : {w : ℕ → Bytes} {s : Bytes} {a i : ℕ} {m r : Bool} → Clean w s a i m → (r ≡ false → w (getD s i 0) ≡ getD s i 0 ∷ []) → Clean w s a (i + 1) (m || r)
+clean-more {w} {s} {a} {i} {m} {r} h e =
+    record {
+      each = λ n k l b.
+          ⊎-elim
+          (λ (x : k ≡ i). rw x (e (neither m r n .1)))
+          (λ (x : k < i). h .each (neither m r n .0) k l x)
+          (eq-or-lt-of-le (omega arith));
+    }
+
+pub clean-less : {w : ℕ → Bytes} {s : Bytes} {a b i : ℕ} {m : Bool} → Clean w s a i m → b ≤ i → Clean w s a b m
+clean-less h l = record { each = λ n k x y. h .each n k x (omega arith) }
+
+-- a block without a marked byte, which begins among those that were plain before
+pub plain-block : {w : ℕ → Bytes} {s : Bytes} {i a b : ℕ} {m : Bool} → Plain w s i → a ≤ i
+    → Clean w s a b m → m ≡ false → b ≤ length s → Plain w s b
+plain-block {w} {s} {i} {a} {b} {m} p l c n u =
+    record {
+      upto = u;
+      each = λ k h. ⊎-elim (λ (x : i ≤ k). c .each n k (omega arith) h) (λ (x : k < i). p .each k x) (compare i k);
+    }
+
+-- ---- the loops that write, behind a first run of `j` bytes: whoever wrote those has written the first `i` now
 
 pub record Going (w : ℕ → Bytes) (on : Bool) (d e : List ℕ) (at to : ℕ) (s : Bytes) (j i : ℕ) : Type 0 where
   pub upto : i ≤ length s
@@ -51,63 +96,48 @@ pub record Going (w : ℕ → Bytes) (on : Bool) (d e : List ℕ) (at to : ℕ) 
 pub going-begins : {w : ℕ → Bytes} {on : Bool} {d : List ℕ} {at j : ℕ} {s : Bytes} → Plain w s j → Going w on d d at at s j j
 going-begins h = record { upto = h .upto; put = λ p. p }
 
--- one byte more, and the run behind it
-pub going-more : {w : ℕ → Bytes} {on : Bool} {d e f g : List ℕ} {at to up by j i n : ℕ} {s : Bytes} → Going w on d e at to s j i → i < length s
-    → Put on e f to up (w (getD s i 0)) → Plain w (take (length s - (i + 1)) (drop (i + 1) s)) n
-    → Put on f g up by (take (i + 1 + n - (i + 1)) (drop (i + 1) s)) → Going w on d g at by s j (i + 1 + n)
-going-more {w} {on} {d} {e} {f} {g} {at} {to} {up} {by} {j} {i} {n} {s} h b p r q =
-    let run : Plain w (drop (i + 1) s) n = rw rest-of at r in
-    let size : i + 1 + n - (i + 1) ≡ n = omega arith in
-    let more : coded w (take (i + 1 + n) s) ≡ (coded w (take i s) ++ w (getD s i 0)) ++ take n (drop (i + 1) s) =
-    rw (take-add (i + 1) n s, coded-append, coded-suc w s i b, run .eq) in
-    record {
-      upto = omega (arith, simp length-drop at (run .upto));
-      put = λ first. put-as (puts (puts (h .put first) p) (rw size at q)) (sym more);
-    }
+-- one byte more
+pub going-byte : {w : ℕ → Bytes} {on : Bool} {d e f : List ℕ} {at to up j i : ℕ} {s : Bytes} → Going w on d e at to s j i → i < length s
+    → Put on e f to up (w (getD s i 0)) → Going w on d f at up s j (i + 1)
+going-byte {w} {i = i} {s = s} h l p =
+    record { upto = omega arith; put = λ first. put-as (puts (h .put first) p) (sym (coded-suc w s i l)) }
+
+-- `n` bytes more
+going-part : {w : ℕ → Bytes} {on : Bool} {d e f : List ℕ} {at to up j i : ℕ} {s : Bytes} (n : ℕ) → Going w on d e at to s j i
+    → i + n ≤ length s → Put on e f to up (coded w (take n (drop i s))) → Going w on d f at up s j (i + n)
+going-part {i = i} {s = s} n h l p =
+    record { upto = l; put = λ first. put-as (puts (h .put first) p) (sym (rw (take-add i n s, coded-append))) }
+
+-- a row, and the run behind it
+pub going-more : {w : ℕ → Bytes} {on : Bool} {d e f g : List ℕ} {at to up by j i : ℕ} {s : Bytes} (n m : ℕ) → Going w on d e at to s j i
+    → n ≤ length (take (length s - i) (drop i s)) → Put on e f to up (coded w (take (i + n - i) (drop i s)))
+    → Plain w (take (length s - (i + n)) (drop (i + n) s)) m → Put on f g up by (take (i + n + m - (i + n)) (drop (i + n) s))
+    → Going w on d g at by s j (i + n + m)
+going-more {w} {on} {d} {e} {f} {g} {at} {to} {up} {by} {j} {i} {s} n m h l p r q =
+    let row : i + n - i ≡ n = omega arith in
+    let size : i + n + m - (i + n) ≡ m = omega arith in
+    let upto : i + n ≤ length s = omega (arith, h .upto, simp length-drop at (rw rest-of at l)) in
+    let run : Plain w (drop (i + n) s) m = rw rest-of at r in
+    let before : Going w on d f at up s j (i + n) = going-part n h upto (rw row at p) in
+    going-part m before (omega (arith, simp length-drop at (run .upto))) (put-as (rw size at q) (sym (plain-coded m run)))
 
 pub going-done : {w : ℕ → Bytes} {on : Bool} {b d e : List ℕ} {a at to j i : ℕ} {s : Bytes} → Plain w s j → Put on b d a at (take j s)
     → Going w on d e at to s j i → length s ≤ i → Put on b e a to (coded w s)
 going-done {w} {on} {b} {d} {e} {a} {at} {to} {j} {i} {s} h p g l =
     let q : i ≡ length s = omega arith in
-    put-as (g .put (put-as p (sym (h .eq)))) (rw (q, take-length s))
+    put-as (g .put (put-as p (sym (plain-coded j h)))) (rw (q, take-length s))
+
+-- with no first run
+pub going-whole : {w : ℕ → Bytes} {on : Bool} {d e : List ℕ} {at to i : ℕ} {s : Bytes} → at ≤ most → Going w on d e at to s 0 i
+    → length s ≤ i → Put on d e at to (coded w s)
+unfolding coded
+going-whole {i = i} {s = s} m g l =
+    let q : i ≡ length s = omega (arith, g .upto) in
+    put-as (g .put (put-none m)) (rw (q, take-length s))
 
 -- what is left falls
-pub going-less : {l i : ℕ} (n : ℕ) → i < l → l - (i + 1 + n) < l - i
-going-less n h = omega arith
-
--- ---- the test of a whole text: unless one was marked, the bytes from `a` up to `b` are written as they are
-
-pub record Clean (w : ℕ → Bytes) (s : Bytes) (a b : ℕ) (marked : Bool) : Type 0 where
-  pub eq : marked ≡ false → (k : ℕ) → a ≤ k → k < b → w (getD s k 0) ≡ getD s k 0 ∷ []
-
-pub clean-none : {w : ℕ → Bytes} {s : Bytes} {a : ℕ} {m : Bool} → Clean w s a a m
-clean-none = record { eq = λ n k l h. absurd (omega arith) }
-
-pub clean-more : {w : ℕ → Bytes} {s : Bytes} {a i : ℕ} {m r : Bool} → Clean w s a i m → (r ≡ false → w (getD s i 0) ≡ getD s i 0 ∷ []) → Clean w s a (i + 1) (m || r)
-clean-more {w} {s} {a} {i} {m} {r} h e =
-    record {
-      eq = λ n k l b.
-          ⊎-elim
-          (λ (x : k ≡ i). rw x (e (neither m r n .1)))
-          (λ (x : k < i). h .eq (neither m r n .0) k l x)
-          (eq-or-lt-of-le (omega arith));
-    }
-
-pub clean-less : {w : ℕ → Bytes} {s : Bytes} {a b i : ℕ} {m : Bool} → Clean w s a i m → b ≤ i → Clean w s a b m
-clean-less h l = record { eq = λ n k x y. h .eq n k x (omega arith) }
-
--- none up to `b`, none from `d` on
-pub clean-join : {w : ℕ → Bytes} {s : Bytes} {a b d e : ℕ} {r : Bool} → Clean w s a b false → d ≤ b → Clean w s d e r → r ≡ false → Clean w s a e false
-clean-join {w} {s} {a} {b} {d} {e} {r} f l g n =
-    record { eq = λ q k h j. ⊎-elim (λ (x : b ≤ k). g .eq n k (omega arith) j) (λ (x : k < b). f .eq q k h x) (compare b k) }
-
-pub clean-whole : {w : ℕ → Bytes} (s : Bytes) {m : Bool} → Clean w s 0 (length s) m → m ≡ false → coded w s ≡ s
-unfolding coded
-clean-whole {w} s c n = go s (λ k h. c .eq n k (omega arith) h)
-  where
-    go : (s : Bytes) → ((k : ℕ) → k < length s → w (getD s k 0) ≡ getD s k 0 ∷ []) → coded w s ≡ s
-    go [] h = refl
-    go (b ∷ s) h = rw (h 0 (omega arith), go s (λ k l. h (suc k) (omega arith)))
+pub going-less : {l i n : ℕ} (m : ℕ) → i < l → 0 < n → l - (i + n + m) < l - i
+going-less m h p = omega arith
 
 -- nothing to code, nothing written
 pub coded-none : (w : ℕ → Bytes) {on : Bool} {d : List ℕ} (s : Bytes) {at : ℕ} → length s ≡ 0 → at ≤ most → Put on d d at at (coded w s)

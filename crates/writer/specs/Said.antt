@@ -1,4 +1,4 @@
--- A text written where all of it has room: drafted first and handed on, or measured first.
+-- A text written where all of it has room: that is known, or it is drafted first and handed on, or measured first.
 use Prim.Native.Nat.{ℕ, _+_, _<_, _≤_}
 use mathlib.Core.Path.{_≡_, refl, sym}
 use mathlib.Core.Bool.{Bool, true, false, false≢true}
@@ -32,6 +32,11 @@ says-wrote {d} {f} {s} w =
       same = wrote-same w;
     }
 
+-- all of it is known to have room
+pub says-sure : {on : Bool} {d f s : List ℕ} {n : ℕ} → Put on d f 0 n s → on ≡ true → length d < most → length s ≤ length d
+    → Says d f s (record { fits = true; written = n })
+says-sure p t l h = says-wrote (put-wrote p t (omega arith) (omega arith))
+
 -- there was nothing to write
 pub says-nothing : {d s : List ℕ} → s ≡ [] → Says d d s (record { fits = true; written = 0 })
 says-nothing e = rw e (says-wrote (wrote-none (omega arith)))
@@ -56,7 +61,7 @@ module _ {on : Bool} {a b d s : List ℕ} {n : ℕ} (p : Put on a b 0 n s) (l : 
 
     -- or written once more
     pub drafted-long : {t : Bool} {f : List ℕ} {to : ℕ} → Put t d f 0 to s → t ≡ true → Says d f s (record { fits = true; written = to })
-    drafted-long q t = says-wrote (put-wrote q t (omega arith) (omega (arith, p .up)))
+    drafted-long q t = says-sure q t l (omega (arith, p .up))
 
 -- ---- measured, and then written
 

@@ -1,8 +1,8 @@
--- The words that bytes are written as: which bytes stand for themselves, and when an IRI may not hold one.
+-- The words that bytes are written as: which bytes stand for themselves, which an IRI may not hold, and the tests that mark them.
 use Prim.Native.Nat.{ℕ, _≤_, _<_, _/_, _%_}
 use mathlib.Core.Path.{_≡_, refl, sym, _∙_}
-use mathlib.Core.Bool.{Bool, true, false, _||_, false≢true}
-use mathlib.Core.List.{List, [], _∷_, _++_}
+use mathlib.Core.Bool.{Bool, true, false, _||_, _&&_, false≢true}
+use mathlib.Core.List.{List, [], _∷_}
 use mathlib.Core.Logic.{_⊎_, inl, inr, ⊎-elim}
 use native.Mathlib.Nat.{eq-or-lt-of-le}
 use native.Mathlib.Omega.{arith}
@@ -10,11 +10,12 @@ use types.Run.{OneOf}
 use lib.Dec.{eqb, leb}
 use lib.Bits.{bitAnd}
 use lib.ListN.{length}
-use borrow.Author.Tests.{ne-eqb, le-leb, lt-leb, leb-true, leb-false, eqb-false}
+use borrow.Author.Tests.{ne-eqb, le-leb, lt-leb, leb-false}
 use Rattle.spec.specs.Bytes.{Bytes, ascii, byte, if_then_else_, among, every}
 use Rattle.spec.specs.NTriples.{literalByte, iriByte, hexDigit, forbidden}
 use Rattle.spec.specs.XmlLiteral.{textByte, valueByte}
 use Rattle.spec.proofs.Booleans.{and-left, and-right}
+use Rattle.writer.specs.Put.{compare}
 
 -- ---- bytes that stand for themselves
 
@@ -39,43 +40,23 @@ pub iri-digits : (c : ℕ) → forbidden c ≡ true → 92 ∷ 117 ∷ 48 ∷ 48
 unfolding iriByte if_then_else_ ascii
 iri-digits c h = rw h
 
--- ---- a word of one byte is the byte itself
+-- ---- how long a word is
 
-one-byte : (t : Bool) (s : Bytes) {r : Bytes} {c : ℕ} → eqb (length s) 1 ≡ false → (eqb (length r) 1 ≡ true → r ≡ c ∷ []) → eqb (length (if t then s else r)) 1 ≡ true → (if t then s else r) ≡ c ∷ []
+short-if : (t : Bool) (s r : Bytes) (k : ℕ) → length s ≤ k → length r ≤ k → length (if t then s else r) ≤ k
 unfolding if_then_else_
-one-byte true s a b h = absurd (false≢true (sym a ∙ h))
-one-byte false s a b h = b h
+short-if true s r k a b = a
+short-if false s r k a b = b
 
-pub literal-one : (c : ℕ) → eqb (length (literalByte c)) 1 ≡ true → literalByte c ≡ c ∷ []
+pub length-literal-byte : (c : ℕ) → length (literalByte c) ≤ 2
 unfolding literalByte ascii
-literal-one c =
-    one-byte _ (ascii "\\\"") refl (
-    one-byte _ (ascii "\\\\") refl (one-byte _ (ascii "\\n") refl (one-byte _ (ascii "\\r") refl (λ h. refl)))
-    )
+length-literal-byte c =
+    let two : (t : Bool) (a b : ℕ) (r : Bytes) → length r ≤ 2 → length (if t then a ∷ b ∷ [] else r) ≤ 2 =
+    λ t a b r. short-if t (a ∷ b ∷ []) r 2 (omega arith) in
+    two _ _ _ _ (two _ _ _ _ (two _ _ _ _ (two _ _ _ (c ∷ []) (omega arith))))
 
-pub text-one : (c : ℕ) → eqb (length (textByte c)) 1 ≡ true → textByte c ≡ c ∷ []
-unfolding textByte ascii
-text-one c =
-    one-byte _ (ascii "&amp;") refl (
-    one-byte _ (ascii "&lt;") refl (
-    one-byte _ (ascii "&gt;") refl (one-byte _ (ascii "&quot;") refl (one-byte _ (ascii "&apos;") refl (λ h. refl)))
-    )
-    )
-
-pub value-one : (c : ℕ) → eqb (length (valueByte c)) 1 ≡ true → valueByte c ≡ c ∷ []
-unfolding valueByte ascii
-value-one c =
-    one-byte _ (ascii "&amp;") refl (
-    one-byte _ (ascii "&lt;") refl (
-    one-byte _ (ascii "&quot;") refl (
-    one-byte _ (ascii "&#x9;") refl (one-byte _ (ascii "&#xA;") refl (one-byte _ (ascii "&#xD;") refl (λ h. refl)))
-    )
-    )
-    )
-
-pub iri-one : (c : ℕ) → eqb (length (iriByte c)) 1 ≡ true → iriByte c ≡ c ∷ []
+pub length-iri-byte : (c : ℕ) → length (iriByte c) ≤ 6
 unfolding iriByte ascii
-iri-one c = one-byte (forbidden c) (ascii "\\u00" ++ (hexDigit (c / 16) ∷ hexDigit (c % 16) ∷ [])) refl (λ h. refl)
+length-iri-byte c = short-if (forbidden c) _ (c ∷ []) 6 (omega arith) (omega arith)
 
 -- ---- forbidden bytes
 
@@ -120,43 +101,63 @@ allowed {c} l m o =
       ne-eqb 92 c (λ e. m (inr (inr (inr (inl (sym e)))))),
     )
 
--- ---- small letters stand for themselves
-
-pub literal-letter : {c : ℕ} → 97 ≤ c → c ≤ 122 → literalByte c ≡ c ∷ []
-literal-letter l h = literal-same (λ e. omega arith) (λ e. omega arith) (λ e. omega arith) (λ e. omega arith)
-
-pub text-letter : {c : ℕ} → 97 ≤ c → c ≤ 122 → textByte c ≡ c ∷ []
-text-letter l h = text-same (λ e. omega arith) (λ e. omega arith) (λ e. omega arith) (λ e. omega arith) (λ e. omega arith)
-
-pub value-letter : {c : ℕ} → 97 ≤ c → c ≤ 122 → valueByte c ≡ c ∷ []
-value-letter l h = value-same (λ e. omega arith) (λ e. omega arith) (λ e. omega arith) (λ e. omega arith) (λ e. omega arith) (λ e. omega arith)
-
-pub iri-letter : {c : ℕ} → 97 ≤ c → c ≤ 122 → iriByte c ≡ c ∷ []
-unfolding every
-iri-letter {c} l h =
-    iri-same (allowed (omega arith) (λ m. let low : c ≤ 96 = leb-true c 96 (one-of (λ k. leb k 96) 34 (60 ∷ 62 ∷ 92 ∷ 94 ∷ 96 ∷ []) c refl m) in omega arith) (inl (omega arith)))
-
--- ---- tests of a byte at once: none of them passed
+-- ---- marked bytes: a byte that is not stands for itself
 
 pub neither : (a b : Bool) → (a || b) ≡ false → (a ≡ false) × (b ≡ false)
 neither true b h = absurd (false≢true (sym h))
 neither false b h = (refl, h)
 
+-- a byte that fails a test is none that passes it
+differs : (p : ℕ → Bool) (k : ℕ) {c : ℕ} → p k ≡ true → p c ≡ false → c ≡ k → ⊥
+differs p k y n e = false≢true (sym n ∙ rw e y)
+
+literalMarked : ℕ → Bool
+literalMarked c = (leb c 13 || eqb c 34) || eqb c 92
+
 pub literal-unmarked : (c : ℕ) → ((leb c 13 || eqb c 34) || eqb c 92) ≡ false → literalByte c ≡ c ∷ []
+unfolding literalMarked
 literal-unmarked c h =
-    let b : (leb c 13 || eqb c 34 ≡ false) × (eqb c 92 ≡ false) = neither (leb c 13 || eqb c 34) (eqb c 92) h in
-    let a : (leb c 13 ≡ false) × (eqb c 34 ≡ false) = neither (leb c 13) (eqb c 34) (b .0) in
-    let low : 13 < c = leb-false c 13 (a .0) in
-    literal-same (eqb-false c 34 (a .1)) (eqb-false c 92 (b .1)) (λ x. omega arith) (λ x. omega arith)
+    literal-same
+    (differs literalMarked 34 refl h)
+    (differs literalMarked 92 refl h)
+    (differs literalMarked 10 refl h)
+    (differs literalMarked 13 refl h)
 
--- a mask takes four marks at once
+textMarked : ℕ → Bool
+textMarked c = (eqb (bitAnd c 250) 34 || eqb c 60) || eqb c 62
+
+pub text-unmarked : (c : ℕ) → ((eqb (bitAnd c 250) 34 || eqb c 60) || eqb c 62) ≡ false → textByte c ≡ c ∷ []
+unfolding textMarked
+text-unmarked c h =
+    text-same
+    (differs textMarked 38 refl h)
+    (differs textMarked 60 refl h)
+    (differs textMarked 62 refl h)
+    (differs textMarked 34 refl h)
+    (differs textMarked 39 refl h)
+
+valueMarked : ℕ → Bool
+valueMarked c = ((leb c 13 || eqb c 34) || eqb c 38) || eqb c 60
+
+pub value-unmarked : (c : ℕ) → (((leb c 13 || eqb c 34) || eqb c 38) || eqb c 60) ≡ false → valueByte c ≡ c ∷ []
+unfolding valueMarked
+value-unmarked c h =
+    value-same
+    (differs valueMarked 38 refl h)
+    (differs valueMarked 60 refl h)
+    (differs valueMarked 34 refl h)
+    (differs valueMarked 9 refl h)
+    (differs valueMarked 10 refl h)
+    (differs valueMarked 13 refl h)
+
 iriMarked : ℕ → Bool
-iriMarked c = ((eqb (bitAnd c 157) 28 || eqb c 96) || leb c 34) || leb 123 c
+iriMarked c = ((eqb (bitAnd c 157) 28 || eqb c 96) || leb c 34) || (leb 123 c && leb c 127)
 
-pub iri-unmarked : (c : ℕ) → (((eqb (bitAnd c 157) 28 || eqb c 96) || leb c 34) || leb 123 c) ≡ false → iriByte c ≡ c ∷ []
+pub iri-unmarked : (c : ℕ) → (((eqb (bitAnd c 157) 28 || eqb c 96) || leb c 34) || (leb 123 c && leb c 127)) ≡ false → iriByte c ≡ c ∷ []
 unfolding iriMarked every
 iri-unmarked c h =
-    let d : ((eqb (bitAnd c 157) 28 || eqb c 96) || leb c 34 ≡ false) × (leb 123 c ≡ false) = neither ((eqb (bitAnd c 157) 28 || eqb c 96) || leb c 34) (leb 123 c) h in
+    let d = neither ((eqb (bitAnd c 157) 28 || eqb c 96) || leb c 34) (leb 123 c && leb c 127) h in
     let low : 34 < c = leb-false c 34 (neither (eqb (bitAnd c 157) 28 || eqb c 96) (leb c 34) (d .0) .1) in
-    let high : c < 123 = leb-false 123 c (d .1) in
-    iri-same (allowed (omega arith) (λ m. false≢true (sym h ∙ one-of iriMarked 34 (60 ∷ 62 ∷ 92 ∷ 94 ∷ 96 ∷ []) c refl m)) (inl high))
+    let out : (c < 123) ⊎ (126 ≤ c) =
+    ⊎-elim (λ (x : 123 ≤ c). inr (omega (arith, leb-false c 127 (rw (le-leb 123 c x) at (d .1))))) inl (compare 123 c) in
+    iri-same (allowed (omega arith) (λ m. false≢true (sym h ∙ one-of iriMarked 34 (60 ∷ 62 ∷ 92 ∷ 94 ∷ 96 ∷ []) c refl m)) out)

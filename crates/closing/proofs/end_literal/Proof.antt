@@ -1,10 +1,9 @@
--- `closing::end_literal` meets its contract. Measured, and then written: one law of specs/ for each return.
-use mathlib.Core.Path.{refl, sym, _∙_}
+-- `closing::end_literal` meets its contract. Written where all of it has room: one law of specs/ for each return.
+use mathlib.Core.Path.{sym, _∙_}
+use borrow.Author.Tests.{not-true, not-false}
 use Rattle.state.specs.Tests.{yes, no}
-use Rattle.writer.specs.Said.{says-not, says-all}
 use Rattle.closing.specs.Ends.{tells-over, tells-full, tells-done}
 use Rattle.closing.specs.Kinds.{literal-tells, literal-empty, empty-is, empty-not}
-use native.Mathlib.Omega.{arith}
 use borrow.Author.Needs.{needs}
 use Rattle.closing.proofs.end_literal.Statement.{statement}
 use Rattle.closing.proofs.end_literal.Tie as tie
@@ -30,23 +29,20 @@ holds-no-more-requires c κs = search needs
 returns-2 : tie.Need-returns-2
 returns-2 c = tells-over (literal-tells (c .before .before .before .before .pop .ensures) (c .before .before .before .before .before .before .before .top .ensures) (c .before .before .top2 .ensures) (empty-not _ (λ z. c .before .before .before .before .before .if1 .left (c .before .before .before .before .before .before .tail-size .ensures ∙ z)))) (no (c .before .holds-no-more .ensures) (c .if2 .taken))
 
-literal-lines-requires : tie.Need-literal-lines-requires
-literal-lines-requires c κs = search needs
+say-literal-requires : tie.Need-say-literal-requires
+say-literal-requires c κs = search needs
 
 same-length : tie.Need-same-length
-same-length c = c .before .before .out .given
+same-length c = c .before .before .before .out .given
 
 returns-3 : tie.Need-returns-3
-returns-3 c = tells-full (literal-tells (c .before .before .before .before .before .before .before .before .before .pop .ensures) (c .before .before .before .before .before .before .before .before .before .before .before .before .top .ensures) (c .before .before .before .before .before .before .before .top2 .ensures) (empty-not _ (λ z. c .before .before .before .before .before .before .before .before .before .before .if1 .left (c .before .before .before .before .before .before .before .before .before .before .before .tail-size .ensures ∙ z)))) (yes (c .before .before .before .before .before .before .holds-no-more .ensures) (c .before .before .before .before .before .if2 .left)) (says-not (c .before .before .before .literal-lines .ensures) refl (omega arith) (omega arith)) refl
-
-literal-lines-requires-2 : tie.Need-literal-lines-requires-2
-literal-lines-requires-2 c κs = search needs
+returns-3 c = tells-full (literal-tells (c .before .before .before .before .before .before .before .before .before .before .pop .ensures) (c .before .before .before .before .before .before .before .before .before .before .before .before .before .top .ensures) (c .before .before .before .before .before .before .before .before .top2 .ensures) (empty-not _ (λ z. c .before .before .before .before .before .before .before .before .before .before .before .if1 .left (c .before .before .before .before .before .before .before .before .before .before .before .before .tail-size .ensures ∙ z)))) (yes (c .before .before .before .before .before .before .before .holds-no-more .ensures) (c .before .before .before .before .before .before .if2 .left)) (c .before .before .before .before .say-literal .ensures) (not-true _ (c .if3 .taken))
 
 same-length-2 : tie.Need-same-length-2
-same-length-2 c = c .before .out2 .given ∙ c .before .before .before .before .before .before .out .given
+same-length-2 c = c .before .before .before .out .given
 
 returns-4 : tie.Need-returns-4
-returns-4 c = tells-done (literal-tells (c .before .before .before .before .before .before .before .before .before .before .before .before .before .pop .ensures) (c .before .before .before .before .before .before .before .before .before .before .before .before .before .before .before .before .top .ensures) (c .before .before .before .before .before .before .before .before .before .before .before .top2 .ensures) (empty-not _ (λ z. c .before .before .before .before .before .before .before .before .before .before .before .before .before .before .if1 .left (c .before .before .before .before .before .before .before .before .before .before .before .before .before .before .before .tail-size .ensures ∙ z)))) (yes (c .before .before .before .before .before .before .before .before .before .before .holds-no-more .ensures) (c .before .before .before .before .before .before .before .before .before .if2 .left)) (says-all (c .before .before .before .before .before .before .before .literal-lines .ensures) refl (omega (arith, c .before .before .before .before .before .before .before .before .before .before .before .before .before .before .before .before .before .before .before .before .good)) (c .before .before .literal-lines2 .ensures) refl (omega arith)) refl
+returns-4 c = tells-done (literal-tells (c .before .before .before .before .before .before .before .before .before .before .pop .ensures) (c .before .before .before .before .before .before .before .before .before .before .before .before .before .top .ensures) (c .before .before .before .before .before .before .before .before .top2 .ensures) (empty-not _ (λ z. c .before .before .before .before .before .before .before .before .before .before .before .if1 .left (c .before .before .before .before .before .before .before .before .before .before .before .before .tail-size .ensures ∙ z)))) (yes (c .before .before .before .before .before .before .before .holds-no-more .ensures) (c .before .before .before .before .before .before .if2 .left)) (c .before .before .before .before .say-literal .ensures) (not-false _ (c .if3 .left))
 
 pub end-literal-spec : {M : Type 1} → statement M
 end-literal-spec =
@@ -59,9 +55,8 @@ end-literal-spec =
     top-requires-2
     holds-no-more-requires
     returns-2
-    literal-lines-requires
+    say-literal-requires
     same-length
     returns-3
-    literal-lines-requires-2
     same-length-2
     returns-4)

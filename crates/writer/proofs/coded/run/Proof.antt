@@ -1,10 +1,8 @@
 -- `coded::run` meets its contract. The loop's invariant: the first `i` bytes are written as they are.
 use Prim.Native.Nat.{_-_}
-use mathlib.Core.Path.{sym, _∙_}
 use lib.ListN.{length}
-use Rattle.writer.specs.Rules.{byteOf, one-is}
-use Rattle.writer.specs.Coded.{Plain, plain-begins, plain-more}
-use borrow.Author.Tests.{not-false}
+use Rattle.writer.specs.Rules.{byteOf}
+use Rattle.writer.specs.Coded.{Plain, plain-more}
 use native.Mathlib.Omega.{arith}
 use borrow.Author.Needs.{needs}
 use Rattle.writer.proofs.coded.run.Statement.{statement}
@@ -16,14 +14,17 @@ Inv-loop s rule i₀ i = Plain (byteOf rule) s i
 abbrev μ-loop : tie.MeasureT-loop
 μ-loop s rule i₀ i = length s - i
 
+skip-blocks-requires : tie.Need-skip-blocks-requires Inv-loop μ-loop
+skip-blocks-requires c κs = search needs
+
 loop-holds : tie.Need-loop-holds Inv-loop μ-loop
-loop-holds c = plain-begins
+loop-holds c = c .skip-blocks .ensures
 
-shared-slice-read-is-plain : tie.Need-shared-slice-read-is-plain Inv-loop μ-loop
-shared-slice-read-is-plain c = search needs
+shared-slice-read-is-marked : tie.Need-shared-slice-read-is-marked Inv-loop μ-loop
+shared-slice-read-is-marked c = search needs
 
-is-plain-requires : tie.Need-is-plain-requires Inv-loop μ-loop
-is-plain-requires c κs = search needs
+is-marked-requires : tie.Need-is-marked-requires Inv-loop μ-loop
+is-marked-requires c κs = search needs
 
 returns : tie.Need-returns Inv-loop μ-loop
 returns c = c .before .before .before .before .loop .inv
@@ -35,7 +36,7 @@ loop-less : tie.Need-loop-less Inv-loop μ-loop
 loop-less c = search needs
 
 loop-again : tie.Need-loop-again Inv-loop μ-loop
-loop-again c = plain-more (c .before .before .before .before .loop .inv) (omega arith) (one-is (c .before .before .before .before .before .before .args .rule) _ (sym (c .before .is-plain .ensures) ∙ not-false _ (c .if1 .left)))
+loop-again c = plain-more (c .before .before .before .before .loop .inv) (omega arith) (c .before .is-marked .ensures (c .if1 .left))
 
 returns-2 : tie.Need-returns-2 Inv-loop μ-loop
 returns-2 c = c .before .loop .inv
@@ -46,9 +47,10 @@ run-spec =
     (tie.spec
     Inv-loop
     μ-loop
+    skip-blocks-requires
     loop-holds
-    shared-slice-read-is-plain
-    is-plain-requires
+    shared-slice-read-is-marked
+    is-marked-requires
     returns
     add-i
     loop-less

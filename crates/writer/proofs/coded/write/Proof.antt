@@ -1,6 +1,7 @@
 -- `coded::write` meets its contract. The loop's invariant: whoever wrote the first run has written the first `i` bytes now.
 use Prim.Native.Nat.{_-_}
-use lib.ListN.{length, length-take}
+use lib.ListN.{length, length-take, length-drop}
+use Rattle.copy.specs.Copy.{rest-of}
 use Rattle.writer.specs.Rules.{byteOf}
 use Rattle.writer.specs.Coded.{Going, going-begins, going-more, going-done, going-less}
 use native.Mathlib.Omega.{arith}
@@ -26,14 +27,32 @@ bytes-requires c κs = search needs
 loop-holds : tie.Need-loop-holds Inv-loop μ-loop
 loop-holds c = going-begins (c .before .before .before .before .before .run .ensures)
 
-shared-slice-read-escape : tie.Need-shared-slice-read-escape Inv-loop μ-loop
-shared-slice-read-escape c = search needs
+sub-row : tie.Need-sub-row Inv-loop μ-loop
+sub-row c = search needs
 
-escape-requires : tie.Need-escape-requires Inv-loop μ-loop
-escape-requires c κs = search needs
+part-row-start : tie.Need-part-row-start Inv-loop μ-loop
+part-row-start c = search needs
+
+part-row-end : tie.Need-part-row-end Inv-loop μ-loop
+part-row-end c = search needs
+
+row-requires : tie.Need-row-requires Inv-loop μ-loop
+row-requires c κs = rw rest-of (simp length-drop (omega arith))
 
 add-next : tie.Need-add-next Inv-loop μ-loop
 add-next c = search needs
+
+sub-escape-row : tie.Need-sub-escape-row Inv-loop μ-loop
+sub-escape-row c = search needs
+
+part-escape-row-start : tie.Need-part-escape-row-start Inv-loop μ-loop
+part-escape-row-start c = search needs
+
+part-escape-row-end : tie.Need-part-escape-row-end Inv-loop μ-loop
+part-escape-row-end c = search needs
+
+escape-row-requires : tie.Need-escape-row-requires Inv-loop μ-loop
+escape-row-requires c κs = search needs
 
 sub-run : tie.Need-sub-run Inv-loop μ-loop
 sub-run c = search needs
@@ -63,10 +82,10 @@ bytes-requires-2 : tie.Need-bytes-requires-2 Inv-loop μ-loop
 bytes-requires-2 c κs = search needs
 
 loop-less : tie.Need-loop-less Inv-loop μ-loop
-loop-less c = going-less (c .before .before .before .before .before .run2 .result) (omega arith)
+loop-less c = going-less (c .before .before .before .before .before .run2 .result) (omega arith) (c .before .before .before .before .before .before .before .before .before .before .before .before .row .ensures .0)
 
 loop-again : tie.Need-loop-again Inv-loop μ-loop
-loop-again c = going-more (c .before .before .before .before .before .before .before .before .before .before .before .before .before .loop .inv) (omega arith) (c .before .before .before .before .before .before .before .before .before .escape .ensures) (c .before .before .before .before .before .run2 .ensures) (c .before .before .bytes2 .ensures)
+loop-again c = going-more (c .before .before .before .before .before .before .before .before .before .before .before .before .row .result) (c .before .before .before .before .before .run2 .result) (c .before .before .before .before .before .before .before .before .before .before .before .before .before .before .before .loop .inv) (c .before .before .before .before .before .before .before .before .before .before .before .before .row .ensures .1) (c .before .before .before .before .before .before .before .before .before .escape-row .ensures) (c .before .before .before .before .before .run2 .ensures) (c .before .before .bytes2 .ensures)
 
 same-length : tie.Need-same-length Inv-loop μ-loop
 same-length c = going-done (c .before .before .before .before .before .before .before .run .ensures) (c .before .before .before .before .bytes .ensures) (c .before .loop .inv) (omega arith) .same
@@ -84,9 +103,15 @@ write-spec =
     slice-aggregate-bytes
     bytes-requires
     loop-holds
-    shared-slice-read-escape
-    escape-requires
+    sub-row
+    part-row-start
+    part-row-end
+    row-requires
     add-next
+    sub-escape-row
+    part-escape-row-start
+    part-escape-row-end
+    escape-row-requires
     sub-run
     part-run-start
     part-run-end

@@ -1,17 +1,17 @@
--- `writer::iriref::has_marked` meets its contract. The loop's invariant: unless one was marked, the bytes before `i` are written as they are.
+-- `writer::coded::has_marked` meets its contract. The loop's invariant: unless one was marked, the bytes before `i` are written as they are.
 use Prim.Native.Nat.{_-_}
-use Rattle.spec.specs.NTriples.{iriByte}
+use Rattle.writer.specs.Rules.{byteOf}
 use Rattle.writer.specs.Coded.{Clean, clean-none, clean-more, clean-less}
 use native.Mathlib.Omega.{arith}
 use borrow.Author.Needs.{needs}
-use Rattle.writer.proofs.iriref.has_marked.Statement.{statement}
-use Rattle.writer.proofs.iriref.has_marked.Tie as tie
+use Rattle.writer.proofs.coded.has_marked.Statement.{statement}
+use Rattle.writer.proofs.coded.has_marked.Tie as tie
 
 abbrev Inv-loop : tie.InvT-loop
-Inv-loop s from to marked₀ i₀ marked i = Clean iriByte s from i marked
+Inv-loop s from to rule marked₀ i₀ marked i = Clean (byteOf rule) s from i marked
 
 abbrev μ-loop : tie.MeasureT-loop
-μ-loop s from to marked₀ i₀ marked i = to - i
+μ-loop s from to rule marked₀ i₀ marked i = to - i
 
 loop-holds : tie.Need-loop-holds Inv-loop μ-loop
 loop-holds c = clean-none
