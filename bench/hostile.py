@@ -85,7 +85,7 @@ def accepted():
     yield 'property at depth 63', root() + nested(61), tag('a')
     yield 'property at depth 63 with 128 bindings', full + nested(60), tag('a')
     yield 'property on a long namespace', root(default=LONG) + tag('a'), tag('a')
-    yield 'property on a long namespace with 128 bindings', root(*bindings(62), default=LONG) + tag('a', *bindings(64, 'q')) + nested(28), tag('a')
+    yield 'property on a long namespace at depth 63 with 128 bindings', root(*bindings(62), default=LONG) + tag('a', *bindings(64, 'q')) + nested(60), tag('a')
     yield 'node', root(), tag('a')
     yield 'node at depth 64', root() + nested(62), tag('a')
     yield 'node at depth 64 with 128 bindings', full + nested(61), tag('a')
@@ -105,7 +105,7 @@ def accepted():
     yield '31 declarations and 32 attributes of the last', root(*bindings(62)) + tag('a'), \
         tag('a', *bindings(31, 'q'), ('r:parseType', 'x'), *[('paa:' + w, '') for w in itertools.islice(words(1), 32)])
     # -- rdf:ID
-    for size, base in ((2, 'a:'), (2, 'http://e/' + 'b' * 50), (8, 'http://e/' + 'b' * 45)):
+    for size, base in ((2, 'a:'), (3, 'a:'), (10, 'a:'), (2, 'http://e/' + 'b' * 50), (8, 'http://e/' + 'b' * 45), (10, 'http://e/' + 'b' * 43), (18, 'http://e/' + 'b' * 35)):
         ids = list(itertools.islice(words(2), 512))
         yes = [w + 'x' * (size - 2) for w in ids]
         before = root(('xml:base', base)) + tag('a') + ''.join(tag('a', ('r:ID', w)) + ')a\n' for w in yes[:511])
@@ -113,6 +113,9 @@ def accepted():
     yield 'rdf:ID, the first', root(('xml:base', 'a:')) + tag('a'), tag('a', ('r:ID', 'a'))
     yield 'rdf:ID on a base of 1,022 bytes behind 31 others', \
         root(('xml:base', 'http://e/' + 'b' * 1_013)) + tag('a') + ''.join(tag('a', ('r:ID', w)) + ')a\n' for w in LETTERS[:31]), tag('a', ('r:ID', 'Z'))
+    bases = [w + ':' + 'b' * 58 for w in itertools.islice(words(2), 512)]
+    under = root() + ''.join(tag('a', ('xml:base', b)) + tag('a', ('r:ID', 'x')) + ')a\n)a\n' for b in bases[:511])
+    yield 'rdf:ID under another base than 511 others', under + tag('a', ('xml:base', bases[511])), tag('a', ('r:ID', 'x'))
     # -- references
     climb = 'http://e/' + 'a/' * 500
     yield 'rdf:about with 300 times ../', root(('xml:base', climb)), tag('a', ('r:about', '../' * 300))
@@ -187,8 +190,8 @@ def refused():
     yield 'Literal: as many attributes as there can be', root() + tag('a') + inside, filled(tag('a'), plain, shortest()), 7
     twice = root(('xmlns:p', 'n' * 12_000 + 'p' + 'n' * 12_000)) + tag('a', ('xmlns:q', 'n' * 12_000 + 'q' + 'n' * 12_000))
     yield 'two namespaces of 24,001 bytes that end alike', twice, filled(tag('a'), lambda n: f'Ap:{n} \nAq:{n} \n', shortest()), 7
-    names = list(itertools.islice(words(1), 46))
-    bound = [('xmlns:' + w, f'n{w}' + 'n' * 990) for w in names]
+    names = ['q' + w for w in itertools.islice(words(1), 46)]
+    bound = [('xmlns:' + w, w + 'n' * 990) for w in names]
     lines = lambda n: ''.join(f'A{w}:{n} \n' for w in names)
     yield '46 namespaces of 992 bytes that end alike', root(*bound[:23]) + tag('a', *bound[23:]), filled(tag('a'), lines, shortest()), 7
     yield 'names that end alike', root(('xmlns:p', 'u')), filled(tag('a'), lambda n: f'Ap:{n}{"x" * 16} \n', words(2)), 7
