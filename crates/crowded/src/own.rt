@@ -1,12 +1,12 @@
-// The classes of many attributes' names. The tag's own declarations are laid out as rows first, so that a prefix is looked for among
-// them alone and not among all attributes.
+// The classes of many attributes' names. The tag's own declarations are laid out as rows first, so that a prefix is
+// looked for among them alone and not among all attributes.
 ghost use Prim.Native.Nat.{_/_, _≤_, _<_};
 ghost use mathlib.Core.Path.{_≡_};
 ghost use lib.ListN.{length};
 ghost use Rattle.names.specs.Tag.{nameAt, colonAt, frontOf, attributeAt};
 ghost use Rattle.names.specs.Found.{scope};
 ghost use Rattle.names.specs.Classes.{Says};
-ghost use Rattle.crowded.specs.Own.{Within, WithinAt, ownRow, Owns, Finds, Classes};
+ghost use Rattle.crowded.specs.Own.{Within, WithinAt, ownRow, Owns, Finds, Classes, classHeld};
 use crate::PLACES;
 use frames::Row;
 use names::Class;
@@ -22,7 +22,8 @@ pub fn repeated_expanded<'a>(
     n: usize,
 ) -> bool
     requires { ⌜ Within (now spans) k × (k ≤ 8_192) ⌝ }
-    ensures { λ r. ⌜ Finds (now (scratch .entry)) (now (spans .entry)) k (now (work .entry)) (now (bindings .entry)) n r ⌝ }
+    ensures { λ r. ⌜ Finds (now (scratch .entry)) (now (spans .entry)) k
+        (now (work .entry)) (now (bindings .entry)) n r ⌝ }
 {
     let mut rows = [0u32; PLACES * Row::WORDS];
     let d = own_rows(scratch, spans, k, &mut rows);
@@ -83,7 +84,8 @@ fn classify(
     classes: &mut [usize],
 )
     requires { ⌜ Owns (now scratch) (now spans) k (now rows) (now rows) d × (k ≤ length (now classes) / 3) ⌝ }
-    ensures { λ _. ⌜ Classes (now (scratch .entry)) (now (spans .entry)) k (now (work .entry)) (now (bindings .entry)) n (now (classes .entry)) (now (classes .exit)) ⌝ }
+    ensures { λ _. ⌜ Classes (now (scratch .entry)) (now (spans .entry)) k
+        (now (work .entry)) (now (bindings .entry)) n (now (classes .entry)) (now (classes .exit)) ⌝ }
 {
     let mut j = 0;
     while j < k {
@@ -106,7 +108,10 @@ fn class_of(
     j: usize,
 ) -> Class
     requires { ⌜ Owns (now scratch) (now spans) k (now rows) (now rows) d ⌝ }
-    ensures { λ r. ⌜ Says r (now (scratch .entry)) (now (work .entry)) (scope (now (scratch .entry)) (now (spans .entry)) k (now (work .entry)) (now (bindings .entry)) n) (attributeAt (now (scratch .entry)) (now (spans .entry)) j) (frontOf (colonAt (now (spans .entry)) j) (nameAt (now (scratch .entry)) (now (spans .entry)) j)) ⌝ }
+    ensures { λ r. ⌜ Says r (now (scratch .entry)) (now (work .entry))
+        (scope (now (scratch .entry)) (now (spans .entry)) k (now (work .entry)) (now (bindings .entry)) n)
+        (attributeAt (now (scratch .entry)) (now (spans .entry)) j)
+        (frontOf (colonAt (now (spans .entry)) j) (nameAt (now (scratch .entry)) (now (spans .entry)) j)) ⌝ }
 {
     if names::is_declaration(names::name_of(scratch, spans, j)) {
         return Class::Declaration;
@@ -126,6 +131,7 @@ fn class_of(
 
 // The class of a name whose prefix the tag itself does not declare, from what the open elements do.
 fn class_held(found: Found) -> Class
+    ensures { λ r. ⌜ r ≡ classHeld found ⌝ }
 {
     match found {
         Found::Unknown => Class::Unknown,
