@@ -26,6 +26,7 @@ use Rattle.event.specs.Result.{parsed, handled-by, refused-on}
 use Rattle.names.specs.Tag.{attributesOf, Splits}
 use Rattle.crowded.specs.Tie.{attributes-same, splits}
 use Rattle.crowded.specs.Order.{refusalBy, refused}
+use Rattle.crowded.specs.Own.{Within}
 use Rattle.crowded.specs.Form.{Forms}
 
 -- a start tag with more attributes than an element may have, of bytes s that are read with a scratch d
@@ -75,6 +76,7 @@ pub record Reread (s e v : List ℕ) (k : ℕ) : Type 0 where
   pub many : mostAttributes < k
   pub few : k ≤ 8_192
   pub splits : Splits e v k
+  pub within : Within v k
 
 or-false : (a b : Bool) → (a || b) ≡ false → (a ≡ false) × (b ≡ false)
 or-false true b h = absurd (false≢true (sym h))
@@ -110,6 +112,7 @@ module _ {s d : Bytes} (c : Crowd s d) where
         many = rw (← n) (c .many);
         few = omega (arith, few);
         splits = splits (h .means .placed);
+        within = record { at = λ j l. record { ends = omega (arith, h .means .placed j l .within, short) } };
       }
   by-event Crowded l h =
       let n : length (h .means .attributes) ≡ length (c .attributes) = ap length (same-attributes (h .means .is)) in
@@ -121,9 +124,8 @@ module _ {s d : Bytes} (c : Crowd s d) where
 -- ---- by whether it is well-formed
 
 -- what `is_well_formed` asks
-pub ready : {s e v : List ℕ} {k : ℕ} → Reread s e v k → Splits e v k × (4 * k ≤ mostEventBytes)
-unfolding mostEventBytes
-ready a = (a .splits, omega (arith, a .few))
+pub ready : {s e v : List ℕ} {k : ℕ} → Reread s e v k → Splits e v k × Within v k × (k ≤ 8_192)
+ready a = (a .splits, a .within, a .few)
 
 pub refuses : {s e v : List ℕ} {k : ℕ} {r : Registers} {fs bs w : List ℕ} {b : Bool} → Reread s e v k → Forms b r fs bs w e v k → (t : Bool) → b ≡ t → Refuses (refusalBy t) s r fs bs w
 unfolding onEvent

@@ -25,6 +25,7 @@ use Rattle.names.specs.Classes.{sameKeys, Classifies, expanded-means}
 use Rattle.event.specs.declared.Place.{Place}
 use Rattle.event.specs.declared.Place.the-variants.{Outside, Nodes, Properties, NodesOrText, Xml}
 use Rattle.event.specs.Place.{placeAt, placeIs, topOf, place-read}
+use Rattle.crowded.specs.Own.{Finds}
 use Rattle.crowded.specs.Order.{wellFormed}
 
 -- ---- what is found
@@ -83,11 +84,15 @@ module _ {r : Registers} {fs bs w : List ℕ} (e v : List ℕ) (k : ℕ) {p : Pl
   unfolding repeated if_then_else_
   repeats-written t h = record { is = λ x ids. rw (xml-read x, t) h }
 
-  pub repeats-expanded : i ≡ false → Splits e v k → {cs ds : List ℕ} {y : Bool} → Classifies e v k w bs (r .bindings) cs ds y → k ≤ length cs / 3
-      → {b : Bool} → b ≡ pairs (sameKeys e v w ds) 0 k → Repeats b r fs bs w e v k
+  pub repeats-expanded : i ≡ false → Splits e v k → {b : Bool} → Finds e v k w bs (r .bindings) b → Repeats b r fs bs w e v k
   unfolding repeated if_then_else_ docOf scope
-  repeats-expanded t s {cs} z l h =
-      record { is = λ x ids. rw (xml-read x, t, in-scope x) (h ∙ expanded-means (z .are (z .answer ∙ le-leb k (length cs / 3) l)) s) }
+  repeats-expanded t s f = record { is = λ x ids. rw (xml-read x, t, in-scope x) (f .is ∙ expanded-means (f .are) s) }
+
+-- ---- few attributes: each is compared with each
+
+pub finds-few : {e w : List ℕ} {k : ℕ} {v bs : List ℕ} {n : ℕ} {cs ds : List ℕ} {y b : Bool} → Classifies e w k v bs n cs ds y → k ≤ length cs / 3
+    → b ≡ pairs (sameKeys e w v ds) 0 k → Finds e w k v bs n b
+finds-few {k = k} {cs = cs} {ds = ds} z l h = record { classes = ds; are = z .are (z .answer ∙ le-leb k (length cs / 3) l); is = h }
 
 -- ---- all three
 

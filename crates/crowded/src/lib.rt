@@ -1,10 +1,12 @@
 // Start tags with more attributes than an element may have. They are refused, but 6 comes before 7: so all of their attributes are looked at.
 ghost use mathlib.Core.Path.{_≡_};
-ghost use Prim.Native.Nat.{_*_, _≤_};
-ghost use Rattle.spec.specs.Limits.{mostEventBytes};
-ghost use Rattle.names.specs.Tag.{Splits};
+ghost use Prim.Native.Nat.{_≤_};
+ghost use Rattle.spec.specs.Namespaces.{repeatsWritten};
+ghost use Rattle.names.specs.Tag.{attributesOf, Splits};
+ghost use Rattle.crowded.specs.Own.{Within, Finds};
 ghost use Rattle.crowded.specs.Form.{isSecond, isXmlAt, Repeats, Forms};
 ghost use Rattle.crowded.specs.Crowd.{Crowd, countOf, Refuses};
+
 mod marks;
 mod own;
 
@@ -57,16 +59,16 @@ fn count(decoded: Event) -> usize
 }
 
 // What 6 asks: no second root, no illegal xmlns, no repeated attribute.
-fn is_well_formed(
+fn is_well_formed<'a>(
     r: Registers,
     frames: &[u32],
     bindings: &[u32],
-    work: &[u8],
-    scratch: &[u8],
+    work: &'a [u8],
+    scratch: &'a [u8],
     spans: &[u32],
     k: usize,
 ) -> bool
-    requires { ⌜ Splits (now scratch) (now spans) k × (4 * k ≤ mostEventBytes) ⌝ }
+    requires { ⌜ Splits (now scratch) (now spans) k × Within (now spans) k × (k ≤ 8_192) ⌝ }
     ensures { λ b. ⌜ Forms b r (now (frames .entry)) (now (bindings .entry)) (now (work .entry)) (now (scratch .entry)) (now (spans .entry)) k ⌝ }
 {
     if is_second_root(r) {
@@ -85,16 +87,16 @@ fn is_second_root(r: Registers) -> bool
 }
 
 // Do two attributes repeat: as written in Literal content, else by expanded name?
-fn repeats(
+fn repeats<'a>(
     r: Registers,
     frames: &[u32],
     bindings: &[u32],
-    work: &[u8],
-    scratch: &[u8],
+    work: &'a [u8],
+    scratch: &'a [u8],
     spans: &[u32],
     k: usize,
 ) -> bool
-    requires { ⌜ Splits (now scratch) (now spans) k × (4 * k ≤ mostEventBytes) ⌝ }
+    requires { ⌜ Splits (now scratch) (now spans) k × Within (now spans) k × (k ≤ 8_192) ⌝ }
     ensures { λ b. ⌜ Repeats b r (now (frames .entry)) (now (bindings .entry)) (now (work .entry)) (now (scratch .entry)) (now (spans .entry)) k ⌝ }
 {
     let place = event::place_at(r, frames);
@@ -106,23 +108,27 @@ fn repeats(
 
 // By name as written; where there are few, each is compared with each.
 fn repeats_written(scratch: &[u8], spans: &[u32], k: usize) -> bool
+    requires { ⌜ k ≤ 8_192 ⌝ }
+    ensures { λ b. ⌜ b ≡ repeatsWritten (attributesOf (now (scratch .entry)) (now (spans .entry)) k) ⌝ }
 {
     if k <= FEW {
         return names::repeated_written(scratch, spans, k);
     }
     let classes = [0usize; PLACES * Class::WORDS];
-    crate::marks::repeated(scratch, spans, k, b"", &classes)
+    crate::marks::repeated(scratch, spans, k, scratch, &classes)
 }
 
 // By expanded name, likewise.
-fn repeats_expanded(
+fn repeats_expanded<'a>(
     r: Registers,
     bindings: &[u32],
-    work: &[u8],
-    scratch: &[u8],
+    work: &'a [u8],
+    scratch: &'a [u8],
     spans: &[u32],
     k: usize,
 ) -> bool
+    requires { ⌜ Within (now spans) k × (k ≤ 8_192) ⌝ }
+    ensures { λ b. ⌜ Finds (now (scratch .entry)) (now (spans .entry)) k (now (work .entry)) (now (bindings .entry)) (r .bindings) b ⌝ }
 {
     if FEW < k {
         return crate::own::repeated_expanded(scratch, spans, k, work, bindings, r.bindings);

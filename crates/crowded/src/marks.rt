@@ -7,7 +7,7 @@ ghost use lib.ListN.{length};
 ghost use Rattle.spec.specs.Bytes.{among};
 ghost use Rattle.names.specs.Pairs.{behindIn, pairs};
 ghost use Rattle.names.specs.Classes.{sameKeys};
-ghost use Rattle.crowded.specs.Marks.{byteFromEnd, markOf, Room, Marks, Marked, Next};
+ghost use Rattle.crowded.specs.Marks.{byteFromEnd, markOf, Room, Marked, Marks, Clear, Next};
 use crate::PLACES;
 use names::Class;
 use names::XML;
@@ -77,44 +77,51 @@ fn repeated_behind<'a>(
     far: &[u64],
     j: usize,
 ) -> bool
-    requires { ⌜ Marked (now scratch) (now spans) (now work) (now classes) k (now near) (now far) k × (j < k) ⌝ }
+    requires { ⌜ Marked (now scratch) (now spans) (now work) (now classes) (now near) (now far) k × (j < k) ⌝ }
     ensures { λ r. ⌜ r ≡ behindIn (sameKeys (now (scratch .entry)) (now (spans .entry)) (now (work .entry)) (now (classes .entry))) j k ⌝ }
 {
     let class = Class::load(classes, j);
     let space = names::space_of(class, scratch, work, &XML);
     let name = names::tail_of(class, scratch, spans, j);
-    let mut i = next_marked(near, j + 1, k, near[j]);
+    let mut i = next_alike(near, far, j, j + 1, k);
     while i < k {
-        if far[i] == far[j] {
-            if names::is_key(scratch, spans, work, classes, j, class, space, name, i) {
-                return true;
-            }
+        if names::is_key(scratch, spans, work, classes, j, class, space, name, i) {
+            return true;
         }
-        i = next_marked(near, i + 1, k, near[j]);
+        i = next_alike(near, far, j, i + 1, k);
     }
     false
 }
 
-// The first of the marks from `from` on that is this one, or `to`.
-fn next_marked(marks: &[u64], from: usize, to: usize, mark: u64) -> usize
-    requires { ⌜ (from ≤ to) × (to ≤ length (now marks)) ⌝ }
-    ensures { λ r. ⌜ Next (now (marks .entry)) from to mark r ⌝ }
+// The first from `from` on that has the marks of j, or `to`.
+fn next_alike(near: &[u64], far: &[u64], j: usize, from: usize, to: usize) -> usize
+    requires { ⌜ (j < to) × (from ≤ to) × Room to (now near) (now far) ⌝ }
+    ensures { λ r. ⌜ Next (now (near .entry)) (now (far .entry)) j from to r ⌝ }
 {
     let mut i = from;
     while i < to {
-        if BLOCK <= to - i {
-            let end = i + BLOCK;
-            if !has_mark(&marks[i..end], mark) {
-                i = end;
-                continue;
-            }
+        if is_clear(near, i, to, near[j]) {
+            i += BLOCK;
+            continue;
         }
-        if marks[i] == mark {
+        if (near[i] == near[j]) & (far[i] == far[j]) {
             return i;
         }
         i += 1;
     }
     i
+}
+
+// Are there as many as a block from `i` on, and none of them this mark?
+fn is_clear(marks: &[u64], i: usize, to: usize, mark: u64) -> bool
+    requires { ⌜ (i ≤ to) × (to ≤ length (now marks)) ⌝ }
+    ensures { λ r. ⌜ Clear (now (marks .entry)) i to mark r ⌝ }
+{
+    if to - i < BLOCK {
+        return false;
+    }
+    let end = i + BLOCK;
+    !has_mark(&marks[i..end], mark)
 }
 
 // Is one of a block this mark? No branch inside the loop, so that all are compared at once.

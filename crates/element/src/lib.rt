@@ -268,7 +268,13 @@ fn lay<'a>(
 }
 
 // A part from `at` on. Answers where it ends.
-fn put_text<'a>(work: &mut [u8], at: usize, source: Source, scratch: &'a [u8], area: &'a [u8]) -> usize
+fn put_text<'a>(
+    work: &mut [u8],
+    at: usize,
+    source: Source,
+    scratch: &'a [u8],
+    area: &'a [u8],
+) -> usize
     requires { ⌜ Room (now work) at (length (textOf source (now scratch) (now area))) ⌝ }
     ensures { λ r. ⌜ Puts (now (work .entry)) (now (work .exit)) at r (textOf source (now (scratch .entry)) (now (area .entry))) ⌝ }
 {

@@ -109,7 +109,8 @@ impl Class {
         }
         let a = j * Self::WORDS;
         let b = i * Self::WORDS;
-        (classes[a] == classes[b]) & ((classes[a + 1] == classes[b + 1]) & (classes[a + 2] == classes[b + 2]))
+        (classes[a] == classes[b])
+            & ((classes[a + 1] == classes[b + 1]) & (classes[a + 2] == classes[b + 2]))
     }
 
     fn of(what: usize, at: usize, size: usize) -> Self

@@ -187,7 +187,11 @@ fn make_iri<'a>(
     if is_unknown(found) {
         return Reference::Missing;
     }
-    join(space_of(found, scratch, work, &XML), names::back_of(name, c), area)
+    join(
+        space_of(found, scratch, work, &XML),
+        names::back_of(name, c),
+        area,
+    )
 }
 
 // The namespace that was found, empty where there is none; `xml` is that of the prefix `xml`.

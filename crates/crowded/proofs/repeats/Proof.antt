@@ -1,7 +1,5 @@
--- `crowded::repeats` meets its contract: by the place, a law for each return.
-use Rattle.spec.specs.Limits.{mostEventBytes}
+-- `crowded::repeats` meets its contract, by where the tag stands.
 use Rattle.crowded.specs.Form.{repeats-written, repeats-expanded}
-use native.Mathlib.Omega.{arith}
 use borrow.Author.Needs.{needs}
 use Rattle.crowded.proofs.repeats.Statement.{statement}
 use Rattle.crowded.proofs.repeats.Tie as tie
@@ -12,27 +10,17 @@ place-at-requires c κs = search needs
 is-xml-requires : tie.Need-is-xml-requires
 is-xml-requires c κs = search needs
 
-repeated-written-requires : tie.Need-repeated-written-requires
-repeated-written-requires c κs = search needs
+repeats-written-requires : tie.Need-repeats-written-requires
+repeats-written-requires c κs = c .before .before .before .before .before .before .before .before .pre .2
 
 returns : tie.Need-returns
-returns c = repeats-written _ _ _ (c .before .before .before .place-at .ensures) (c .before .before .is-xml .ensures) (c .before .if1 .taken) (c .repeated-written .ensures)
+returns c = repeats-written _ _ _ (c .before .before .before .place-at .ensures) (c .before .before .is-xml .ensures) (c .before .if1 .taken) (c .repeats-written .ensures)
 
-slice-aggregate-classify : tie.Need-slice-aggregate-classify
-slice-aggregate-classify c = search needs
-
-classify-requires : tie.Need-classify-requires
-classify-requires c κs = search needs
-
-slice-aggregate-repeated-expanded : tie.Need-slice-aggregate-repeated-expanded
-slice-aggregate-repeated-expanded c = search needs
-
-repeated-expanded-requires : tie.Need-repeated-expanded-requires
-repeated-expanded-requires c κs = search needs
+repeats-expanded-requires : tie.Need-repeats-expanded-requires
+repeats-expanded-requires c κs = (c .before .before .before .before .before .before .before .before .pre .1, c .before .before .before .before .before .before .before .before .pre .2)
 
 returns-2 : tie.Need-returns-2
-unfolding mostEventBytes
-returns-2 c = repeats-expanded _ _ _ (c .before .before .before .before .before .before .before .place-at .ensures) (c .before .before .before .before .before .before .is-xml .ensures) (c .before .before .before .before .before .if1 .left) (c .before .before .before .before .before .before .before .before .before .before .before .before .before .pre .0) (c .before .before .before .classify .ensures) (omega arith) (c .repeated-expanded .ensures)
+returns-2 c = repeats-expanded _ _ _ (c .before .before .before .place-at .ensures) (c .before .before .is-xml .ensures) (c .before .if1 .left) (c .before .before .before .before .before .before .before .before .before .pre .0) (c .repeats-expanded .ensures)
 
 pub repeats-spec : {M : Type 1} → statement M
 repeats-spec =
@@ -40,10 +28,7 @@ repeats-spec =
     (tie.spec
     place-at-requires
     is-xml-requires
-    repeated-written-requires
+    repeats-written-requires
     returns
-    slice-aggregate-classify
-    classify-requires
-    slice-aggregate-repeated-expanded
-    repeated-expanded-requires
+    repeats-expanded-requires
     returns-2)
