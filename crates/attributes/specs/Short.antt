@@ -12,13 +12,13 @@ use Rattle.spec.specs.Bytes.{Bytes, if_then_else_, those, present, every}
 use Rattle.spec.specs.Limits.{mostNameBytes}
 use Rattle.spec.specs.XmlNames.{prefixOf, localOf}
 use Rattle.spec.specs.Pyx.{Attribute, attribute}
-use Rattle.spec.specs.Namespaces.{Binding, nameOf, joined, expandAttribute, expandedNames}
+use Rattle.spec.specs.Namespaces.{Binding, nameOf, xmlName, joined, expandAttribute, expandedNames}
 use Rattle.spec.specs.StartTag.{allShort}
 use Rattle.names.specs.declared.Class.{Class}
 use Rattle.names.specs.declared.Class.the-variants.{Declaration, Unknown, Unprefixed, Xml, Own, Held}
 use Rattle.names.specs.Tag.{nameAt, valueAt, attributeAt, attributesFrom, attributesOf, Splits}
 use Rattle.names.specs.Found.{scope}
-use Rattle.names.specs.Classes.{Says, classAt, textBy, textAt, Classified}
+use Rattle.names.specs.Classes.{Says, classAt, kindOf, textBy, textAt, Classified, spaceBy, tailAt, two-parts}
 use Rattle.attributes.specs.Places.{places}
 
 -- of a name whose expanded name is i, where it has one
@@ -48,33 +48,30 @@ module _ (a b : Bytes) where
   unfolding mostNameBytes
   both-fit h l = sym (le-leb (length (a ++ b)) 1024 (omega (arith, length-append a b)))
 
--- ---- the arms of `is_short`: the expanded name is i, of which x is what was read
+-- ---- the tests of `is_short`, by the kind m of class c
 
-module _ {c : Class} (i : Bytes) where
-  pub short-declaration : c ≡ Declaration → true ≡ shortBy c i
-  unfolding shortBy
-  short-declaration h = rw h
+pub short-written : (c : Class) (i : Bytes) {m : ℕ} → m ≡ kindOf c → (m ≡ 2 → ⊥) → true ≡ shortBy c i
+unfolding shortBy
+short-written Declaration i p h = refl
+short-written Unknown i p h = refl
+short-written Unprefixed i p h = absurd (h p)
+short-written Xml i p h = absurd (h p)
+short-written (Own at n) i p h = absurd (h p)
+short-written (Held at n) i p h = absurd (h p)
 
-  pub short-unknown : c ≡ Unknown → true ≡ shortBy c i
-  unfolding shortBy
-  short-unknown h = rw h
+expanded-short : (c : Class) (i : Bytes) → kindOf c ≡ 2 → leb (length i) mostNameBytes ≡ shortBy c i
+unfolding shortBy
+expanded-short Declaration i h = absurd (omega arith)
+expanded-short Unknown i h = absurd (omega arith)
+expanded-short Unprefixed i h = refl
+expanded-short Xml i h = refl
+expanded-short (Own at n) i h = refl
+expanded-short (Held at n) i h = refl
 
-  module _ {r : Bool} {x : Bytes} (t : i ≡ x) (q : r ≡ leb (length x) mostNameBytes) where
-    pub short-unprefixed : c ≡ Unprefixed → r ≡ shortBy c i
-    unfolding shortBy
-    short-unprefixed h = q ∙ rw (t, h)
-
-    pub short-xml : c ≡ Xml → r ≡ shortBy c i
-    unfolding shortBy
-    short-xml h = q ∙ rw (t, h)
-
-    pub short-own : {at n : ℕ} → c ≡ Own at n → r ≡ shortBy c i
-    unfolding shortBy
-    short-own h = q ∙ rw (t, h)
-
-    pub short-held : {at n : ℕ} → c ≡ Held at n → r ≡ shortBy c i
-    unfolding shortBy
-    short-held h = q ∙ rw (t, h)
+-- its expanded name is in two parts
+pub short-expanded : (e w v : List ℕ) (j : ℕ) (c : Class) {m : ℕ} {s n : Bytes} {r : Bool} → m ≡ kindOf c → m ≡ 2 → s ≡ spaceBy e v xmlName c → n ≡ tailAt e w c j
+    → r ≡ leb (length (s ++ n)) mostNameBytes → r ≡ shortBy c (textAt e w v c j)
+short-expanded e w v j c p h x y q = q ∙ rw (x, y, ← two-parts e w v c j) (expanded-short c (textAt e w v c j) (sym p ∙ h))
 
 -- the test of `names_short`: c is the class that was loaded
 pub short-test : (e w v cs : List ℕ) (j : ℕ) {c : Class} {r : Bool} → c ≡ classAt cs j → r ≡ shortBy c (textAt e w v c j) → shortAt e w v cs j ≡ r

@@ -22,6 +22,9 @@ use roles::Judgment;
 use roles::Role;
 use spec::Refusal;
 
+// The kind of the classes whose names have an expanded name.
+const EXPANDED: usize = 2;
+
 // The attributes in written order, up to the first that something is wrong with: `classes` has their classes, `roles` gets their roles.
 pub fn read_attributes(
     scratch: &[u8],
@@ -65,7 +68,7 @@ pub fn first_in(roles: &[u8], k: usize, role: Role) -> usize
 }
 
 // Has each expanded name at most 1,024 bytes? `classes` has the attributes' classes.
-pub fn names_short(scratch: &[u8], spans: &[u32], k: usize, work: &[u8], classes: &[usize]) -> bool
+pub fn names_short<'a>(scratch: &'a [u8], spans: &[u32], k: usize, work: &'a [u8], classes: &[usize]) -> bool
     ensures { λ r. ⌜ r ≡ every (shortAt (now (scratch .entry)) (now (spans .entry)) (now (work .entry)) (now (classes .entry))) (places 0 k) ⌝ }
 {
     let mut j = 0;
@@ -138,19 +141,14 @@ fn is_known(class: Class, name: &[u8]) -> bool
 }
 
 // Is the expanded name of attribute j, where a name of this class has one, short enough?
-fn is_short(scratch: &[u8], spans: &[u32], work: &[u8], class: Class, j: usize) -> bool
+fn is_short<'a>(scratch: &'a [u8], spans: &[u32], work: &'a [u8], class: Class, j: usize) -> bool
     ensures { λ r. ⌜ r ≡ shortBy class (textAt (now (scratch .entry)) (now (spans .entry)) (now (work .entry)) class j) ⌝ }
 {
-    let name = names::name_of(scratch, spans, j);
-    let local = names::local_of(scratch, spans, j);
-    match class {
-        Class::Declaration => true,
-        Class::Unknown => true,
-        Class::Unprefixed => fits(name, b""),
-        Class::Xml => fits(&XML, local),
-        Class::Own(at, n) => fits(names::piece(scratch, at, n), local),
-        Class::Held(at, n) => fits(names::piece(work, at, n), local),
+    if class.kind() != EXPANDED {
+        return true;
     }
+    let space = names::space_of(class, scratch, work, &XML);
+    fits(space, names::tail_of(class, scratch, spans, j))
 }
 
 // Have the two joined at most as many bytes as a resolved IRI may have?

@@ -76,7 +76,7 @@ pub fn equal_from_end(a: &[u8], b: &[u8]) -> bool
         }
         i = from;
     }
-    equal_backwards(a, b, i)
+    equal_short(a, b, i)
 }
 
 // Does `s` begin with `front`?
@@ -139,7 +139,22 @@ fn block_has(block: &[u8], b: u8) -> bool
     found
 }
 
-// The first n bytes, where those behind them are the same, one by one.
+// The first n bytes, where those behind them are the same: four at once, and then one by one.
+fn equal_short(a: &[u8], b: &[u8], n: usize) -> bool
+    requires { ⌜ Tails (now a) (now b) n ⌝ }
+    ensures { λ r. ⌜ r ≡ same (now (a .entry)) (now (b .entry)) ⌝ }
+{
+    if n < 4 {
+        return equal_backwards(a, b, n);
+    }
+    let from = n - 4;
+    if differ(&a[from..n], &b[from..n]) {
+        return false;
+    }
+    equal_backwards(a, b, from)
+}
+
+// The same, one by one.
 fn equal_backwards(a: &[u8], b: &[u8], n: usize) -> bool
     requires { ⌜ Tails (now a) (now b) n ⌝ }
     ensures { λ r. ⌜ r ≡ same (now (a .entry)) (now (b .entry)) ⌝ }

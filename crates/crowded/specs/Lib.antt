@@ -10,3 +10,7 @@ pub mod OwnLaws
 pub mod Form
 -- Such a start tag, and why it is refused.
 pub mod Crowd
+-- The tag's own declarations as rows, and the classes by them.
+pub mod Own
+-- Laws of these.
+pub mod OwnLaws

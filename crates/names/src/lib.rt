@@ -623,9 +623,21 @@ fn prefix_at<'a>(work: &'a [u8], bindings: &[u32], i: usize) -> &'a [u8]
 {
     if i < bindings.len() / 3 {
         let from = i * 3;
-        return piece(work, wide(bindings[from]), wide(bindings[from + 1]));
+        return stretch(work, wide(bindings[from]), wide(bindings[from + 1]));
     }
     piece(work, row_word(bindings, i, 0), row_word(bindings, i, 1))
+}
+
+// The same as a piece, where `at` and `n` are words: one test tells whether all of it is there.
+fn stretch(s: &[u8], at: usize, n: usize) -> &[u8]
+    requires { ⌜ (at < 4294967296) × (n < 4294967296) ⌝ }
+    ensures { λ r. ⌜ now r ≡ part (now (s .entry)) at n ⌝ }
+{
+    let to = at + n;
+    if to <= s.len() {
+        return &s[at..to];
+    }
+    piece(s, at, n)
 }
 
 // The namespace that row i binds it to.

@@ -234,11 +234,11 @@ fn make_lower(scratch: &[u8], spans: &[u32], k: usize, j: usize, area: &mut [u8]
 }
 
 // "any expanded name, IRI or base 1,024 bytes"; the tag's own base is at place j.
-fn is_short(
-    scratch: &[u8],
+fn is_short<'a>(
+    scratch: &'a [u8],
     spans: &[u32],
     k: usize,
-    work: &[u8],
+    work: &'a [u8],
     classes: &[usize],
     j: usize,
     iri: Reference,

@@ -50,11 +50,11 @@ loop-less c = search needs
 loop-again : tie.Need-loop-again Inv-loop μ-loop
 loop-again c = tails-block 8 (c .before .before .before .before .before .loop .inv) (omega arith) (not-false _ (sym (c .before .differ .ensures) ∙ c .if2 .left))
 
-equal-backwards-requires : tie.Need-equal-backwards-requires Inv-loop μ-loop
-equal-backwards-requires c κs = c .before .loop .inv
+equal-short-requires : tie.Need-equal-short-requires Inv-loop μ-loop
+equal-short-requires c κs = c .before .loop .inv
 
 returns-3 : tie.Need-returns-3 Inv-loop μ-loop
-returns-3 c = c .equal-backwards .ensures
+returns-3 c = c .equal-short .ensures
 
 pub equal-from-end-spec : {M : Type 1} → statement M
 equal-from-end-spec =
@@ -74,5 +74,5 @@ equal-from-end-spec =
     returns-2
     loop-less
     loop-again
-    equal-backwards-requires
+    equal-short-requires
     returns-3)

@@ -29,11 +29,11 @@ shared-slice-read-wide-2 c = search needs
 wide-requires-2 : tie.Need-wide-requires-2
 wide-requires-2 c κs = search needs
 
-piece-requires : tie.Need-piece-requires
-piece-requires c κs = search needs
+stretch-requires : tie.Need-stretch-requires
+stretch-requires c κs = search needs
 
 returns : tie.Need-returns
-returns c = c .piece .ensures ∙ prefix-read _ _ (row-start (c .before .before .before .before .before .before .before .before .args .bindings .now) (c .before .before .before .before .before .before .before .before .args .i) (c .before .before .before .wide .ensures .0)) (c .before .wide2 .ensures .0) _
+returns c = c .stretch .ensures ∙ prefix-read _ _ (row-start (c .before .before .before .before .before .before .before .before .args .bindings .now) (c .before .before .before .before .before .before .before .before .args .i) (c .before .before .before .wide .ensures .0)) (c .before .wide2 .ensures .0) _
 
 row-word-requires : tie.Need-row-word-requires
 row-word-requires c κs = search needs
@@ -41,11 +41,11 @@ row-word-requires c κs = search needs
 row-word-requires-2 : tie.Need-row-word-requires-2
 row-word-requires-2 c κs = search needs
 
-piece-requires-2 : tie.Need-piece-requires-2
-piece-requires-2 c κs = search needs
+piece-requires : tie.Need-piece-requires
+piece-requires c κs = search needs
 
 returns-2 : tie.Need-returns-2
-returns-2 c = c .piece2 .ensures ∙ prefix-read _ _ (c .before .before .row-word .ensures .is) (c .before .row-word2 .ensures .is) _
+returns-2 c = c .piece .ensures ∙ prefix-read _ _ (c .before .before .row-word .ensures .is) (c .before .row-word2 .ensures .is) _
 
 pub prefix-at-spec : {M : Type 1} → statement M
 prefix-at-spec =
@@ -59,9 +59,9 @@ prefix-at-spec =
     mul-wide-2
     shared-slice-read-wide-2
     wide-requires-2
-    piece-requires
+    stretch-requires
     returns
     row-word-requires
     row-word-requires-2
-    piece-requires-2
+    piece-requires
     returns-2)
