@@ -68,7 +68,13 @@ pub fn first_in(roles: &[u8], k: usize, role: Role) -> usize
 }
 
 // Has each expanded name at most 1,024 bytes? `classes` has the attributes' classes.
-pub fn names_short<'a>(scratch: &'a [u8], spans: &[u32], k: usize, work: &'a [u8], classes: &[usize]) -> bool
+pub fn names_short<'a>(
+    scratch: &'a [u8],
+    spans: &[u32],
+    k: usize,
+    work: &'a [u8],
+    classes: &[usize],
+) -> bool
     ensures { λ r. ⌜ r ≡ every (shortAt (now (scratch .entry)) (now (spans .entry)) (now (work .entry)) (now (classes .entry))) (places 0 k) ⌝ }
 {
     let mut j = 0;
