@@ -2,10 +2,8 @@
 pub mod Tie
 -- The order of refusals where there are too many attributes.
 pub mod Order
--- Many attributes: the marks of their names, and the tag's own declarations as rows.
+-- Many attributes: the marks of their names.
 pub mod Marks
-pub mod Own
-pub mod OwnLaws
 -- Whether a start tag is well-formed.
 pub mod Form
 -- Such a start tag, and why it is refused.
