@@ -99,6 +99,9 @@ def accepted():
     yield '63 attributes on a long namespace, no line', deep, tag('a', ('r:parseType', 'x'), *many)
     yield '63 attributes of three namespaces that end alike, no line', root(('xmlns:l', LONG[:-1] + 'l'), ('xmlns:m', 'm' + LONG[1:]), ('xmlns:n', LONG)) + tag('a'), \
         tag('a', ('r:parseType', 'x'), *[(p + ':' + w, '') for w in itertools.islice(words(1), 21) for p in 'lmn'])
+    yield '63 attributes of three namespaces that end alike behind 124 bindings, no line', \
+        root(('xmlns:l', LONG[:-1] + 'l'), ('xmlns:m', 'm' + LONG[1:]), ('xmlns:n', LONG), *bindings(59)) + tag('a', *bindings(63, 'q')), \
+        tag('a', ('r:parseType', 'x'), *[(p + ':' + w, '') for w in itertools.islice(words(1), 21) for p in 'lmn'])
     yield '64 ignored attributes', full, tag('a', *[('xml' + w, '') for w in itertools.islice(words(2), 64)])
     yield '63 declarations', root() + tag('a'), tag('a', *bindings(63))
     yield '63 declarations of one namespace and a prefix last in force', root(*bindings(62)) + tag('a'), tag('q:a', *bindings(63, 'q', 'u'), ('xmlns:q', 'u'))
@@ -113,9 +116,18 @@ def accepted():
     yield 'rdf:ID, the first', root(('xml:base', 'a:')) + tag('a'), tag('a', ('r:ID', 'a'))
     yield 'rdf:ID on a base of 1,022 bytes behind 31 others', \
         root(('xml:base', 'http://e/' + 'b' * 1_013)) + tag('a') + ''.join(tag('a', ('r:ID', w)) + ')a\n' for w in LETTERS[:31]), tag('a', ('r:ID', 'Z'))
+    letters = [('xmlns:' + w, 'u') for w in LETTERS if w != 'r']
+    crowd = lambda base: root(*letters, *bindings(10), ('xml:base', base), default=LONG) + tag('a', *bindings(64, 'q'))
+    used = lambda ids: ''.join(tag('a', ('r:ID', w)) + ')a\n' for w in ids)
+    yield 'rdf:ID of 2 bytes behind 511 others at depth 63 with 127 bindings', \
+        crowd('http://e/' + 'b' * 50) + used(itertools.islice(words(2), 511)) + nested(60), tag('a', ('r:ID', 'ZZ'))
+    yield 'rdf:ID on a base of 1,022 bytes behind 31 others at depth 63 with 127 bindings', \
+        crowd('http://e/' + 'b' * 1_013) + used(LETTERS[:31]) + nested(60), tag('a', ('r:ID', 'Z'))
     bases = [w + ':' + 'b' * 58 for w in itertools.islice(words(2), 512)]
     under = root() + ''.join(tag('a', ('xml:base', b)) + tag('a', ('r:ID', 'x')) + ')a\n)a\n' for b in bases[:511])
     yield 'rdf:ID under another base than 511 others', under + tag('a', ('xml:base', bases[511])), tag('a', ('r:ID', 'x'))
+    yield 'rdf:ID under another base than 511 others at depth 63 with 127 bindings', \
+        under + tag('a', ('xml:base', bases[511]), *bindings(63)) + tag('a', *bindings(62, 'q')) + nested(59), tag('a', ('r:ID', 'x'))
     # -- references
     climb = 'http://e/' + 'a/' * 500
     yield 'rdf:about with 300 times ../', root(('xml:base', climb)), tag('a', ('r:about', '../' * 300))
@@ -178,7 +190,7 @@ def refused():
     far = 'n' * 32_000
     plain = lambda n: f'A{n} \n'
     one = lambda n: f'Ap:{n} \n'
-    yield '4,500 attributes on a namespace of 32,000 bytes', tag('r:RDF', ('xmlns:r', RDF), ('xmlns:p', far)), filled(tag('p:a'), one, words(3)), 7
+    yield '4,095 attributes on a namespace of 32,000 bytes', tag('r:RDF', ('xmlns:r', RDF), ('xmlns:p', far)), filled(tag('p:a'), one, words(3)), 7
     yield '300 attributes on a namespace of 16,000 bytes', tag('r:RDF', ('xmlns:r', RDF), ('xmlns:p', 'n' * 16_000)), tag('p:a', *[('p:' + w, '') for w in itertools.islice(words(2), 300)]), 7
     yield 'as many attributes as there can be', root(), filled(tag('a'), plain, shortest()), 7
     yield 'as many prefixed ones', root(('xmlns:p', 'u')), filled(tag('a'), one, shortest()), 7
@@ -198,7 +210,7 @@ def refused():
     yield 'names that end alike, as written', root() + tag('a') + inside, filled(tag('a'), lambda n: f'A{n}{"x" * 16} \n', words(2)), 7
     yield 'names that end alike in eight', root(('xmlns:p', 'u')), filled(tag('a'), lambda n: f'Ap:{n}{"x" * 8} \n', words(2)), 7
     yield 'the last two repeat', root(), filled(tag('a'), plain, shortest(), EVENT - 12) + 'AZZZ \nAZZZ \n', 6
-    yield '64 attributes, the last two repeat', root(('xmlns:p', LONG)), tag('a', *[('p:' + w, '') for w in itertools.islice(words(1), 50)], ('p:a', '')), 6
+    yield '51 attributes, the first and the last repeat', root(('xmlns:p', LONG)), tag('a', *[('p:' + w, '') for w in itertools.islice(words(1), 50)], ('p:a', '')), 6
     yield 'rdf:ID used before, behind 511 others', \
         root(('xml:base', 'http://e/' + 'b' * 50)) + tag('a') + ''.join(tag('a', ('r:ID', w)) + ')a\n' for w in itertools.islice(words(2), 512)), tag('a', ('r:ID', 'aa')), 12
     yield 'a base of 32,000 bytes and a reference', root(), tag('a', ('xml:base', 'a:/' + 'b/' * 10_000), ('r:about', '../' * 3_500)), 7
