@@ -1,5 +1,5 @@
 -- The class of each attribute's name, kept in words so that its prefix is looked up once.
-use mathlib.Core.Path.{_≡_, refl, sym, _∙_}
+use mathlib.Core.Path.{_≡_, refl, sym, _∙_, subst}
 use mathlib.Core.Bool.{Bool, true, false, _&&_, _||_, not, false≢true}
 use mathlib.Core.Option.{Option, none, some}
 use mathlib.Core.List.{List, [], _∷_, _++_, map}
@@ -14,7 +14,7 @@ use borrow.Author.Tests.{le-leb, lt-leb, eq-eqb, ne-eqb, eqb-true}
 use Rattle.spec.specs.Bytes.{Bytes, if_then_else_, same, isEmpty, isSome}
 use Rattle.spec.specs.XmlNames.{prefixOf, localOf}
 use Rattle.spec.specs.Pyx.{Attribute, attribute}
-use Rattle.spec.specs.Namespaces.{Binding, nameOf, xmlName, isDeclaration, namespace, joined, expandAttribute, isKnown, repeatsExpanded}
+use Rattle.spec.specs.Namespaces.{Binding, nameOf, xmlName, isDeclaration, declared, namespace, joined, expandAttribute, isKnown, repeatsExpanded}
 use Rattle.copy.specs.Texts.{same-refl}
 use Rattle.copy.specs.Blocks.{same-append}
 use Rattle.copy.specs.Copy.{part, Wrote, then as also, wrote-one, wrote-part, wrote-apart, wrote-same, getD-part}
@@ -25,7 +25,7 @@ use Rattle.names.specs.declared.Class.the-variants.{Declaration, Unknown
 use Rattle.names.specs.declared.ClassWords.{ClassWords}
 use Rattle.names.specs.Tag.{nameAt, valueAt, colonAt, attributeAt, attributesFrom, attributesOf, frontOf, backOf, Splits}
 use Rattle.names.specs.Declarations.{is-empty, not-empty}
-use Rattle.names.specs.Found.{foundBytes, scope}
+use Rattle.names.specs.Found.{foundBytes, scope, same-scope}
 use Rattle.names.specs.Pairs.{behind, pairs}
 use Rattle.names.specs.Repeats.{Key, keyed, keyOf, sameKey, memberKey, repeatsKeys, repeats-by-keys}
 
@@ -181,6 +181,13 @@ module _ {e w : List ℕ} {k : ℕ} {v bs : List ℕ} {n : ℕ} {cs : List ℕ} 
           same = s .same ∙ h .same;
           done = record { each = below-more _ j (λ i b. rw (s .others i b) (h .done .each i b)) (rw q y) };
         }
+
+    -- with the attributes up to the last declaration alone
+    pub classifying-own : (m : ℕ) {c : Class} {gs : List ℕ} {r : Bool} → j < k → declared (attributesOf e w m) ≡ declared (attributesOf e w k)
+        → Says c e v (scope e w m v bs n) (attributeAt e w j) (frontOf (colonAt w j) (nameAt e w j)) → StoredClass ds j c gs r → Classifying e w k v bs n cs gs (j + 1)
+    classifying-own m {c} l d y s =
+        let q : scope e w m v bs n ≡ scope e w k v bs n = same-scope e w m k v bs n d in
+        classifying-more l (subst (λ (x : List Binding). Says c e v x (attributeAt e w j) (frontOf (colonAt w j) (nameAt e w j))) q y) s
 
     pub classifying-done : k ≤ j → Classifies e w k v bs n cs ds true
     classifying-done l =

@@ -1,7 +1,7 @@
 -- Declarations: which attributes they are, what they bind, and whether that is legal.
 use mathlib.Core.Path.{_≡_, refl, sym, ap, _∙_}
 use mathlib.Core.Bool.{Bool, true, false, _&&_, _||_, not}
-use mathlib.Core.List.{List, [], _∷_, map}
+use mathlib.Core.List.{List, [], _∷_, _++_, map}
 use Prim.Native.Nat.{ℕ, suc, _+_, _-_, _<_, _≤_}
 use native.Mathlib.Omega.{arith}
 use lib.Dec.{eqb}
@@ -11,7 +11,7 @@ use Rattle.spec.specs.Bytes.{Bytes, ascii, if_then_else_, same, begins, after, 
 use Rattle.spec.specs.Pyx.{Attribute, attribute}
 use Rattle.spec.specs.Namespaces.{isDeclaration, declares, declared, isLegal, allLegal, xmlName, xmlnsName}
 use Rattle.copy.specs.Texts.{after-drop}
-use Rattle.names.specs.Tag.{backOf, attributeAt, nameAt, valueAt, attributesFrom, attributesOf, attributes-all, attributes-more, attributes-end}
+use Rattle.names.specs.Tag.{backOf, attributeAt, nameAt, valueAt, attributesFrom, attributesOf, attributes-all, attributes-more, attributes-end, last-of}
 
 -- ---- the tests of `is_declaration`
 
@@ -203,3 +203,24 @@ module _ {e w : List ℕ} {k j n : ℕ} (h : Counted e w k j n) where
   pub counted-done : k ≤ j → n ≡ length (declared (attributesOf e w k))
   unfolding declared those
   counted-done l = let t = ap (λ (x : List Attribute). length (declared x)) (attributes-end e w k j l) in omega arith
+
+-- ---- the loop of `declaring`: from attribute i on there is no declaration
+
+none-more : (as′ : List Attribute) (a : Attribute) → isDeclaration a ≡ false → declared (as′ ++ (a ∷ [])) ≡ declared as′
+unfolding declared those if_then_else_
+none-more [] a h = rw h
+none-more (b ∷ as′) a h = go (isDeclaration b) (none-more as′ a h)
+  where
+    go : (t : Bool) → map declares (those isDeclaration (as′ ++ (a ∷ []))) ≡ map declares (those isDeclaration as′)
+        → map declares (if t then (b ∷ those isDeclaration (as′ ++ (a ∷ []))) else those isDeclaration (as′ ++ (a ∷ []))) ≡ map declares (if t then (b ∷ those isDeclaration as′) else those isDeclaration as′)
+    go true r = ap (declares b ∷_) r
+    go false r = r
+
+pub none-behind : (e w : List ℕ) (k i j : ℕ) → i ≡ j + 1 → isDeclaration (attributeAt e w j) ≡ false
+    → declared (attributesOf e w i) ≡ declared (attributesOf e w k) → declared (attributesOf e w j) ≡ declared (attributesOf e w k)
+none-behind e w k i j s h r =
+    let t : i ≡ suc j = omega arith in
+    sym (none-more (attributesOf e w j) (attributeAt e w j) h) ∙ (ap declared (sym (last-of e w j)) ∙ (ap (λ (x : ℕ). declared (attributesOf e w x)) (sym t) ∙ r))
+
+pub none-left : (e w : List ℕ) (k i : ℕ) → i ≡ 0 → declared (attributesOf e w i) ≡ declared (attributesOf e w k) → declared (attributesOf e w 0) ≡ declared (attributesOf e w k)
+none-left e w k i z r = ap (λ (x : ℕ). declared (attributesOf e w x)) (sym z) ∙ r

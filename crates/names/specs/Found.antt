@@ -32,6 +32,11 @@ foundBytes e v (Held at n) = some (part v at n)
 unfoldable pub scope : List ℕ → List ℕ → ℕ → List ℕ → List ℕ → ℕ → List Binding
 scope e w k v bs n = declared (attributesOf e w k) ++ bindingsOf bs v 0 n
 
+-- it depends on what is declared alone
+pub same-scope : (e w : List ℕ) (m k : ℕ) (v bs : List ℕ) (n : ℕ) → declared (attributesOf e w m) ≡ declared (attributesOf e w k) → scope e w m v bs n ≡ scope e w k v bs n
+unfolding scope
+same-scope e w m k v bs n d = rw d
+
 -- `element`'s answer, with the local name: 8 where nothing was found
 unfoldable pub answered : Option Bytes → Bytes → Answer Bytes
 answered none l = refuse NoNamespace

@@ -68,9 +68,12 @@ attributes-last e w j (suc m) =
     let s : suc j + m ≡ j + suc m = omega arith in
     ap (attributeAt e w j ∷_) (attributes-last e w (suc j) m ∙ ap (λ (i : ℕ). attributesFrom e w (suc j) m ++ (attributeAt e w i ∷ [])) s)
 
+pub last-of : (e w : List ℕ) (k : ℕ) → attributesOf e w (suc k) ≡ attributesOf e w k ++ (attributeAt e w k ∷ [])
+last-of e w k = attributes-last e w 0 k ∙ rw (zero-add k)
+
 pub last-attribute : (e w : List ℕ) (k : ℕ) → attributesOf e w (suc k) ≡ attributesOf e w k ++ (attribute (nameAt e w k) (valueAt e w k) ∷ [])
 unfolding attributeAt
-last-attribute e w k = attributes-last e w 0 k ∙ rw (zero-add k)
+last-attribute e w k = last-of e w k
 
 -- ---- a name in two, where its colon's place plus 1, or 0, is c
 

@@ -341,9 +341,10 @@ pub fn classify(
     if classes.len() / Class::WORDS < k {
         return false;
     }
+    let own = declaring(scratch, spans, k);
     let mut j = 0;
     while j < k {
-        let class = class_of(scratch, spans, k, work, bindings, n, j);
+        let class = class_of(scratch, spans, own, work, bindings, n, j);
         Class::store(classes, j, class);
         j += 1;
     }
@@ -564,6 +565,21 @@ fn declared_at(scratch: &[u8], spans: &[u32], j: usize) -> usize
 {
     if is_declaration(name_of(scratch, spans, j)) {
         return 1;
+    }
+    0
+}
+
+// How many attributes there are up to the last of the k that is a declaration: a prefix need not be looked for behind it.
+fn declaring(scratch: &[u8], spans: &[u32], k: usize) -> usize
+    ensures { λ r. ⌜ declared (attributesOf (now (scratch .entry)) (now (spans .entry)) r) ≡ declared (attributesOf (now (scratch .entry)) (now (spans .entry)) k) ⌝ }
+{
+    let mut i = k;
+    while 0 < i {
+        let j = i - 1;
+        if is_declaration(name_of(scratch, spans, j)) {
+            return i;
+        }
+        i = j;
     }
     0
 }

@@ -1,19 +1,22 @@
 -- `names::classify` meets its contract. The loop's invariant: the first `j` attributes have their classes.
 use Prim.Native.Nat.{_-_}
-use Rattle.names.specs.Classes.{Classifying, too-few-words, classifying-begins, classifying-more, classifying-done}
+use Rattle.names.specs.Classes.{Classifying, too-few-words, classifying-begins, classifying-own, classifying-done}
 use native.Mathlib.Omega.{arith}
 use borrow.Author.Needs.{needs}
 use Rattle.names.proofs.classify.Statement.{statement}
 use Rattle.names.proofs.classify.Tie as tie
 
 abbrev Inv-loop : tie.InvT-loop
-Inv-loop scratch spans k work bindings n classes₀ j₀ classes j = Classifying scratch spans k work bindings n classes₀ classes j
+Inv-loop scratch spans k work bindings n classes₀ own j₀ classes j = Classifying scratch spans k work bindings n classes₀ classes j
 
 abbrev μ-loop : tie.MeasureT-loop
-μ-loop scratch spans k work bindings n classes₀ j₀ classes j = k - j
+μ-loop scratch spans k work bindings n classes₀ own j₀ classes j = k - j
 
 returns : tie.Need-returns Inv-loop μ-loop
 returns c = too-few-words (omega arith)
+
+declaring-requires : tie.Need-declaring-requires Inv-loop μ-loop
+declaring-requires c κs = search needs
 
 loop-holds : tie.Need-loop-holds Inv-loop μ-loop
 loop-holds c = classifying-begins (omega arith)
@@ -31,7 +34,7 @@ loop-less : tie.Need-loop-less Inv-loop μ-loop
 loop-less c = search needs
 
 loop-again : tie.Need-loop-again Inv-loop μ-loop
-loop-again c = classifying-more (c .before .before .before .before .before .before .loop .inv) (omega arith) (c .before .before .before .before .class-of .ensures) (c .before .before .store .ensures)
+loop-again c = classifying-own (c .before .before .before .before .before .before .loop .inv) _ (omega arith) (c .before .before .before .before .before .before .before .declaring .ensures) (c .before .before .before .before .class-of .ensures) (c .before .before .store .ensures)
 
 same-length : tie.Need-same-length Inv-loop μ-loop
 same-length c = search needs
@@ -46,6 +49,7 @@ classify-spec =
     Inv-loop
     μ-loop
     returns
+    declaring-requires
     loop-holds
     class-of-requires
     store-requires
