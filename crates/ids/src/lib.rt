@@ -1,9 +1,10 @@
 // The rdf:IDs that accepted events have used, as spans of a lent store. A type of its own: it knows nothing of the rest of the reader's state.
 ghost use mathlib.Core.Path.{_≡_};
-ghost use Prim.Native.Nat.{_<_};
+ghost use Prim.Native.Nat.{_+_, _<_, _≤_};
+ghost use lib.ListN.{length};
 ghost use Rattle.spec.specs.Bytes.{same};
 ghost use Rattle.copy.specs.Copy.{part};
-ghost use Rattle.ids.specs.Ids.{validIds, roomFor, found};
+ghost use Rattle.ids.specs.Ids.{validIds, roomFor, SpansIn, found};
 ghost use Rattle.ids.specs.Adding.{Fresh, Adds};
 use resolve::Resolved;
 
@@ -86,6 +87,7 @@ pub fn find(
     store: &[u8],
     id: &[u8],
 ) -> bool
+    requires { ⌜ SpansIn count (now at) (now len) (now store) ⌝ }
     ensures { λ r. ⌜ r ≡ found count (now (at .entry)) (now (len .entry)) (now (store .entry)) (now (id .entry)) ⌝ }
 {
     if IdTable::MOST < count {
@@ -154,16 +156,11 @@ pub fn add(
     }
 }
 
-// Are the `n` bytes of the store from `from` on this ID? Of a span that runs past the store's end they are what there is of it.
+// Are the `n` bytes of the store from `from` on this ID?
 fn is_at(store: &[u8], from: usize, n: usize, id: &[u8]) -> bool
+    requires { ⌜ from + n ≤ length (now store) ⌝ }
     ensures { λ r. ⌜ r ≡ same (now (id .entry)) (part (now (store .entry)) from n) ⌝ }
 {
-    if store.len() < from {
-        return id.len() == 0;
-    }
-    if store.len() - from < n {
-        return copy::equal(id, &store[from..]);
-    }
     copy::equal_from_end(id, &store[from..from + n])
 }
 

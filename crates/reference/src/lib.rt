@@ -84,7 +84,6 @@ impl Reference {
 pub fn resolved(
     based: bool,
     base: &[u8],
-    there: bool,
     reference: &[u8],
     area: &mut [u8],
     at: usize,
@@ -92,9 +91,6 @@ pub fn resolved(
     requires { ⌜ Room (now base) (now reference) (now area) at ⌝ }
     ensures { λ r. ⌜ Resolves (resolved (given based (now (base .entry))) (given there (now (reference .entry)))) (now (area .entry)) (now (area .exit)) at r ⌝ }
 {
-    if !there {
-        return Reference::Missing;
-    }
     if !based {
         return absolute(reference, area, at);
     }
@@ -111,16 +107,12 @@ pub fn resolved(
 pub fn resolved_id(
     based: bool,
     base: &[u8],
-    there: bool,
     value: &[u8],
     area: &mut [u8],
 ) -> Reference
     requires { ⌜ RoomForId (now base) (now value) (now area) ⌝ }
     ensures { λ r. ⌜ Resolves (resolved (given based (now (base .entry))) (withHash (given there (now (value .entry))))) (now (area .entry)) (now (area .exit)) 0 r ⌝ }
 {
-    if !there {
-        return Reference::Missing;
-    }
     if value.len() < FEW {
         return near_id(based, base, value, area);
     }
@@ -135,7 +127,7 @@ fn near_id(based: bool, base: &[u8], value: &[u8], area: &mut [u8]) -> Reference
     let n = value.len() + 1;
     let mut reference = [b'#'; FEW];
     copy::put(&mut reference, 1, value);
-    resolved(based, base, true, &reference[..n], area, Area::ID)
+    resolved(based, base, &reference[..n], area, Area::ID)
 }
 
 fn far_id(based: bool, base: &[u8], value: &[u8], area: &mut [u8]) -> Reference
@@ -145,7 +137,7 @@ fn far_id(based: bool, base: &[u8], value: &[u8], area: &mut [u8]) -> Reference
     let n = value.len() + 1;
     let mut reference = [b'#'; HASHED];
     copy::put(&mut reference, 1, value);
-    resolved(based, base, true, &reference[..n], area, Area::ID)
+    resolved(based, base, &reference[..n], area, Area::ID)
 }
 
 // Without a base.

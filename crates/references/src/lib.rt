@@ -176,7 +176,7 @@ fn resolve_id(
         return Reference::Missing;
     }
     let value = names::value_of(scratch, spans, j);
-    reference::resolved_id(based, base, true, value, area)
+    reference::resolved_id(based, base, value, area)
 }
 
 // Had an earlier event this rdf:ID? One that is too long had none.
@@ -282,5 +282,5 @@ fn resolve_in(
         return Reference::Missing;
     }
     let value = names::value_of(scratch, spans, j);
-    reference::resolved(based, base, true, value, area, at)
+    reference::resolved(based, base, value, area, at)
 }

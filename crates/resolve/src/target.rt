@@ -25,7 +25,6 @@ struct Lead {
 pub fn transform(base: &[u8], reference: &[u8]) -> Target
     ensures { λ r. ⌜ Aimed (now (base .entry)) (now (reference .entry)) r ⌝ }
 {
-    let b = parts::parse(base);
     let r = parts::parse(reference);
     if 0 < r.scheme {
         return Target {
@@ -36,6 +35,17 @@ pub fn transform(base: &[u8], reference: &[u8]) -> Target
             authority: r.scheme < r.authority,
         };
     }
+    if r.query == 0 {
+        let keep = copy::find(base, b'#');
+        return Target {
+            keep,
+            slash: 0,
+            path: 0,
+            start: keep,
+            authority: true,
+        };
+    }
+    let b = parts::parse(base);
     if 0 < r.authority {
         return Target {
             keep: b.scheme,
@@ -47,20 +57,11 @@ pub fn transform(base: &[u8], reference: &[u8]) -> Target
     }
     let authority = b.scheme < b.authority;
     if r.path == 0 {
-        if 0 < r.query {
-            return Target {
-                keep: b.path,
-                slash: 0,
-                path: 0,
-                start: b.path,
-                authority,
-            };
-        }
         return Target {
-            keep: b.query,
+            keep: b.path,
             slash: 0,
             path: 0,
-            start: b.query,
+            start: b.path,
             authority,
         };
     }

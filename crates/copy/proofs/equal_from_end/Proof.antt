@@ -17,6 +17,12 @@ abbrev μ-loop : tie.MeasureT-loop
 returns : tie.Need-returns Inv-loop μ-loop
 returns c = alike-never _ _ (c .if1 .taken)
 
+end-apart-requires : tie.Need-end-apart-requires Inv-loop μ-loop
+end-apart-requires c κs = tails-begin (omega arith)
+
+returns-2 : tie.Need-returns-2 Inv-loop μ-loop
+returns-2 c = sym (c .before .end-apart .ensures (c .if2 .taken))
+
 loop-holds : tie.Need-loop-holds Inv-loop μ-loop
 loop-holds c = tails-begin (omega arith)
 
@@ -41,20 +47,20 @@ part-differ-end-2 c = search needs
 differ-requires : tie.Need-differ-requires Inv-loop μ-loop
 differ-requires c κs = tails-lengths 8 (c .before .before .before .loop .inv) (omega arith)
 
-returns-2 : tie.Need-returns-2 Inv-loop μ-loop
-returns-2 c = tails-stop 8 (c .before .before .before .before .before .loop .inv) (omega arith) (not-true _ (sym (c .before .differ .ensures) ∙ c .if2 .taken))
+returns-3 : tie.Need-returns-3 Inv-loop μ-loop
+returns-3 c = tails-stop 8 (c .before .before .before .before .before .loop .inv) (omega arith) (not-true _ (sym (c .before .differ .ensures) ∙ c .if3 .taken))
 
 loop-less : tie.Need-loop-less Inv-loop μ-loop
 loop-less c = search needs
 
 loop-again : tie.Need-loop-again Inv-loop μ-loop
-loop-again c = tails-block 8 (c .before .before .before .before .before .loop .inv) (omega arith) (not-false _ (sym (c .before .differ .ensures) ∙ c .if2 .left))
+loop-again c = tails-block 8 (c .before .before .before .before .before .loop .inv) (omega arith) (not-false _ (sym (c .before .differ .ensures) ∙ c .if3 .left))
 
 equal-short-requires : tie.Need-equal-short-requires Inv-loop μ-loop
 equal-short-requires c κs = c .before .loop .inv
 
-returns-3 : tie.Need-returns-3 Inv-loop μ-loop
-returns-3 c = c .equal-short .ensures
+returns-4 : tie.Need-returns-4 Inv-loop μ-loop
+returns-4 c = c .equal-short .ensures
 
 pub equal-from-end-spec : {M : Type 1} → statement M
 equal-from-end-spec =
@@ -63,6 +69,8 @@ equal-from-end-spec =
     Inv-loop
     μ-loop
     returns
+    end-apart-requires
+    returns-2
     loop-holds
     sub-differ
     part-differ-start
@@ -71,8 +79,8 @@ equal-from-end-spec =
     part-differ-start-2
     part-differ-end-2
     differ-requires
-    returns-2
+    returns-3
     loop-less
     loop-again
     equal-short-requires
-    returns-3)
+    returns-4)
