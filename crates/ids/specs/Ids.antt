@@ -4,9 +4,9 @@ use mathlib.Core.Path.{_≡_, refl, sym, ap, _∙_}
 use mathlib.Core.Bool.{Bool, true, false, _&&_}
 use mathlib.Core.List.{List, [], _∷_}
 use native.Mathlib.Omega.{arith}
-use lib.Dec.{eqb, leb}
+use lib.Dec.{eqb, leb, ltb}
 use lib.ListN.{length, getD}
-use borrow.Author.Tests.{leb-true, leb-false, eqb-true, eq-eqb, le-leb, lt-leb}
+use borrow.Author.Tests.{leb-true, leb-false, ltb-true, ltb-false, eqb-true, eq-eqb, le-leb, lt-leb}
 use Rattle.spec.specs.Bytes.{Bytes, member, total}
 use Rattle.spec.specs.Limits.{idStoreBytes, mostIds, mostIdBytes, mostNameBytes}
 use Rattle.spec.proofs.Booleans.{and-left, and-right}
@@ -46,6 +46,10 @@ pub record ValidIds (count used : ℕ) (at len store : List ℕ) : Type 0 where
   pub few : count ≤ mostIds
   pub within : used ≤ mostIdBytes
   pub linked : endToEnd at len count used ≡ true
+
+-- the spans of the first `count` places lie in the store
+pub record SpansIn (count : ℕ) (at len store : List ℕ) : Type 0 where
+  pub inside : (i : ℕ) → i < count → getD at i 0 + getD len i 0 ≤ length store
 
 module _ {count used : ℕ} {at len store : List ℕ} where
   pub valid-is : length at ≡ mostIds → length len ≡ mostIds → validIds count used at len (length store) ≡ true → ValidIds count used at len store
@@ -96,7 +100,22 @@ total-linked at len store (suc n) end h b =
     let rest = total-linked at len store n (getD at n 0) (others-linked at len n end h) (omega arith) in
     omega (arith, length-part store (getD at n 0) (getD len n 0) (omega arith))
 
+linked-inside : (at len : List ℕ) (n end : ℕ) → endToEnd at len n end ≡ true → (i : ℕ) → i < n → getD at i 0 + getD len i 0 ≤ end
+linked-inside at len zero end h i l = absurd (omega arith)
+linked-inside at len (suc n) end h i l = go (ltb i n) refl
+  where
+    e : getD at n 0 + getD len n 0 ≡ end
+    e = last-ends at len n end h
+
+    go : (t : Bool) → ltb i n ≡ t → getD at i 0 + getD len i 0 ≤ end
+    go true k = omega (arith, linked-inside at len n (getD at n 0) (others-linked at len n end h) i (ltb-true i n k), e)
+    go false k = let q : i ≡ n = omega (arith, ltb-false i n k) in rw q (omega (arith, e))
+
 module _ {count used : ℕ} {at len store : List ℕ} (v : ValidIds count used at len store) where
+  -- each span lies in the store
+  pub spans-in : SpansIn count at len store
+  spans-in = record { inside = λ i l. omega (arith, linked-inside at len count used (v .linked) i l, used-stored) }
+
   -- `used` bytes lie in the store
   pub used-stored : used ≤ length store
   unfolding idStoreBytes mostIdBytes

@@ -13,24 +13,6 @@ use Rattle.spec.specs.Limits.{idStoreBytes, mostIds, mostIdBytes, mostNameBytes
 use Rattle.copy.specs.Copy.{part, rest-of}
 use Rattle.ids.specs.Ids.{idsOf, found, endToEnd, validIds}
 
--- ---- an ID and a span of the store
-
-same-none : (id : Bytes) → eqb (length id) 0 ≡ same id []
-unfolding same
-same-none [] = refl
-same-none (b ∷ id) = ne-eqb (suc (length id)) 0 (λ e. omega arith)
-
-module _ (store : List ℕ) (from n : ℕ) where
-  -- the span begins behind the store
-  pub behind-store : (id : Bytes) → length store < from → eqb (length id) 0 ≡ same id (part store from n)
-  unfolding part
-  behind-store id h = rw (drop-of-length-le store {i = from} (omega arith), take-nil) (same-none id)
-
-  -- it runs past the end
-  pub past-end : length store - from < n → take (length store - from) (drop from store) ≡ part store from n
-  unfolding part
-  past-end h = rest-of store from ∙ sym (take-all n (drop from store) (rw length-drop (omega arith)))
-
 -- the definitions go by `suc`, the loops down from `i`
 before : (i : ℕ) → 0 < i → i ≡ suc (i - 1)
 before i h = omega arith

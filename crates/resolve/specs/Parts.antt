@@ -306,6 +306,95 @@ module _ (s : Bytes) where
           absurd (false≢true (sym h ∙ authority-begins ∙ f))
       go false e = refl
 
+-- ---- the fragment begins at the first "#"
+
+-- no "#" in a text
+clean : Bytes → Bool
+clean [] = true
+clean (b ∷ s) = not (eqb b 35) && clean s
+
+clean-both : (s t : Bytes) → clean s ≡ true → clean t ≡ true → clean (s ++ t) ≡ true
+unfolding clean
+clean-both [] t h k = k
+clean-both (b ∷ s) t h k =
+    and-both (not (eqb b 35)) (clean (s ++ t)) (and-left (not (eqb b 35)) (clean s) h) (clean-both s t (and-right (not (eqb b 35)) (clean s) h) k)
+
+-- a part ends before the first byte of a set that has it
+clean-upTo : (set s : Bytes) → among set 35 ≡ true → clean (upTo (among set) s) ≡ true
+unfolding clean upTo if_then_else_
+clean-upTo set [] h = refl
+clean-upTo set (b ∷ s) h = go (among set b) refl (eqb b 35) refl (clean-upTo set s h)
+  where
+    go : (t : Bool) → among set b ≡ t → (u : Bool) → eqb b 35 ≡ u → clean (upTo (among set) s) ≡ true
+        → clean (if t then [] else (b ∷ upTo (among set) s)) ≡ true
+    go true e u f k = refl
+    go false e true f k = absurd (false≢true (sym e ∙ (ap (among set) (eqb-true b 35 f) ∙ h)))
+    go false e false f k = rw f k
+
+clean-marked : (mark stop s : Bytes) → clean mark ≡ true → among stop 35 ≡ true → clean (markedText mark stop s) ≡ true
+unfolding clean markedText marked withMark if_then_else_
+clean-marked mark stop s m h = go (begins mark s)
+  where
+    go : (t : Bool) → clean (withMark mark (if t then some (upTo (among stop) (after mark s)) else none) []) ≡ true
+    go true = rw append-nil (clean-both mark (upTo (among stop) (after mark s)) m (clean-upTo stop (after mark s) h))
+    go false = refl
+
+hash-behind : (s t : Bytes) → clean s ≡ true → upTo (λ c. eqb c 35) (s ++ t) ≡ s ++ upTo (λ c. eqb c 35) t
+unfolding clean upTo if_then_else_
+hash-behind [] t h = refl
+hash-behind (b ∷ s) t h = go (eqb b 35) (and-left (not (eqb b 35)) (clean s) h) (hash-behind s t (and-right (not (eqb b 35)) (clean s) h))
+  where
+    go : (u : Bool) → not u ≡ true → upTo (λ c. eqb c 35) (s ++ t) ≡ s ++ upTo (λ c. eqb c 35) t
+        → (if u then [] else (b ∷ upTo (λ c. eqb c 35) (s ++ t))) ≡ b ∷ (s ++ upTo (λ c. eqb c 35) t)
+    go true e k = absurd (false≢true e)
+    go false e k = ap (b ∷_) k
+
+module _ (s : Bytes) where
+  clean-scheme : clean (schemeText s) ≡ true
+  unfolding clean schemeText schemeOf withMark if_then_else_ among ascii
+  clean-scheme = go (begins (ascii ":") (from (among (ascii ":/?#")) s) && not (isEmpty (upTo (among (ascii ":/?#")) s)))
+    where
+      go : (t : Bool) → clean (withMark [] (if t then some (upTo (among (ascii ":/?#")) s) else none) (ascii ":")) ≡ true
+      go true = clean-both (upTo (among (ascii ":/?#")) s) (ascii ":") (clean-upTo (ascii ":/?#") s refl) refl
+      go false = refl
+
+  clean-authority : clean (authorityText s) ≡ true
+  unfolding clean authorityText parse markedText behindScheme among ascii
+  clean-authority = clean-marked (ascii "//") (ascii "/?#") (behindScheme s) refl refl
+
+  clean-path : clean (parse s .path) ≡ true
+  unfolding parse behindAuthority behindScheme among ascii
+  clean-path = clean-upTo (ascii "?#") (behindAuthority s) refl
+
+  clean-query : clean (queryText s) ≡ true
+  unfolding clean queryText parse markedText behindPath behindAuthority behindScheme among ascii
+  clean-query = clean-marked (ascii "?") (ascii "#") (behindPath s) refl refl
+
+  hash-first : upTo (λ c. eqb c 35) (fragmentText s) ≡ []
+  unfolding fragmentText withMark upTo if_then_else_ ascii
+  hash-first = go (parse s .fragment)
+    where
+      go : (o : Option Bytes) → upTo (λ c. eqb c 35) (withMark (ascii "#") o []) ≡ []
+      go none = refl
+      go (some t) = refl
+
+  -- so one search tells where it is
+  pub fragment-at : (n : ℕ) → n ≡ length (upTo (λ c. eqb c 35) s) → n ≡ partsOf s .query
+  fragment-at n e = e ∙ (ap (λ (t : Bytes). length (upTo (λ c. eqb c 35) t)) (sym (parts-whole s)) ∙ (ap length front ∙ (ends ∙ sym (query-at s))))
+    where
+      rest : upTo (λ c. eqb c 35) (queryText s ++ fragmentText s) ≡ queryText s
+      rest = hash-behind (queryText s) (fragmentText s) clean-query ∙ rw hash-first (append-nil (queryText s))
+
+      ends : length (schemeText s ++ (authorityText s ++ (parse s .path ++ queryText s))) ≡ length (schemeText s ++ authorityText s ++ parse s .path ++ queryText s)
+      ends = simp append-assoc
+
+      front : upTo (λ c. eqb c 35) (schemeText s ++ (authorityText s ++ (parse s .path ++ (queryText s ++ fragmentText s))))
+          ≡ schemeText s ++ (authorityText s ++ (parse s .path ++ queryText s))
+      front =
+          hash-behind (schemeText s) _ clean-scheme
+          ∙ ap (schemeText s ++_) (hash-behind (authorityText s) _ clean-authority
+          ∙ ap (authorityText s ++_) (hash-behind (parse s .path) _ clean-path ∙ ap (parse s .path ++_) rest))
+
 -- ---- what the functions find
 
 -- a byte is of a set if a search for it ends before the set's end

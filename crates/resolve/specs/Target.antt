@@ -81,6 +81,10 @@ kept-form s = rw (← (has-authority s)) (go (isSome (parse s .authority)) refl)
     go true e = refl
     go false e = rw (no-slashes s e)
 
+either-true : (t : Bool) → (t || true) ≡ true
+either-true true = refl
+either-true false = refl
+
 -- does a front begin with "/"?
 first-slash : (s : Bytes) (n : ℕ) → 0 < n → n ≤ length s → begins (ascii "/") (take n s) ≡ eqb 47 (getD s 0 0)
 unfolding begins ascii
@@ -248,7 +252,7 @@ module _ (base reference : Bytes) where
         slash = 0;
         path = 0;
         start = partsOf base .query;
-        authority = ltb (partsOf base .scheme) (partsOf base .authority);
+        authority = true;
       })
   unfolding transform recompose hasForm laid authorityText queryText fragmentText if_then_else_ removeDotSegments turns isEmpty begins ascii
   aimed-fragment n h =
@@ -265,7 +269,7 @@ module _ (base reference : Bytes) where
       (rw (no-scheme, no-authority, no-path, query-missing (parse reference .query) (parse base .query) no-query))
       (omega (arith, ordered base)) (omega arith) (omega arith)
       (rw (take-query base)) (sym (query-at base))
-      (rw (scheme-text base) (simp append-assoc) ∙ ap ((schemeText base ++ authorityText base ++ parse base .path ++ queryText base) ++_) (sym texts)) (kept-form base)
+      (rw (scheme-text base) (simp append-assoc) ∙ ap ((schemeText base ++ authorityText base ++ parse base .path ++ queryText base) ++_) (sym texts)) (kept-form base ∙ either-true (ltb (partsOf base .scheme) (partsOf base .authority)))
 
   module _ (h : OnlyPath reference) where
     no-scheme : isSome (parse reference .scheme) ≡ false
