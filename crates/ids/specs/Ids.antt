@@ -102,24 +102,24 @@ total-linked at len store (suc n) end h b =
 
 linked-inside : (at len : List ℕ) (n end : ℕ) → endToEnd at len n end ≡ true → (i : ℕ) → i < n → getD at i 0 + getD len i 0 ≤ end
 linked-inside at len zero end h i l = absurd (omega arith)
-linked-inside at len (suc n) end h i l = go (ltb i n) refl
+linked-inside at len (suc n) end h i l = go (ltb i n) refl (linked-inside at len n (getD at n 0) (others-linked at len n end h) i)
   where
     e : getD at n 0 + getD len n 0 ≡ end
     e = last-ends at len n end h
 
-    go : (t : Bool) → ltb i n ≡ t → getD at i 0 + getD len i 0 ≤ end
-    go true k = omega (arith, linked-inside at len n (getD at n 0) (others-linked at len n end h) i (ltb-true i n k), e)
-    go false k = let q : i ≡ n = omega (arith, ltb-false i n k) in rw q (omega (arith, e))
+    go : (t : Bool) → ltb i n ≡ t → (i < n → getD at i 0 + getD len i 0 ≤ getD at n 0) → getD at i 0 + getD len i 0 ≤ end
+    go true k older = omega (arith, older (ltb-true i n k), e)
+    go false k older = let q : i ≡ n = omega (arith, ltb-false i n k) in rw q (omega (arith, e))
 
 module _ {count used : ℕ} {at len store : List ℕ} (v : ValidIds count used at len store) where
-  -- each span lies in the store
-  pub spans-in : SpansIn count at len store
-  spans-in = record { inside = λ i l. omega (arith, linked-inside at len count used (v .linked) i l, used-stored) }
-
   -- `used` bytes lie in the store
   pub used-stored : used ≤ length store
   unfolding idStoreBytes mostIdBytes
   used-stored = omega (arith, v .whole, v .within)
+
+  -- each span lies in the store
+  pub spans-in : SpansIn count at len store
+  spans-in = record { inside = λ i l. omega (arith, linked-inside at len count used (v .linked) i l, used-stored) }
 
   -- `used` is what the IDs have in bytes, as `count` is how many they are
   pub total-ids : total length (idsOf at len store count) ≡ used

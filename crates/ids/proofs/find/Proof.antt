@@ -44,7 +44,7 @@ wide-requires-2 : tie.Need-wide-requires-2 Inv-loop μ-loop
 wide-requires-2 c κs = search needs
 
 is-at-requires : tie.Need-is-at-requires Inv-loop μ-loop
-is-at-requires c κs = rw (c .before .before .wide .ensures .0, c .wide2 .ensures .0) (c .before .before .before .before .before .before .before .before .pre .inside _ (omega (arith, c .before .before .before .before .before .loop .inv .upto)))
+is-at-requires c κs = rw (c .before .before .wide .ensures .0, c .wide2 .ensures .0) (c .before .before .before .before .before .before .before .before .before .pre .inside _ (omega (arith, c .before .before .before .before .before .loop .inv .upto)))
 
 returns-2 : tie.Need-returns-2 Inv-loop μ-loop
 returns-2 c = sym (c .if2 .taken) ∙ sought-hit (c .before .before .before .before .before .before .before .loop .inv) (omega arith) (c .before .before .before .before .wide .ensures .0) (c .before .before .wide2 .ensures .0) (c .before .is-at .ensures) (c .if2 .taken)
