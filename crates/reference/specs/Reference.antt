@@ -212,16 +212,16 @@ module _ (base reference : Bytes) (i : isIriReference reference ≡ true) where
     pub answers : need base reference ≤ length room → r ≡ NoArea → ⊥
     answers n e = result-room h n e
 
--- ---- which base and which reference there are
+-- ---- which base there is
 
-module _ {based there : Bool} (b s : Bytes) (y : there ≡ true) {area after : List ℕ} {at : ℕ} {r : Reference} where
-  pub without-base : based ≡ false → Resolves (resolved none (some s)) area after at r → Resolves (resolved (given based b) (given there s)) area after at r
+module _ {based : Bool} (b s : Bytes) {area after : List ℕ} {at : ℕ} {r : Reference} where
+  pub without-base : based ≡ false → Resolves (resolved none (some s)) area after at r → Resolves (resolved (given based b) (some s)) area after at r
   unfolding given
-  without-base n h = rw (n, y) h
+  without-base n h = rw n h
 
-  pub on-base : based ≡ true → Resolves (resolved (some b) (some s)) area after at r → Resolves (resolved (given based b) (given there s)) area after at r
+  pub on-base : based ≡ true → Resolves (resolved (some b) (some s)) area after at r → Resolves (resolved (given based b) (some s)) area after at r
   unfolding given
-  on-base n h = rw (n, y) h
+  on-base n h = rw n h
 
 -- ---- rdf:ID
 
@@ -237,11 +237,6 @@ hashed {d} {v} {e} p l h =
     rw z (wrote-front (put-fits p (omega arith)) ∙ rw h)
 
 pub id-resolved : {area after : List ℕ} {at : ℕ} {r : Reference} (base : Option Bytes) (v s : Bytes) → s ≡ byte "#" ∷ v
-    → Resolves (resolved base (given true s)) area after at r → Resolves (resolved base (withHash (some v))) area after at r
-unfolding given withHash
+    → Resolves (resolved base (some s)) area after at r → Resolves (resolved base (withHash (some v))) area after at r
+unfolding withHash
 id-resolved base v s e q = rw (← e) q
-
-pub id-there : {area after : List ℕ} {at : ℕ} {r : Reference} (base : Option Bytes) (v : Bytes) {there : Bool} → there ≡ true
-    → Resolves (resolved base (withHash (some v))) area after at r → Resolves (resolved base (withHash (given there v))) area after at r
-unfolding given
-id-there base v h q = rw h q

@@ -80,7 +80,7 @@ impl Reference {
     }
 }
 
-// A reference that may be missing, on a base that may be missing: without one it has to be an IRI.
+// A reference on a base that may be missing: without one it has to be an IRI.
 pub fn resolved(
     based: bool,
     base: &[u8],
@@ -89,7 +89,7 @@ pub fn resolved(
     at: usize,
 ) -> Reference
     requires { ⌜ Room (now base) (now reference) (now area) at ⌝ }
-    ensures { λ r. ⌜ Resolves (resolved (given based (now (base .entry))) (given there (now (reference .entry)))) (now (area .entry)) (now (area .exit)) at r ⌝ }
+    ensures { λ r. ⌜ Resolves (resolved (given based (now (base .entry))) (some (now (reference .entry)))) (now (area .entry)) (now (area .exit)) at r ⌝ }
 {
     if !based {
         return absolute(reference, area, at);
@@ -111,7 +111,7 @@ pub fn resolved_id(
     area: &mut [u8],
 ) -> Reference
     requires { ⌜ RoomForId (now base) (now value) (now area) ⌝ }
-    ensures { λ r. ⌜ Resolves (resolved (given based (now (base .entry))) (withHash (given there (now (value .entry))))) (now (area .entry)) (now (area .exit)) 0 r ⌝ }
+    ensures { λ r. ⌜ Resolves (resolved (given based (now (base .entry))) (withHash (some (now (value .entry))))) (now (area .entry)) (now (area .exit)) 0 r ⌝ }
 {
     if value.len() < FEW {
         return near_id(based, base, value, area);

@@ -28,7 +28,7 @@ resolved-requires : tie.Need-resolved-requires
 resolved-requires c κs = record { on = c .before .before .before .before .before .before .before .before .pre .0 .on; from = omega (arith, c .before .before .before .before .before .before .before .before .pre .0 .from, length-take (length (c .before .before .before .before .before .before .before .before .args .value .now) + 1) (c .before .before .before .put .last .0)); room = c .before .before .before .before .before .before .before .before .pre .0 .room }
 
 same-length : tie.Need-same-length
-same-length c = search needs
+same-length c = c .before .area .given
 
 returns : tie.Need-returns
 unfolding byte

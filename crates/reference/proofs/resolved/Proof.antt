@@ -2,13 +2,10 @@
 use mathlib.Core.Path.{sym, _∙_}
 use borrow.Author.Tests.{not-true, not-false}
 use Rattle.spec.specs.Limits.{mostNameBytes}
-use Rattle.reference.specs.Reference.{given, none-there, no-reference, without-base, on-base}
+use Rattle.reference.specs.Reference.{no-reference, without-base, on-base}
 use borrow.Author.Needs.{needs}
 use Rattle.reference.proofs.resolved.Statement.{statement}
 use Rattle.reference.proofs.resolved.Tie as tie
-
-returns : tie.Need-returns
-returns c = none-there (c .before .before .before .before .args .reference .now) (given (c .before .before .before .before .args .based) (c .before .before .before .before .args .base .now)) (not-true _ (c .if1 .taken))
 
 absolute-requires : tie.Need-absolute-requires
 absolute-requires c κs = search needs
@@ -16,47 +13,46 @@ absolute-requires c κs = search needs
 same-length : tie.Need-same-length
 same-length c = search needs
 
-returns-2 : tie.Need-returns-2
-returns-2 c = without-base (c .before .before .before .before .before .before .before .before .before .args .base .now) (c .before .before .before .before .before .before .before .before .before .args .reference .now) (not-false _ (c .before .before .before .before .before .if1 .left)) (not-true _ (c .before .before .before .before .if2 .taken)) (c .before .before .absolute .ensures)
+returns : tie.Need-returns
+returns c = without-base (c .before .before .before .before .before .before .before .before .args .base .now) (c .before .before .before .before .before .before .before .before .args .reference .now) (not-true _ (c .before .before .before .before .if1 .taken)) (c .before .before .absolute .ensures)
 
 is-iri-reference-requires : tie.Need-is-iri-reference-requires
 is-iri-reference-requires c κs = search needs
 
-returns-3 : tie.Need-returns-3
-returns-3 c = on-base (c .before .before .before .before .before .before .before .args .base .now) (c .before .before .before .before .before .before .before .args .reference .now) (not-false _ (c .before .before .before .if1 .left)) (not-false _ (c .before .before .if2 .left)) (no-reference (c .before .before .before .before .before .before .before .args .reference .now) (c .before .before .before .before .before .before .before .args .base .now) (sym (c .before .is-iri-reference .ensures) ∙ not-true _ (c .if3 .taken)))
+returns-2 : tie.Need-returns-2
+returns-2 c = on-base (c .before .before .before .before .before .before .args .base .now) (c .before .before .before .before .before .before .args .reference .now) (not-false _ (c .before .before .if1 .left)) (no-reference (c .before .before .before .before .before .before .args .reference .now) (c .before .before .before .before .before .before .args .base .now) (sym (c .before .is-iri-reference .ensures) ∙ not-true _ (c .if2 .taken)))
 
 near-requires : tie.Need-near-requires
 unfolding mostNameBytes
-near-requires c κs = (c .before .before .before .before .before .before .before .before .before .pre, c .before .if4 .taken, sym (c .before .before .before .is-iri-reference .ensures) ∙ not-false _ (c .before .before .if3 .left))
+near-requires c κs = (c .before .before .before .before .before .before .before .before .pre, c .before .if3 .taken, sym (c .before .before .before .is-iri-reference .ensures) ∙ not-false _ (c .before .before .if2 .left))
 
 same-length-2 : tie.Need-same-length-2
-same-length-2 c = search needs
+same-length-2 c = c .before .area2 .given
 
-returns-4 : tie.Need-returns-4
-returns-4 c = on-base (c .before .before .before .before .before .before .before .before .before .before .before .before .args .base .now) (c .before .before .before .before .before .before .before .before .before .before .before .before .args .reference .now) (not-false _ (c .before .before .before .before .before .before .before .before .if1 .left)) (not-false _ (c .before .before .before .before .before .before .before .if2 .left)) (c .before .before .near .ensures)
+returns-3 : tie.Need-returns-3
+returns-3 c = on-base (c .before .before .before .before .before .before .before .before .before .before .before .args .base .now) (c .before .before .before .before .before .before .before .before .before .before .before .args .reference .now) (not-false _ (c .before .before .before .before .before .before .before .if1 .left)) (c .before .before .near .ensures)
 
 far-requires : tie.Need-far-requires
-far-requires c κs = (c .before .before .before .before .before .before .before .before .before .pre, sym (c .before .before .before .is-iri-reference .ensures) ∙ not-false _ (c .before .before .if3 .left))
+far-requires c κs = (c .before .before .before .before .before .before .before .before .pre, sym (c .before .before .before .is-iri-reference .ensures) ∙ not-false _ (c .before .before .if2 .left))
 
 same-length-3 : tie.Need-same-length-3
-same-length-3 c = search needs
+same-length-3 c = c .before .area3 .given
 
-returns-5 : tie.Need-returns-5
-returns-5 c = on-base (c .before .before .before .before .before .before .before .before .before .before .before .before .args .base .now) (c .before .before .before .before .before .before .before .before .before .before .before .before .args .reference .now) (not-false _ (c .before .before .before .before .before .before .before .before .if1 .left)) (not-false _ (c .before .before .before .before .before .before .before .if2 .left)) (c .before .before .far .ensures)
+returns-4 : tie.Need-returns-4
+returns-4 c = on-base (c .before .before .before .before .before .before .before .before .before .before .before .args .base .now) (c .before .before .before .before .before .before .before .before .before .before .before .args .reference .now) (not-false _ (c .before .before .before .before .before .before .before .if1 .left)) (c .before .before .far .ensures)
 
 pub resolved-spec : {M : Type 1} → statement M
 resolved-spec =
     tie.close
     (tie.spec
-    returns
     absolute-requires
     same-length
-    returns-2
+    returns
     is-iri-reference-requires
-    returns-3
+    returns-2
     near-requires
     same-length-2
-    returns-4
+    returns-3
     far-requires
     same-length-3
-    returns-5)
+    returns-4)
