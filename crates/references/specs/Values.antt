@@ -33,7 +33,7 @@ unfoldable pub valueIf : List ℕ → List ℕ → ℕ → ℕ → Option Bytes
 valueIf e w k j = given (ltb j k) (valueAt e w j)
 
 -- as it is read, at the place j: v is the value
-pub some-value : (e w : List ℕ) (k : ℕ) {j i : ℕ} {v : Bytes} → j ≡ i → j < k → v ≡ valueAt e w j → given true v ≡ valueIf e w k i
+pub some-value : (e w : List ℕ) (k : ℕ) {j i : ℕ} {v : Bytes} → j ≡ i → j < k → v ≡ valueAt e w j → some v ≡ valueIf e w k i
 unfolding valueIf given
 some-value e w k {j} q h p = rw (← q, lt-ltb j k h, p)
 

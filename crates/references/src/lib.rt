@@ -5,6 +5,7 @@ ghost use Rattle.inside.specs.Calls.{baseIn};
 ghost use Rattle.reference.specs.Reference.{given, Resolves};
 ghost use Rattle.roles.specs.Role.{roleIs};
 ghost use Rattle.attributes.specs.First.{firstIn};
+ghost use Rattle.ids.specs.Ids.{SpansIn};
 ghost use Rattle.references.specs.Values.{valueIf, inForce, Bases};
 ghost use Rattle.references.specs.References.{fiveAt, references, freshBy, usedBy, Ready, Four, anyBad, anyLong, Resolving};
 use ids::IdTable;
@@ -90,7 +91,7 @@ pub fn resolve_references<'a>(
     roles: &[u8],
     area: &mut [u8],
 ) -> Resolutions
-    requires { ⌜ Ready (now scratch) (now work) (now area) 4096 ⌝ }
+    requires { ⌜ Ready (now scratch) (now work) (now area) 4096 × SpansIn count (now starts) (now sizes) (now ids) ⌝ }
     ensures { λ q. ⌜ Resolving (references (inForce (now (scratch .entry)) (now (spans .entry)) (now (work .entry)) k (now (roles .entry)) (baseIn r (now (frames .entry)))) (freshBy count (now (starts .entry)) (now (sizes .entry)) (now (ids .entry))) (fiveAt (now (scratch .entry)) (now (spans .entry)) k (now (roles .entry)))) (now (area .entry)) (now (area .exit)) q ⌝ }
 {
     let j = attributes::first_in(roles, k, Role::XmlBase);
@@ -142,7 +143,7 @@ fn resolve_on(
     roles: &[u8],
     area: &mut [u8],
 ) -> Resolutions
-    requires { ⌜ Ready (now scratch) (now base) (now area) 4096 ⌝ }
+    requires { ⌜ Ready (now scratch) (now base) (now area) 4096 × SpansIn count (now starts) (now sizes) (now ids) ⌝ }
     ensures { λ r. ⌜ Resolving (references (given based (now (base .entry))) (freshBy count (now (starts .entry)) (now (sizes .entry)) (now (ids .entry))) (fiveAt (now (scratch .entry)) (now (spans .entry)) k (now (roles .entry)))) (now (area .entry)) (now (area .exit)) r ⌝ }
 {
     let id = resolve_id(based, base, scratch, spans, k, roles, area);
@@ -188,6 +189,7 @@ fn is_used(
     sizes: &[u32; IdTable::MOST],
     ids: &[u8],
 ) -> bool
+    requires { ⌜ SpansIn count (now starts) (now sizes) (now ids) ⌝ }
     ensures { λ r. ⌜ r ≡ usedBy count (now (starts .entry)) (now (sizes .entry)) (now (ids .entry)) (now (area .entry)) id ⌝ }
 {
     match id {

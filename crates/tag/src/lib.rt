@@ -13,6 +13,7 @@ ghost use Rattle.reference.specs.Reference.{Resolves};
 ghost use Rattle.references.specs.Values.{valueIf};
 ghost use Rattle.attributes.specs.Places.{places};
 ghost use Rattle.attributes.specs.Short.{shortAt};
+ghost use Rattle.ids.specs.Ids.{SpansIn};
 ghost use Rattle.tag.specs.Made.{isUnknown, spaceOf, iriOf, Lowered, shortIf, shortBy, RoomToMake, Finished};
 ghost use Rattle.tag.specs.Tag.{Asks, Reads};
 use ids::IdTable;
@@ -73,7 +74,7 @@ pub fn read_tag<'a>(
     roles: &mut [u8],
     area: &mut [u8],
 ) -> Read
-    requires { ⌜ Asks (now scratch) (now spans) m c k (now work) (now bindings) (r .bindings) (now classes) (now roles) (now area) ⌝ }
+    requires { ⌜ Asks (now scratch) (now spans) m c k (now work) (now bindings) (r .bindings) (now classes) (now roles) (now area) × SpansIn count (now starts) (now sizes) (now ids) ⌝ }
     ensures { λ t. ⌜ Reads r (now (frames .entry)) (now (bindings .entry)) (now (work .entry)) count (now (starts .entry)) (now (sizes .entry)) (now (ids .entry)) (now (scratch .entry)) (now (spans .entry)) m k (now (classes .entry)) (now (roles .entry)) (now (area .entry)) (now (roles .exit)) (now (area .exit)) t ⌝ }
 {
     let name = names::piece(scratch, 0, m);

@@ -16,10 +16,10 @@ base-of-requires : tie.Need-base-of-requires
 base-of-requires c κs = search needs
 
 resolve-on-requires : tie.Need-resolve-on-requires
-resolve-on-requires c κs = record { event = c .before .before .before .before .before .before .before .before .before .before .before .before .pre .event; on = bases-most (c .before .before .base-of .ensures) 65_536 (omega (arith, c .before .before .before .before .before .before .before .before .before .before .before .before .pre .event)) (c .before .before .before .before .before .before .before .before .before .before .before .before .pre .on); room = c .before .before .before .before .before .before .before .before .before .before .before .before .pre .room }
+resolve-on-requires c κs = (record { event = c .before .before .before .before .before .before .before .before .before .before .before .before .pre .0 .event; on = bases-most (c .before .before .base-of .ensures) 65_536 (omega (arith, c .before .before .before .before .before .before .before .before .before .before .before .before .pre .0 .event)) (c .before .before .before .before .before .before .before .before .before .before .before .before .pre .0 .on); room = c .before .before .before .before .before .before .before .before .before .before .before .before .pre .0 .room }, c .before .before .before .before .before .before .before .before .before .before .before .before .pre .1)
 
 same-length : tie.Need-same-length
-same-length c = search needs
+same-length c = c .before .area .given
 
 returns : tie.Need-returns
 returns c = base-as (freshBy (c .before .before .before .before .before .before .before .before .before .before .before .before .before .before .before .args .count) (c .before .before .before .before .before .before .before .before .before .before .before .before .before .before .before .args .starts .now) (c .before .before .before .before .before .before .before .before .before .before .before .before .before .before .before .args .sizes .now) (c .before .before .before .before .before .before .before .before .before .before .before .before .before .before .before .args .ids .now)) (fiveAt (c .before .before .before .before .before .before .before .before .before .before .before .before .before .before .before .args .scratch .now) (c .before .before .before .before .before .before .before .before .before .before .before .before .before .before .before .args .spans .now) (c .before .before .before .before .before .before .before .before .before .before .before .before .before .before .before .args .k) (c .before .before .before .before .before .before .before .before .before .before .before .before .before .before .before .args .roles .now)) (based (c .before .before .before .before .before .base-of .ensures) (c .before .before .before .before .before .before .before .before .before .before .before .before .before .before .before .args .roles .now) (c .before .before .before .before .before .before .before .first-in .ensures) (c .before .before .before .before .before .before .base-in-force .ensures)) (c .before .before .resolve-on .ensures)

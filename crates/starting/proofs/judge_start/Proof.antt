@@ -1,5 +1,6 @@
 -- `starting::judge_start` meets its contract.
 use mathlib.Core.Path.{_∙_}
+use Rattle.ids.specs.Ids.{spans-in}
 use Rattle.starting.specs.Starting.{form-stops, tag-asks, read-stops, ready-behind, start-judged}
 use native.Mathlib.Omega.{arith}
 use borrow.Author.Needs.{needs}
@@ -22,7 +23,7 @@ enum-told : tie.Need-enum-told
 enum-told c = search needs
 
 read-tag-requires : tie.Need-read-tag-requires
-read-tag-requires c κs = tag-asks (c .before .before .before .before .before .before .before .before .before .before .before .before .before .before .before .before .before .before .before .pre .0) (c .before .before .before .before .before .before .before .before .before .before .before .before .before .before .before .before .before .before .before .pre .1) (c .before .before .before .before .before .before .before .check-form .ensures) (c .before .before .before .enum-told .given .1)
+read-tag-requires c κs = (tag-asks (c .before .before .before .before .before .before .before .before .before .before .before .before .before .before .before .before .before .before .before .pre .0) (c .before .before .before .before .before .before .before .before .before .before .before .before .before .before .before .before .before .before .before .pre .1) (c .before .before .before .before .before .before .before .check-form .ensures) (c .before .before .before .enum-told .given .1), spans-in (c .before .before .before .before .before .before .before .before .before .before .before .before .before .before .before .before .before .before .before .pre .0 .lawful .table))
 
 enum-known-read : tie.Need-enum-known-read
 enum-known-read c = search needs
