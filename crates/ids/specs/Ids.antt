@@ -111,6 +111,18 @@ linked-inside at len (suc n) end h i l = go (ltb i n) refl (linked-inside at len
     go true k older = omega (arith, older (ltb-true i n k), e)
     go false k older = let q : i ≡ n = omega (arith, ltb-false i n k) in rw q (omega (arith, e))
 
+linked-in : {count used : ℕ} {at len store : List ℕ} → endToEnd at len count used ≡ true → used ≤ length store → SpansIn count at len store
+linked-in {count} {used} {at} {len} h b = record { inside = λ i l. omega (arith, linked-inside at len count used h i l, b) }
+
+-- the same by the test
+pub valid-spans : (count used : ℕ) (at len store : List ℕ) → validIds count used at len (length store) ≡ true → SpansIn count at len store
+unfolding validIds idStoreBytes mostIdBytes
+valid-spans count used at len store h =
+    let a = and-right (eqb (length store) idStoreBytes) _ h in
+    let b = and-right (leb count mostIds) _ a in
+    let whole = eqb-true (length store) idStoreBytes (and-left _ _ h) in
+    linked-in (and-right (leb used mostIdBytes) _ b) (omega (arith, whole, leb-true used mostIdBytes (and-left _ _ b)))
+
 module _ {count used : ℕ} {at len store : List ℕ} (v : ValidIds count used at len store) where
   -- `used` bytes lie in the store
   pub used-stored : used ≤ length store
@@ -119,7 +131,7 @@ module _ {count used : ℕ} {at len store : List ℕ} (v : ValidIds count used a
 
   -- each span lies in the store
   pub spans-in : SpansIn count at len store
-  spans-in = record { inside = λ i l. omega (arith, linked-inside at len count used (v .linked) i l, used-stored) }
+  spans-in = linked-in (v .linked) used-stored
 
   -- `used` is what the IDs have in bytes, as `count` is how many they are
   pub total-ids : total length (idsOf at len store count) ≡ used

@@ -62,10 +62,11 @@ fn fill(
     table
 }
 
-// Is the ID of a number there, with its first `n` bytes?
+// Is the ID of a number there, with its first `n` bytes? A table that is not valid is not searched.
 fn seek(
     what: &[u8],
     count: usize,
+    used: usize,
     at: &[u32; IdTable::MOST],
     len: &[u32; IdTable::MOST],
     store: &[u8],
@@ -74,6 +75,9 @@ fn seek(
 ) {
     let id = id_of(k);
     if id.len() < n {
+        return;
+    }
+    if !ids::valid(count, used, at, len, store.len()) {
         return;
     }
     answer(what, ids::find(count, at, len, store, &id[0..n]));
@@ -93,9 +97,15 @@ fn fresh() {
         b"fresh, beside a shorter store",
         ids::valid(table.count, table.used, &at, &len, store.len() - 1),
     );
-    answer(
+    seek(
         b"fresh, the empty ID",
-        ids::find(table.count, &at, &len, &store, b""),
+        table.count,
+        table.used,
+        &at,
+        &len,
+        &store,
+        0,
+        0,
     );
 }
 
@@ -116,15 +126,13 @@ fn places() {
 
 fn seek_numbers(table: Added, at: &[u32; IdTable::MOST], len: &[u32; IdTable::MOST], store: &[u8]) {
     let count = table.count;
-    answer(
-        b"valid",
-        ids::valid(count, table.used, at, len, store.len()),
-    );
-    seek(b"the first ID", count, at, len, store, 0, 5);
-    seek(b"the last ID", count, at, len, store, 511, 5);
-    seek(b"an absent ID", count, at, len, store, 512, 5);
-    seek(b"the front of an ID", count, at, len, store, 511, 4);
-    seek(b"an ID and one byte", count, at, len, store, 511, 6);
+    let used = table.used;
+    answer(b"valid", ids::valid(count, used, at, len, store.len()));
+    seek(b"the first ID", count, used, at, len, store, 0, 5);
+    seek(b"the last ID", count, used, at, len, store, 511, 5);
+    seek(b"an absent ID", count, used, at, len, store, 512, 5);
+    seek(b"the front of an ID", count, used, at, len, store, 511, 4);
+    seek(b"an ID and one byte", count, used, at, len, store, 511, 6);
 }
 
 // Every byte, and one more.
@@ -155,13 +163,12 @@ fn bytes() {
 
 fn seek_lengths(table: Added, at: &[u32; IdTable::MOST], len: &[u32; IdTable::MOST], store: &[u8]) {
     let count = table.count;
-    answer(
-        b"valid",
-        ids::valid(count, table.used, at, len, store.len()),
-    );
+    let used = table.used;
+    answer(b"valid", ids::valid(count, used, at, len, store.len()));
     seek(
         b"the first ID",
         count,
+        used,
         at,
         len,
         store,
@@ -171,14 +178,15 @@ fn seek_lengths(table: Added, at: &[u32; IdTable::MOST], len: &[u32; IdTable::MO
     seek(
         b"the last long ID",
         count,
+        used,
         at,
         len,
         store,
         31,
         Resolved::MOST_BYTES - 1,
     );
-    seek(b"the last ID", count, at, len, store, 33, 1);
-    seek(b"the refused ID", count, at, len, store, 32, 2);
+    seek(b"the last ID", count, used, at, len, store, 33, 1);
+    seek(b"the refused ID", count, used, at, len, store, 32, 2);
 }
 
 // Tables that no call leaves, each beside one that is right.
