@@ -81,13 +81,7 @@ impl Reference {
 }
 
 // A reference on a base that may be missing: without one it has to be an IRI.
-pub fn resolved(
-    based: bool,
-    base: &[u8],
-    reference: &[u8],
-    area: &mut [u8],
-    at: usize,
-) -> Reference
+pub fn resolved(based: bool, base: &[u8], reference: &[u8], area: &mut [u8], at: usize) -> Reference
     requires { ⌜ Room (now base) (now reference) (now area) at ⌝ }
     ensures { λ r. ⌜ Resolves (resolved (given based (now (base .entry))) (some (now (reference .entry)))) (now (area .entry)) (now (area .exit)) at r ⌝ }
 {
@@ -104,12 +98,7 @@ pub fn resolved(
 }
 
 // rdf:ID: "#" and the value.
-pub fn resolved_id(
-    based: bool,
-    base: &[u8],
-    value: &[u8],
-    area: &mut [u8],
-) -> Reference
+pub fn resolved_id(based: bool, base: &[u8], value: &[u8], area: &mut [u8]) -> Reference
     requires { ⌜ RoomForId (now base) (now value) (now area) ⌝ }
     ensures { λ r. ⌜ Resolves (resolved (given based (now (base .entry))) (withHash (some (now (value .entry))))) (now (area .entry)) (now (area .exit)) 0 r ⌝ }
 {

@@ -1,7 +1,7 @@
 -- What a call on standard input or output came to, by what it answered.
-use Prim.Native.Nat.{ℕ, zero, suc, _≤_, _<_, min}
+use Prim.Native.Nat.{ℕ, zero, suc, _+_, _≤_, _<_, min}
 use mathlib.Core.Path.{_≡_}
-use mathlib.Core.Bool.{Bool, true, false, _||_}
+use mathlib.Core.Bool.{Bool, true, false, not, _&&_, _||_}
 use lib.Dec.{eqb, ltb}
 use lib.IntN.{ℤ, pos, negsuc}
 use Rattle.streams.specs.declared.Moved.{Moved}
@@ -9,6 +9,7 @@ use Rattle.streams.specs.declared.Moved.the-variants as moved
 use Rattle.streams.specs.declared.Got.{Got}
 use Rattle.streams.specs.declared.Got.the-variants as got
 use Rattle.streams.specs.declared.Printed.{Printed}
+use Rattle.streams.specs.declared.Printing.{Printing}
 
 -- the errors of a call that may do better when it is tried again: it was interrupted, or would have had to wait
 abbrev pub eintr : ℕ
@@ -51,14 +52,35 @@ bytesOf (moved.Bytes n) = n
 bytesOf moved.Later = 0
 bytesOf moved.Failed = 0
 
--- so many bytes of a text, which may be all
-abbrev pub printedOf : ℕ → ℕ → Printed
-printedOf bytes most = record { whole = eqb bytes most; bytes = bytes }
+-- a text of so many bytes before the first write, and behind a write that took so many of them
+unfoldable pub begun : ℕ → Printing
+begun most = record { taken = 0; most = most; failed = false }
 
--- what was taken of a text of so many bytes
-pub record Prints (most : ℕ) (p : Printed) : Type 0 where
-  pub fewer : p .bytes ≤ most
-  pub whole : p .whole ≡ eqb (p .bytes) most
+unfoldable pub afterWrite : Printing → ℕ → Printing
+afterWrite p n = record { taken = p .taken + n; most = p .most; failed = eqb n 0 }
+
+-- is there more to write? Not behind a write that failed
+unfoldable pub goesOn : Printing → Bool
+goesOn p = not (p .failed) && ltb (p .taken) (p .most)
+
+-- what the writes of a text come to, one after the other: none is made where there is no more to write, and none takes
+-- more than is left
+pub data Written (most : ℕ) : Printing → Type 0 where
+  first : Written most (begun most)
+  next : {p : Printing} → Written most p → goesOn p ≡ true → (n : ℕ) → p .taken + n ≤ most → Written most (afterWrite p n)
+
+-- so many bytes of a text, which may be all
+abbrev pub printedOf : Printing → Printed
+printedOf p = record { whole = eqb (p .taken) (p .most); bytes = p .taken }
+
+-- a text of so many bytes was written as far as it went
+pub record Prints (most : ℕ) (r : Printed) : Type 0 where
+  pub last : Printing
+  pub written : Written most last
+  pub over : goesOn last ≡ false
+  pub is : r ≡ printedOf last
+  pub fewer : r .bytes ≤ most
+  pub whole : r .whole ≡ eqb (r .bytes) most
 
 -- ---- reading
 

@@ -1,23 +1,25 @@
 -- How the code decides what a call came to: it tests the answer and errno, which are signed, by their bits.
-use Prim.Native.Nat.{ℕ, zero, suc, _≤_, _<_, min}
+use Prim.Native.Nat.{ℕ, zero, suc, _+_, _-_, _≤_, _<_, min}
 use mathlib.Core.Path.{_≡_, refl, sym, ap, _∙_}
-use mathlib.Core.Bool.{Bool, true, false, true≢false}
+use mathlib.Core.Bool.{Bool, true, false, not, _&&_, true≢false}
 use native.Mathlib.Nat.{min-le-right}
 use native.Mathlib.Omega.{arith}
-use lib.Dec.{T}
+use lib.Dec.{T, eqb, ltb}
+use Rattle.spec.specs.Bytes.{if_then_else_}
 use lib.IntN.{ℤ, pos, negsuc, natAbs}
 use lib.Signed.{leZ, nonNeg}
 use mir.Syntax.{w32, w64}
 use mir.Val.{Fits, SFits, ofZ, toZ}
 use mir.ValLaws.{toZ-ofZ}
-use borrow.Author.Tests.{ne-eqb, ltb-true, le-leb}
+use borrow.Author.Tests.{ne-eqb, eqb-false, ltb-true, le-leb}
 use Rattle.streams.specs.declared.Moved.{Moved}
 use Rattle.streams.specs.declared.Moved.the-variants.{Bytes, Later, Failed}
 use Rattle.streams.specs.declared.Got.{Got}
 use Rattle.streams.specs.declared.Got.the-variants as got
 use Rattle.streams.specs.declared.Printed.{Printed}
+use Rattle.streams.specs.declared.Printing.{Printing}
 use Rattle.streams.specs.Answers.{eintr, eagain, passing, unmoved, movedOf, AtMost, waitsFor}
-use Rattle.streams.specs.Answers.{bytesOf, printedOf, Prints, gotOf, Fills}
+use Rattle.streams.specs.Answers.{bytesOf, begun, afterWrite, goesOn, Written, first, next, printedOf, Prints, gotOf, Fills}
 
 -- ---- the answer
 
@@ -114,5 +116,49 @@ got-fills room m e h = rw e (go m h)
     go Later b = tt
     go Failed b = tt
 
-pub prints : {p : Printed} {done most : ℕ} → p ≡ printedOf done most → done ≤ most → Prints most p
-prints e h = rw e (record { fewer = h; whole = refl })
+-- ---- a text on its way
+
+-- the loop of `print`
+pub record Going (most : ℕ) (p : Printing) : Type 0 where
+  pub written : Written most p
+  pub size : p .most ≡ most
+  pub fewer : p .taken ≤ most
+
+pub going-first : (most : ℕ) {p : Printing} → p ≡ begun most → Going most p
+unfolding begun
+going-first most e = rw e (record { written = first; size = refl; fewer = omega arith })
+
+pub going-next : {most : ℕ} {p q : Printing} (n : ℕ) {b : Bool} → Going most p → b ≡ goesOn p → b ≡ true → p .taken + n ≤ most
+    → q ≡ afterWrite p n → Going most q
+unfolding afterWrite
+going-next n g d t room e = rw e (record { written = next (g .written) (sym d ∙ t) n room; size = g .size; fewer = room })
+
+-- nothing is written behind a write that failed
+pub none-behind-failed : (p : Printing) → goesOn (afterWrite p 0) ≡ false
+unfolding goesOn afterWrite
+none-behind-failed p = refl
+
+-- what is left: nothing behind a failure
+unfoldable pub left : Printing → ℕ
+left p = if p .failed then 0 else suc (p .most - p .taken)
+
+pub left-less : (p : Printing) {q : Printing} (n : ℕ) {b : Bool} → b ≡ goesOn p → b ≡ true → p .taken + n ≤ p .most → q ≡ afterWrite p n → left q < left p
+unfolding left goesOn afterWrite if_then_else_
+left-less p n d t room e = rw e (go (p .failed) (eqb n 0) refl (sym d ∙ t))
+  where
+    go : (f z : Bool) → eqb n 0 ≡ z → (not f && ltb (p .taken) (p .most)) ≡ true
+        → (if z then 0 else suc (p .most - (p .taken + n))) < (if f then 0 else suc (p .most - p .taken))
+    go true z k h = absurd (true≢false (sym h))
+    go false true k h = omega arith
+    go false false k h = omega (arith, eqb-false n 0 k, ltb-true (p .taken) (p .most) h)
+
+pub prints : {most : ℕ} {p : Printing} {r : Printed} {b : Bool} → Going most p → b ≡ goesOn p → b ≡ false → r ≡ printedOf p → Prints most r
+prints {p = p} g d t e =
+    record {
+      last = p;
+      written = g .written;
+      over = sym d ∙ t;
+      is = e;
+      fewer = rw e (g .fewer);
+      whole = rw (e, g .size);
+    }

@@ -7,7 +7,7 @@ ghost use lib.ListN.{length};
 ghost use Rattle.spec.specs.NTriples.{decimal};
 ghost use Rattle.copy.specs.Copy.{Wrote};
 ghost use Rattle.io.specs.Counts.{Counts};
-ghost use Rattle.streams.specs.Answers.{movedOf, waitsFor, bytesOf, gotOf, printedOf, AtMost, Prints, Fills};
+ghost use Rattle.streams.specs.Answers.{movedOf, waitsFor, bytesOf, gotOf, AtMost, begun, goesOn, afterWrite, printedOf, Prints, Fills};
 ghost use Rattle.streams.specs.Telling.{shown, failureLine};
 use label::Decimal;
 use libc::STDERR_FILENO;
@@ -42,6 +42,13 @@ pub enum Got {
 pub struct Printed {
     whole: bool,
     bytes: usize,
+}
+
+// How far a text of `most` bytes is printed: so many of them were taken, and whether a write failed.
+struct Printing {
+    taken: usize,
+    most: usize,
+    failed: bool,
 }
 
 impl Moved {
@@ -107,17 +114,51 @@ impl Got {
     }
 }
 
-impl Printed {
-    // So many bytes of `most`.
-    fn of(bytes: usize, most: usize) -> Self
-        ensures { λ r. ⌜ r ≡ printedOf bytes most ⌝ }
+impl Printing {
+    // Before the first write.
+    fn begun(most: usize) -> Self
+        ensures { λ p. ⌜ p ≡ begun most ⌝ }
     {
-        Printed {
-            whole: bytes == most,
-            bytes,
+        Printing {
+            taken: 0,
+            most,
+            failed: false,
         }
     }
 
+    // Is there more to write? Behind a write that failed there is not.
+    fn goes_on(self) -> bool
+        ensures { λ r. ⌜ r ≡ goesOn self ⌝ }
+    {
+        if self.failed {
+            return false;
+        }
+        self.taken < self.most
+    }
+
+    // Behind a write that took `n` bytes: one that took none failed.
+    fn after(self, n: usize) -> Self
+        requires { ⌜ self .taken + n ≤ self .most ⌝ }
+        ensures { λ p. ⌜ p ≡ afterWrite self n ⌝ }
+    {
+        Printing {
+            taken: self.taken + n,
+            most: self.most,
+            failed: n == 0,
+        }
+    }
+
+    fn printed(self) -> Printed
+        ensures { λ r. ⌜ r ≡ printedOf self ⌝ }
+    {
+        Printed {
+            whole: self.taken == self.most,
+            bytes: self.taken,
+        }
+    }
+}
+
+impl Printed {
     pub fn is_whole(self) -> bool
         ensures { λ r. ⌜ r ≡ self .whole ⌝ }
     {
@@ -141,15 +182,13 @@ fn least(a: usize, b: usize) -> usize
 pub fn print(text: &[u8]) -> Printed
     ensures { λ r. ⌜ Prints (length (now (text .entry))) r ⌝ }
 {
-    let mut done = 0;
-    while done < text.len() {
-        let n = write(&text[done..]);
-        if n == 0 {
-            return Printed::of(done, text.len());
-        }
-        done += n;
+    let mut printing = Printing::begun(text.len());
+    while printing.goes_on() {
+        let taken = printing.taken;
+        let n = write(&text[taken..]);
+        printing = printing.after(n);
     }
-    Printed::of(done, text.len())
+    printing.printed()
 }
 
 // How many bytes of the text standard output takes, as soon as it can take any.

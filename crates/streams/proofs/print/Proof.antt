@@ -1,25 +1,31 @@
--- `streams::print` meets its contract. The loop's invariant: no more was taken than there is. The measure is what is left of the text.
-use Prim.Native.Nat.{_≤_, _-_}
-use lib.ListN.{length}
+-- `streams::print` meets its contract. The loop's invariant: a write was made only where there was more to write. The measure is what is left.
+use native.Mathlib.Omega.{arith}
 use borrow.Author.Needs.{needs}
-use Rattle.streams.specs.Deciding.{prints}
+use Rattle.streams.specs.Deciding.{Going, going-first, going-next, left, left-less, prints}
+use lib.ListN.{length}
 use Rattle.streams.proofs.print.Statement.{statement}
 use Rattle.streams.proofs.print.Tie as tie
 
 abbrev Inv-loop : tie.InvT-loop
-Inv-loop text done₀ done = done ≤ length text
+Inv-loop text printing₀ printing = Going (length text) printing
 
 abbrev μ-loop : tie.MeasureT-loop
-μ-loop text done₀ done = length text - done
+μ-loop text printing₀ printing = left printing
+
+begun-requires : tie.Need-begun-requires Inv-loop μ-loop
+begun-requires c κs = search needs
 
 loop-holds : tie.Need-loop-holds Inv-loop μ-loop
-loop-holds c = search needs
+loop-holds c = going-first _ (c .begun .ensures)
+
+goes-on-requires : tie.Need-goes-on-requires Inv-loop μ-loop
+goes-on-requires c κs = search needs
 
 sub-write : tie.Need-sub-write Inv-loop μ-loop
-sub-write c = search needs
+sub-write c = omega (arith, c .before .before .loop .inv .fewer)
 
 part-write-start : tie.Need-part-write-start Inv-loop μ-loop
-part-write-start c = search needs
+part-write-start c = omega (arith, c .before .before .loop .inv .fewer)
 
 part-write-end : tie.Need-part-write-end Inv-loop μ-loop
 part-write-end c = search needs
@@ -27,26 +33,20 @@ part-write-end c = search needs
 write-requires : tie.Need-write-requires Inv-loop μ-loop
 write-requires c κs = search needs
 
-of-requires : tie.Need-of-requires Inv-loop μ-loop
-of-requires c κs = search needs
-
-returns : tie.Need-returns Inv-loop μ-loop
-returns c = prints (c .of .ensures) (c .before .before .before .before .before .loop .inv)
-
-add-done : tie.Need-add-done Inv-loop μ-loop
-add-done c = search needs
+after-requires : tie.Need-after-requires Inv-loop μ-loop
+after-requires c κs = omega (arith, c .write .ensures, c .before .before .before .before .loop .inv .fewer, c .before .before .before .before .loop .inv .size)
 
 loop-less : tie.Need-loop-less Inv-loop μ-loop
-loop-less c = search needs
+loop-less c = left-less (c .before .before .before .before .before .loop .printing) _ (c .before .before .before .before .goes-on .ensures) (c .before .before .before .if1 .taken) (omega (arith, c .before .write .ensures, c .before .before .before .before .before .loop .inv .fewer, c .before .before .before .before .before .loop .inv .size)) (c .after .ensures)
 
 loop-again : tie.Need-loop-again Inv-loop μ-loop
-loop-again c = search needs
+loop-again c = going-next _ (c .before .before .before .before .before .loop .inv) (c .before .before .before .before .goes-on .ensures) (c .before .before .before .if1 .taken) (omega (arith, c .before .write .ensures, c .before .before .before .before .before .loop .inv .fewer)) (c .after .ensures)
 
-of-requires-2 : tie.Need-of-requires-2 Inv-loop μ-loop
-of-requires-2 c κs = search needs
+printed-requires : tie.Need-printed-requires Inv-loop μ-loop
+printed-requires c κs = search needs
 
-returns-2 : tie.Need-returns-2 Inv-loop μ-loop
-returns-2 c = prints (c .of2 .ensures) (c .before .before .loop .inv)
+returns : tie.Need-returns Inv-loop μ-loop
+returns c = prints (c .before .before .before .loop .inv) (c .before .before .goes-on .ensures) (c .before .if1 .left) (c .printed .ensures)
 
 pub print-spec : {M : Type 1} → statement M
 print-spec =
@@ -54,15 +54,15 @@ print-spec =
     (tie.spec
     Inv-loop
     μ-loop
+    begun-requires
     loop-holds
+    goes-on-requires
     sub-write
     part-write-start
     part-write-end
     write-requires
-    of-requires
-    returns
-    add-done
+    after-requires
     loop-less
     loop-again
-    of-requires-2
-    returns-2)
+    printed-requires
+    returns)
