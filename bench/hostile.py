@@ -108,19 +108,18 @@ def accepted():
     yield '31 declarations and 32 attributes of the last', root(*bindings(62)) + tag('a'), \
         tag('a', *bindings(31, 'q'), ('r:parseType', 'x'), *[('paa:' + w, '') for w in itertools.islice(words(1), 32)])
     # -- rdf:ID
-    for size, base in ((2, 'a:'), (3, 'a:'), (10, 'a:'), (2, 'http://e/' + 'b' * 50), (8, 'http://e/' + 'b' * 45), (10, 'http://e/' + 'b' * 43), (18, 'http://e/' + 'b' * 35)):
-        ids = list(itertools.islice(words(2), 512))
-        yes = [w + 'x' * (size - 2) for w in ids]
-        before = root(('xml:base', base)) + tag('a') + ''.join(tag('a', ('r:ID', w)) + ')a\n' for w in yes[:511])
-        yield f'rdf:ID of {size} bytes behind 511 others on a base of {len(base)}', before, tag('a', ('r:ID', yes[511]))
-    yield 'rdf:ID, the first', root(('xml:base', 'a:')) + tag('a'), tag('a', ('r:ID', 'a'))
-    yield 'rdf:ID on a base of 1,022 bytes behind 31 others', \
-        root(('xml:base', 'http://e/' + 'b' * 1_013)) + tag('a') + ''.join(tag('a', ('r:ID', w)) + ')a\n' for w in LETTERS[:31]), tag('a', ('r:ID', 'Z'))
     letters = [('xmlns:' + w, 'u') for w in LETTERS if w != 'r']
     crowd = lambda base: root(*letters, *bindings(10), ('xml:base', base), default=LONG) + tag('a', *bindings(64, 'q'))
     used = lambda ids: ''.join(tag('a', ('r:ID', w)) + ')a\n' for w in ids)
-    yield 'rdf:ID of 2 bytes behind 511 others at depth 63 with 127 bindings', \
-        crowd('http://e/' + 'b' * 50) + used(itertools.islice(words(2), 511)) + nested(60), tag('a', ('r:ID', 'ZZ'))
+    for size, base in ((2, 'a:'), (3, 'a:'), (4, 'a:'), (6, 'a:'), (10, 'a:'), (2, 'http://e/' + 'b' * 50), (6, 'http://e/' + 'b' * 47),
+                       (8, 'http://e/' + 'b' * 45), (10, 'http://e/' + 'b' * 43), (18, 'http://e/' + 'b' * 35)):
+        ids = [w + 'x' * (size - 2) for w in itertools.islice(words(2), 512)]
+        name = f'rdf:ID of {size} bytes behind 511 others on a base of {len(base)}'
+        yield name, root(('xml:base', base)) + tag('a') + used(ids[:511]), tag('a', ('r:ID', ids[511]))
+        yield name + ', at depth 63 with 127 bindings', crowd(base) + used(ids[:511]) + nested(60), tag('a', ('r:ID', ids[511]))
+    yield 'rdf:ID, the first', root(('xml:base', 'a:')) + tag('a'), tag('a', ('r:ID', 'a'))
+    yield 'rdf:ID on a base of 1,022 bytes behind 31 others', \
+        root(('xml:base', 'http://e/' + 'b' * 1_013)) + tag('a') + used(LETTERS[:31]), tag('a', ('r:ID', 'Z'))
     yield 'rdf:ID on a base of 1,022 bytes behind 31 others at depth 63 with 127 bindings', \
         crowd('http://e/' + 'b' * 1_013) + used(LETTERS[:31]) + nested(60), tag('a', ('r:ID', 'Z'))
     bases = [w + ':' + 'b' * 58 for w in itertools.islice(words(2), 512)]
