@@ -131,6 +131,13 @@ unfolding baseInForce baseSaid said
 base-said start [] = refl
 base-said start (f ∷ fs) = rw (base-said start fs) refl
 
+-- an rdf:li that is counted changes neither
+pub base-count : (i : Bytes) (b : Option Bytes) (fs : List Frame) → baseInForce b (countLi i fs) ≡ baseInForce b fs
+base-count i b fs = base-said b (countLi i fs) ∙ (ap (baseSaid b) (said-count i fs) ∙ sym (base-said b fs))
+
+pub language-count : (i : Bytes) (fs : List Frame) → languageInForce (countLi i fs) ≡ languageInForce fs
+language-count i fs = same-language (countLi i fs) fs (said-count i fs)
+
 scopeSaid : List Said → List Binding
 scopeSaid [] = []
 scopeSaid (x ∷ S) = x .1 ++ scopeSaid S
