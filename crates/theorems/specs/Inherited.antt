@@ -66,6 +66,11 @@ turns (closes {n = n} {f = f} {fs = fs}) = (saidOf f, ap (saidOf f ∷_) (sym (s
 turn : (e : Event) (d d′ : Doc) {us : List Triple} → next e d ≡ good (us, d′) → Turn e (said (d .frames)) (said (d′ .frames)) × (d′ .startBase ≡ d .startBase)
 turn e d d′ q = let m = always-good (Moved d e) (moves e d) q in (turns (m .0), m .1)
 
+-- the start base stays
+pub start-kept : {d₀ d : Doc} {ts : List Triple} → After d₀ d ts → d .startBase ≡ d₀ .startBase
+start-kept here = refl
+start-kept (event {d = d} before e d′ us q) = turn e d d′ q .1 ∙ start-kept before
+
 -- ---- below an open element all stays as it was
 
 -- the open elements S with x and others on top

@@ -1,0 +1,130 @@
+-- Document 01, "Domain of equality with the Rust", clause by clause, of one event at a document.
+-- The theorems begin where both sides have the same decoded events. So the clauses on how XML becomes events exclude nothing
+-- here, and that an event of the Rust's XML is that of the port's PYX is not proved: DOCTYPE (entities), comment and CDATA (they
+-- cut the Rust's text in pieces, and a CDATA's is lost), CR, tab and line end in attribute values (quick_xml does not normalise
+-- them), blank-only text with a character reference (680 looks at it undecoded), a reference in rdf:parseType (406 likewise).
+use mathlib.Core.Path.{_≡_, refl, sym, _∙_}
+use mathlib.Core.Logic.{inl, inr}
+use mathlib.Core.Bool.{Bool, true, false, true≢false}
+use mathlib.Core.List.{_++_}
+use Rattle.spec.specs.Numbers.{refuse}
+use Rattle.spec.specs.declared.Refusal.{Refusal}
+use Rattle.spec.specs.declared.Refusal.the-variants.{Incomplete, NoRoom, BadState, Closed, NotPyx, NotWellFormed, OverLimit, NoNamespace, NotNcName, BadLanguage, BadIri, RepeatedId, BadLabel, Reserved, TwoNames, StrayText, EmptyLiteral, LabelsSpent}
+use Rattle.spec.specs.Pyx.{Event, opening, closing, text, instruction}
+use Rattle.spec.specs.Namespaces.{declared, allLegal}
+use Rattle.spec.specs.Document.{Doc, inScope, placeIn}
+use Rattle.spec.specs.Opening.{isSecondRoot, repeated}
+use Rattle.spec.specs.RdfXml.{next}
+use Rattle.theorems.specs.AttributeNames.{PrefixesKnown}
+use Rattle.theorems.specs.Refusals.{matches, wellFormed, refused-above}
+
+-- ---- the clauses
+
+-- every prefix of a start tag is known (Namespaces in XML 1.0, "Prefix Declared")
+abbrev pub KnownPrefixes : Event → Doc → Type 0
+KnownPrefixes (opening n as′) d = PrefixesKnown (declared as′ ++ inScope (d .frames)) n as′
+KnownPrefixes (closing n) d = Unit {0}
+KnownPrefixes (text s) d = Unit {0}
+KnownPrefixes instruction d = Unit {0}
+
+-- "Namespace-well-formed": one root, end tags that match, legal declarations, known prefixes (repeated attributes: below)
+abbrev pub NamespaceWellFormed : Event → Doc → Type 0
+NamespaceWellFormed (opening n as′) d =
+    (isSecondRoot d ≡ false) × (allLegal (declared as′) ≡ true) × KnownPrefixes (opening n as′) d
+NamespaceWellFormed (closing n) d = matches n (d .frames) ≡ true
+NamespaceWellFormed (text s) d = Unit {0}
+NamespaceWellFormed instruction d = Unit {0}
+
+-- "nothing refused by": not by this number
+abbrev pub NotRefusedBy : Refusal → Event → Doc → Type 0
+NotRefusedBy n e d = next e d ≡ refuse n → ⊥
+
+-- "6 for a repeated attribute": expanded names outside Literal content, as written there
+abbrev pub NoRepeatedAttribute : Event → Doc → Type 0
+NoRepeatedAttribute (opening n as′) d = repeated (placeIn (d .frames)) as′ d ≡ false
+NoRepeatedAttribute (closing n) d = Unit {0}
+NoRepeatedAttribute (text s) d = Unit {0}
+NoRepeatedAttribute instruction d = Unit {0}
+
+-- the paragraph, in its order
+pub record InDomain (e : Event) (d : Doc) : Type 0 where
+  -- "Namespace-well-formed"
+  pub namespace-well-formed : NamespaceWellFormed e d
+  -- "UTF-8 documents": 5 is given before there is an event
+  -- "within the limits"
+  pub within-the-limits : NotRefusedBy OverLimit e d
+  -- "without DOCTYPE, comment, CDATA, or CR; no tab or line end in attribute values; no blank-only text with a character
+  -- reference in it": on how XML becomes events
+  -- "attribute values inside Literal content escaped as Canonical XML does": Parser.as-it-stood
+  -- "no reference in rdf:parseType": on how XML becomes events
+  -- "nothing refused by 13, 18, or 6 for a repeated attribute"
+  pub not-refused-by-13 : NotRefusedBy BadLabel e d
+  pub not-refused-by-18 : NotRefusedBy LabelsSpent e d
+  pub no-repeated-attribute : NoRepeatedAttribute e d
+
+-- ---- the numbers outside it
+
+-- Is a refusal outside the domain? What the Rust does there stands in Outside, by computation. Of 8 only unknown prefixes are.
+abbrev pub outside : Refusal → Bool
+-- never given for an event itself
+outside Incomplete = false
+outside NoRoom = false
+outside BadState = false
+outside Closed = false
+outside NotPyx = false
+-- an unmatched end tag is quick_xml's error; a second root is read, and so are a repeated attribute and an illegal xmlns
+outside NotWellFormed = true
+-- the Rust has no limits
+outside OverLimit = true
+outside NoNamespace = false
+outside NotNcName = false
+outside BadLanguage = false
+outside BadIri = false
+outside RepeatedId = false
+-- the label is taken, and may be one that is generated
+outside BadLabel = true
+outside Reserved = false
+outside TwoNames = false
+outside StrayText = false
+outside EmptyLiteral = false
+-- a label's ninth digit is lost, so labels come again; the 100,000,000th rdf:li is rdf:_100000000
+outside LabelsSpent = true
+
+-- ---- in the domain no event is refused by them
+
+-- 6 is its first test
+well-formed : (e : Event) (d : Doc) → NamespaceWellFormed e d → NoRepeatedAttribute e d → wellFormed e d ≡ true
+well-formed (opening n as′) d k r = rw (k .0, k .1, r)
+well-formed (closing n) d k r = k
+well-formed (text s) d k r = refl
+well-formed instruction d k r = refl
+
+pub in-domain : (e : Event) (d : Doc) → InDomain e d → (n : Refusal) → next e d ≡ refuse n → outside n ≡ false
+in-domain e d k Incomplete h = refl
+in-domain e d k NoRoom h = refl
+in-domain e d k BadState h = refl
+in-domain e d k Closed h = refl
+in-domain e d k NotPyx h = refl
+in-domain e d k NotWellFormed h =
+    elim (refused-above e d NotWellFormed h) [
+      | inl x ↦ absurd (true≢false x)
+      | inr x ↦ absurd (true≢false (sym (well-formed e d (k .namespace-well-formed) (k .no-repeated-attribute)) ∙ x .1))
+    ]
+in-domain e d k OverLimit h = absurd (k .within-the-limits h)
+in-domain e d k NoNamespace h = refl
+in-domain e d k NotNcName h = refl
+in-domain e d k BadLanguage h = refl
+in-domain e d k BadIri h = refl
+in-domain e d k RepeatedId h = refl
+in-domain e d k BadLabel h = absurd (k .not-refused-by-13 h)
+in-domain e d k Reserved h = refl
+in-domain e d k TwoNames h = refl
+in-domain e d k StrayText h = refl
+in-domain e d k EmptyLiteral h = refl
+in-domain e d k LabelsSpent h = absurd (k .not-refused-by-18 h)
+
+pub in-domain-known : (e : Event) (d : Doc) → InDomain e d → KnownPrefixes e d
+in-domain-known (opening n as′) d k = k .namespace-well-formed .2
+in-domain-known (closing n) d k = tt
+in-domain-known (text s) d k = tt
+in-domain-known instruction d k = tt
