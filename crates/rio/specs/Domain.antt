@@ -6,14 +6,15 @@
 use mathlib.Core.Path.{_≡_, refl, sym, _∙_}
 use mathlib.Core.Logic.{inl, inr}
 use mathlib.Core.Bool.{Bool, true, false, true≢false}
-use mathlib.Core.List.{[], _++_}
+use mathlib.Core.List.{List, [], _∷_, _++_}
+use Rattle.spec.specs.Bytes.{ascii, begins, All}
 use Rattle.spec.specs.Numbers.{refuse}
 use Rattle.spec.specs.declared.Refusal.{Refusal}
 use Rattle.spec.specs.declared.Refusal.the-variants.{Incomplete, NoRoom, BadState, Closed, NotPyx, NotWellFormed, OverLimit, NoNamespace, NotNcName, BadLanguage, BadIri, RepeatedId, BadLabel, Reserved, TwoNames, StrayText, EmptyLiteral, LabelsSpent}
-use Rattle.spec.specs.Pyx.{Event, opening, closing, text, instruction}
-use Rattle.spec.specs.Namespaces.{declared, allLegal}
+use Rattle.spec.specs.Pyx.{Attribute, Event, opening, closing, text, instruction}
+use Rattle.spec.specs.Namespaces.{Binding, declared, isDeclaration, nameOf, isKnown, allLegal}
 use Rattle.spec.specs.Document.{Doc, inScope, placeIn}
-use Rattle.spec.specs.Opening.{isSecondRoot, repeated}
+use Rattle.spec.specs.Opening.{isSecondRoot, isXml, repeated}
 use Rattle.spec.specs.RdfXml.{next}
 use Rattle.theorems.specs.AttributeNames.{PrefixesKnown}
 use Rattle.theorems.specs.Refusals.{matches, wellFormed, refused-above}
@@ -62,9 +63,36 @@ pub record InDomain (e : Event) (d : Doc) : Type 0 where
   pub not-refused-by-18 : NotRefusedBy LabelsSpent e d
   pub no-repeated-attribute : NoRepeatedAttribute e d
 
+-- ---- unknown prefixes
+
+-- Of unknown prefixes only two kinds are outside the domain, as the Rust does not look them up: of an attribute whose written name
+-- begins `xml`, and in Literal content. Any other is refused by both.
+abbrev pub XmlNameKnown : List Binding → Attribute → Type 0
+XmlNameKnown bs a = isDeclaration a ≡ false → begins (ascii "xml") (nameOf a) ≡ true → isKnown bs (nameOf a) ≡ true
+
+abbrev pub NeededPrefixes : Event → Doc → Type 0
+NeededPrefixes (opening n as′) d =
+    (isXml (placeIn (d .frames)) ≡ true → PrefixesKnown (declared as′ ++ inScope (d .frames)) n as′)
+    × All (XmlNameKnown (declared as′ ++ inScope (d .frames))) as′
+NeededPrefixes (closing n) d = Unit {0}
+NeededPrefixes (text s) d = Unit {0}
+NeededPrefixes instruction d = Unit {0}
+
+-- where all are known, so are these
+pub needed : (e : Event) (d : Doc) → KnownPrefixes e d → NeededPrefixes e d
+needed (opening n as′) d k = (λ h. k, each as′ (k .1))
+  where
+    each : (xs : List Attribute) → All (λ a. isDeclaration a ≡ false → isKnown (declared as′ ++ inScope (d .frames)) (nameOf a) ≡ true) xs
+        → All (XmlNameKnown (declared as′ ++ inScope (d .frames))) xs
+    each [] h = tt
+    each (x ∷ xs) h = (λ p q. h .0 p, each xs (h .1))
+needed (closing n) d k = tt
+needed (text s) d k = tt
+needed instruction d k = tt
+
 -- ---- the numbers outside it
 
--- Is a refusal outside the domain? What the Rust does there stands in Outside, by computation. Of 8 only unknown prefixes are.
+-- Is a refusal outside the domain? What the Rust does there stands in Outside, by computation. Of 8, see above.
 abbrev pub outside : Refusal → Bool
 -- never given for an event itself
 outside Incomplete = false
@@ -123,8 +151,8 @@ in-domain e d k StrayText h = refl
 in-domain e d k EmptyLiteral h = refl
 in-domain e d k LabelsSpent h = absurd (k .not-refused-by-18 h)
 
-pub in-domain-known : (e : Event) (d : Doc) → InDomain e d → KnownPrefixes e d
-in-domain-known (opening n as′) d k = k .namespace-well-formed .2
-in-domain-known (closing n) d k = tt
-in-domain-known (text s) d k = tt
-in-domain-known instruction d k = tt
+pub in-domain-needed : (e : Event) (d : Doc) → InDomain e d → NeededPrefixes e d
+in-domain-needed (opening n as′) d k = needed (opening n as′) d (k .namespace-well-formed .2)
+in-domain-needed (closing n) d k = tt
+in-domain-needed (text s) d k = tt
+in-domain-needed instruction d k = tt
