@@ -1,8 +1,12 @@
 -- Document 01, "Domain of equality with the Rust", clause by clause, of one event at a document.
--- The theorems begin where both sides have the same decoded events. So the clauses on how XML becomes events exclude nothing
--- here, and that an event of the Rust's XML is that of the port's PYX is not proved: DOCTYPE (entities), comment and CDATA (they
--- cut the Rust's text in pieces, and a CDATA's is lost), CR, tab and line end in attribute values (quick_xml does not normalise
--- them), blank-only text with a character reference (680 looks at it undecoded), a reference in rdf:parseType (406 likewise).
+--
+-- The theorems begin where both sides have the same decoded events; that quick_xml and PYX yield the same ones is not
+-- proved. So the clauses on how XML becomes events exclude nothing here. They are:
+--   DOCTYPE: parse_doctype takes entities from it;
+--   comment, CDATA: text on both sides of a comment is two events to the Rust, and parse_step drops a CDATA section;
+--   CR, and tab or line end in attribute values: XML 1.0 has them normalised before there is an event;
+--   blank-only text with a character reference: 670 and 680 look at the text before references are resolved;
+--   a reference in rdf:parseType: so does 406 at its value.
 use mathlib.Core.Path.{_≡_, refl, sym, _∙_}
 use mathlib.Core.Logic.{inl, inr}
 use mathlib.Core.Bool.{Bool, true, false, true≢false}
@@ -28,7 +32,7 @@ KnownPrefixes (closing n) d = Unit {0}
 KnownPrefixes (text s) d = Unit {0}
 KnownPrefixes instruction d = Unit {0}
 
--- "Namespace-well-formed": one root, end tags that match, legal declarations, known prefixes (repeated attributes: below)
+-- one root, end tags that match, legal declarations, known prefixes
 abbrev pub NamespaceWellFormed : Event → Doc → Type 0
 NamespaceWellFormed (opening n as′) d =
     (isSecondRoot d ≡ false) × (allLegal (declared as′) ≡ true) × KnownPrefixes (opening n as′) d
@@ -36,37 +40,39 @@ NamespaceWellFormed (closing n) d = matches n (d .frames) ≡ true
 NamespaceWellFormed (text s) d = Unit {0}
 NamespaceWellFormed instruction d = Unit {0}
 
--- "nothing refused by": not by this number
+-- not refused by this number
 abbrev pub NotRefusedBy : Refusal → Event → Doc → Type 0
 NotRefusedBy n e d = next e d ≡ refuse n → ⊥
 
--- "6 for a repeated attribute": expanded names outside Literal content, as written there
+-- expanded names outside Literal content, as written there
 abbrev pub NoRepeatedAttribute : Event → Doc → Type 0
 NoRepeatedAttribute (opening n as′) d = repeated (placeIn (d .frames)) as′ d ≡ false
 NoRepeatedAttribute (closing n) d = Unit {0}
 NoRepeatedAttribute (text s) d = Unit {0}
 NoRepeatedAttribute instruction d = Unit {0}
 
--- the paragraph, in its order
+-- the paragraph, in its words and order
 pub record InDomain (e : Event) (d : Doc) : Type 0 where
-  -- "Namespace-well-formed"
+  -- "Namespace-well-formed
   pub namespace-well-formed : NamespaceWellFormed e d
-  -- "UTF-8 documents": 5 is given before there is an event
-  -- "within the limits"
+  -- UTF-8 documents" (5 is given before there is an event)
+  -- "within the limits,
   pub within-the-limits : NotRefusedBy OverLimit e d
-  -- "without DOCTYPE, comment, CDATA, or CR; no tab or line end in attribute values; no blank-only text with a character
-  -- reference in it": on how XML becomes events
-  -- "attribute values inside Literal content escaped as Canonical XML does": Parser.as-it-stood
-  -- "no reference in rdf:parseType": on how XML becomes events
-  -- "nothing refused by 13, 18, or 6 for a repeated attribute"
+  -- without DOCTYPE, comment, CDATA, or CR; no tab or line end in attribute values; no blank-only text with a character
+  -- reference in it;" (above)
+  -- "attribute values inside Literal content escaped as Canonical XML does;" (Parser.as-it-stood)
+  -- "no reference in rdf:parseType;" (above)
+  -- "nothing refused by 13,
   pub not-refused-by-13 : NotRefusedBy BadLabel e d
+  -- 18,
   pub not-refused-by-18 : NotRefusedBy LabelsSpent e d
+  -- or 6 for a repeated attribute"
   pub no-repeated-attribute : NoRepeatedAttribute e d
 
 -- ---- unknown prefixes
 
--- Of unknown prefixes only two kinds are outside the domain, as the Rust does not look them up: of an attribute whose written name
--- begins `xml`, and in Literal content. Any other is refused by both.
+-- Of unknown prefixes only two kinds are outside the domain, as the Rust does not look them up: of an attribute whose
+-- written name begins `xml`, and in Literal content. Any other is refused by both.
 abbrev pub XmlNameKnown : List Binding → Attribute → Type 0
 XmlNameKnown bs a = isDeclaration a ≡ false → begins (ascii "xml") (nameOf a) ≡ true → isKnown bs (nameOf a) ≡ true
 
@@ -82,7 +88,8 @@ NeededPrefixes instruction d = Unit {0}
 pub needed : (e : Event) (d : Doc) → KnownPrefixes e d → NeededPrefixes e d
 needed (opening n as′) d k = (λ h. k, each as′ (k .1))
   where
-    each : (xs : List Attribute) → All (λ a. isDeclaration a ≡ false → isKnown (declared as′ ++ inScope (d .frames)) (nameOf a) ≡ true) xs
+    each : (xs : List Attribute)
+        → All (λ a. isDeclaration a ≡ false → isKnown (declared as′ ++ inScope (d .frames)) (nameOf a) ≡ true) xs
         → All (XmlNameKnown (declared as′ ++ inScope (d .frames))) xs
     each [] h = tt
     each (x ∷ xs) h = (λ p q. h .0 p, each xs (h .1))
@@ -100,7 +107,7 @@ outside NoRoom = false
 outside BadState = false
 outside Closed = false
 outside NotPyx = false
--- an unmatched end tag is quick_xml's error; a second root is read, and so are a repeated attribute and an illegal xmlns
+-- a second root, a repeated attribute and an illegal xmlns are read; an end tag without match is left to quick_xml
 outside NotWellFormed = true
 -- the Rust has no limits
 outside OverLimit = true

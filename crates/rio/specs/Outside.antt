@@ -1,5 +1,6 @@
--- What the Rust does where document 01 refuses by a number outside the domain: it goes on. Each by computation, so that no clause of
--- the domain can be left out. quick_xml is not looked at: it refuses end tags without match, and names that are written twice.
+-- What the Rust does where document 01 refuses by a number outside the domain: it goes on. Each by computation, so
+-- that no clause of the domain can be left out. What quick_xml refuses by itself is not looked at: end tags without
+-- match, and names that are written twice.
 use mathlib.Core.Path.{_≡_, refl}
 use mathlib.Core.Option.{none}
 use mathlib.Core.Bool.{true, false}
@@ -48,7 +49,8 @@ has-a l v = triple (blank (ascii l)) (ascii "http://e/a") (plain (ascii v))
 -- ---- 6
 
 -- a second root is one more
-second-root : Differs (start-P [] ∷ end-P ∷ start-P [] ∷ []) NotWellFormed (is-P "riog00000001" ∷ is-P "riog00000002" ∷ [])
+second-root : Differs (start-P [] ∷ end-P ∷ start-P [] ∷ []) NotWellFormed
+    (is-P "riog00000001" ∷ is-P "riog00000002" ∷ [])
 unfolding X.all P.all read-all then-read
 second-root = (refl, _, refl)
 
@@ -64,7 +66,9 @@ unfolding X.all P.all read-all then-read
 repeated-attribute = (refl, _, refl)
 
 -- of rdf:about twice the last is taken
-repeated-about : Differs (start-P (is "xmlns:r" "http://www.w3.org/1999/02/22-rdf-syntax-ns#" ∷ is "rdf:about" "http://a" ∷ is "r:about" "http://b" ∷ []) ∷ []) NotWellFormed
+repeated-about : Differs
+    (start-P (attribute (ascii "xmlns:r") (rdf "") ∷ is "rdf:about" "http://a" ∷ is "r:about" "http://b" ∷ []) ∷ [])
+    NotWellFormed
     (triple (named (ascii "http://b")) (rdf "type") (node (named (ascii "http://e/P"))) ∷ [])
 unfolding X.all P.all read-all then-read
 repeated-about = (refl, _, refl)
@@ -101,7 +105,8 @@ over-limit = (refl, _, refl)
 abbrev start-literal : Event
 start-literal = opening (ascii "e:p") (is "rdf:parseType" "Literal" ∷ [])
 
-unknown-prefix : Differs (start-P [] ∷ start-literal ∷ opening (ascii "x:y") [] ∷ []) NoNamespace (is-P "riog00000001" ∷ [])
+unknown-prefix : Differs (start-P [] ∷ start-literal ∷ opening (ascii "x:y") [] ∷ []) NoNamespace
+    (is-P "riog00000001" ∷ [])
 unfolding X.all P.all read-all then-read
 unknown-prefix = (refl, _, refl)
 
@@ -116,7 +121,8 @@ unfolding X.all P.all read-all then-read
 label-ends-in-stop = (refl, _, refl)
 
 -- <e:P> <e:p> <e:P rdf:nodeID="riog00000001">
-label-as-generated : Differs (start-P [] ∷ opening (ascii "e:p") [] ∷ start-P (is "rdf:nodeID" "riog00000001" ∷ []) ∷ []) BadLabel
+label-as-generated : Differs
+    (start-P [] ∷ opening (ascii "e:p") [] ∷ start-P (is "rdf:nodeID" "riog00000001" ∷ []) ∷ []) BadLabel
     (is-P "riog00000001" ∷ is-P "riog00000001" ∷ [])
 unfolding X.all P.all read-all then-read
 label-as-generated = (refl, _, refl)
@@ -151,6 +157,7 @@ abbrev li : List Event
 li = opening (ascii "rdf:li") [] ∷ closing (ascii "rdf:li") ∷ []
 
 li-goes-on : (read-all li lis-spent .1 ≡ refuse LabelsSpent)
-    × (r : RdfXmlReader) × (parse-all li (reader-of lis-spent []) ≡ (triple (blank (ascii "k")) (rdf "_100000000") (plain []) ∷ [], Ok r))
+    × (r : RdfXmlReader)
+    × (parse-all li (reader-of lis-spent []) ≡ (triple (blank (ascii "k")) (rdf "_100000000") (plain []) ∷ [], Ok r))
 unfolding X.all P.all read-all then-read reader-of states depth scopes above value-state object-of
 li-goes-on = (refl, _, refl)

@@ -99,7 +99,8 @@ display-digits (suc i) v lo hi = go (eqb (v / 10) 0) refl (display-digits i (v /
     hi′ : v < 10 ^ i * 10
     hi′ = rw (pow-suc 10 i) at hi
 
-    go : (b : Bool) → eqb (v / 10) 0 ≡ b → (0 < v / 10 → v / 10 < 10 ^ i → display i (v / 10) ≡ dropZeros (digits i (v / 10)))
+    go : (b : Bool) → eqb (v / 10) 0 ≡ b
+        → (0 < v / 10 → v / 10 < 10 ^ i → display i (v / 10) ≡ dropZeros (digits i (v / 10)))
         → (if b then [] else display i (v / 10)) ++ ((48 + v % 10) ∷ []) ≡ dropZeros (digits i (v / 10) ++ ((48 + v % 10) ∷ []))
     go true e ih =
         let z : v / 10 ≡ 0 = eqb-true (v / 10) 0 e in
@@ -136,7 +137,8 @@ escape-same : (c : ℕ) → escape-byte c ≡ textByte c
 unfolding escape-byte textByte if_then_else_ byte
 escape-same c = go (eqb c 60) (eqb c 62) (eqb c 39) (eqb c 38) (eqb c 34) refl refl refl refl refl
   where
-    go : (lt gt apos amp quot : Bool) → eqb c 60 ≡ lt → eqb c 62 ≡ gt → eqb c 39 ≡ apos → eqb c 38 ≡ amp → eqb c 34 ≡ quot
+    go : (lt gt apos amp quot : Bool) → eqb c 60 ≡ lt → eqb c 62 ≡ gt → eqb c 39 ≡ apos → eqb c 38 ≡ amp
+        → eqb c 34 ≡ quot
         → (if lt then ascii "&lt;" else if gt then ascii "&gt;" else if apos then ascii "&apos;" else if amp then ascii "&amp;" else if quot then ascii "&quot;" else c ∷ [])
         ≡ (if amp then ascii "&amp;" else if lt then ascii "&lt;" else if gt then ascii "&gt;" else if quot then ascii "&quot;" else if apos then ascii "&apos;" else c ∷ [])
     go true gt apos true quot e₁ e₂ e₃ e₄ e₅ = absurd (not-two c 60 38 (λ z. omega arith) e₁ e₄)

@@ -38,7 +38,8 @@ pub declaration-xml : (n v : Bytes) → isDeclaration (attribute n v) ≡ true �
 unfolding isDeclaration ascii
 declaration-xml n v h = elim (or-cases (same n (ascii "xmlns")) _ h) [ inl e ↦ named-xml n (ascii "xmlns") (unfold begins in refl) e | inr e ↦ begins-part (ascii "xml") (ascii "ns:") n e ]
 
-pub declaration-not : (n v m : Bytes) → isDeclaration (attribute n v) ≡ true → isDeclaration (attribute m v) ≡ false → same n m ≡ false
+pub declaration-not : (n v m : Bytes) → isDeclaration (attribute n v) ≡ true → isDeclaration (attribute m v) ≡ false
+    → same n m ≡ false
 declaration-not n v m h k = no-true (same n m) λ e. false≢true (sym k ∙ (ap (λ (x : Bytes). isDeclaration (attribute x v)) (sym (same-true n m e)) ∙ h))
 
 -- ---- known prefixes
@@ -48,7 +49,9 @@ abbrev pub PrefixesKnown : List Binding → Bytes → List Attribute → Type 0
 PrefixesKnown bs n as′ = (isKnown bs n ≡ true) × All (λ a. isDeclaration a ≡ false → isKnown bs (nameOf a) ≡ true) as′
 
 -- a start tag whose prefixes are known is not refused by 8 in Literal content
-pub known-each : (bs : List Binding) (as′ : List Attribute) → All (λ y. isDeclaration y ≡ false → isKnown bs (nameOf y) ≡ true) as′ → (us : List (Unit {0})) × (each (knownAttribute bs) as′ ≡ good us)
+pub known-each : (bs : List Binding) (as′ : List Attribute)
+    → All (λ y. isDeclaration y ≡ false → isKnown bs (nameOf y) ≡ true) as′
+    → (us : List (Unit {0})) × (each (knownAttribute bs) as′ ≡ good us)
 unfolding each knownAttribute Y._>>=_ require_or_
 known-each bs [] k = ([], refl)
 known-each bs (y ∷ as′) k =
@@ -70,18 +73,21 @@ expanded-known bs n i h = go (isEmpty (prefixOf n)) (namespace bs (prefixOf n)) 
     go false (some ns) h = refl
 
 module _ (bs : List Binding) where
-  attribute-known : (a : Attribute) → Always (λ m. isDeclaration a ≡ false → isKnown bs (nameOf a) ≡ true) (meaning bs a)
+  attribute-known : (a : Attribute)
+      → Always (λ m. isDeclaration a ≡ false → isKnown bs (nameOf a) ≡ true) (meaning bs a)
   unfolding meaning known nameOf Y._>>=_
   attribute-known (attribute n v) =
       always-if (λ m. isDeclaration (attribute n v) ≡ false → isKnown bs n ≡ true) _ _ _ (λ e f. absurd (false≢true (sym f ∙ e))) λ e.
       go (expandAttribute bs n) refl
     where
       go : (o : Option Bytes) → expandAttribute bs n ≡ o
-          → Always (λ m. isDeclaration (attribute n v) ≡ false → isKnown bs n ≡ true) (Y._>>=_ (known n o) λ i. judge (roleOf n i) v >> good (means (roleOf n i) i v))
+          → Always (λ m. isDeclaration (attribute n v) ≡ false → isKnown bs n ≡ true)
+          (Y._>>=_ (known n o) λ i. judge (roleOf n i) v >> good (means (roleOf n i) i v))
       go none e = tt
       go (some i) e = always-any (λ m. isDeclaration (attribute n v) ≡ false → isKnown bs n ≡ true) (known n (some i)) _ λ j. always-after _ _ _ λ f. expanded-known bs n i e
 
-  copied-known : (a : Attribute) → Always (λ u. isDeclaration a ≡ false → isKnown bs (nameOf a) ≡ true) (knownAttribute bs a)
+  copied-known : (a : Attribute)
+      → Always (λ u. isDeclaration a ≡ false → isKnown bs (nameOf a) ≡ true) (knownAttribute bs a)
   unfolding knownAttribute
   copied-known a = always-test _ _ _ λ h f. go (isDeclaration a) (isKnown bs (nameOf a)) h f
     where
@@ -98,7 +104,8 @@ module _ (bs : List Binding) where
       go (some ns) = always-after _ _ _ (or-right (isEmpty (prefixOf n)) true refl)
 
 -- what holds of each that a row of checks passes
-each-passes : {A B : Type 0} (R : A → Type 0) (f : A → Answer B) → ((a : A) → Always (λ b. R a) (f a)) → (l : List A) → Always (λ bs. All R l) (each f l)
+each-passes : {A B : Type 0} (R : A → Type 0) (f : A → Answer B) → ((a : A) → Always (λ b. R a) (f a)) → (l : List A)
+    → Always (λ bs. All R l) (each f l)
 unfolding each
 each-passes R f h [] = tt
 each-passes R f h (a ∷ l) =
@@ -136,7 +143,8 @@ module _ (n : Bytes) (as′ : List Attribute) (d : Doc) where
   opened-in xml = copied-all
 
   -- a start tag that is accepted has no unknown prefix
-  pub accepted-known : (s : Step) → next (opening n as′) d ≡ good s → PrefixesKnown (declared as′ ++ inScope (d .frames)) n as′
+  pub accepted-known : (s : Step) → next (opening n as′) d ≡ good s
+      → PrefixesKnown (declared as′ ++ inScope (d .frames)) n as′
   unfolding next onEvent onOpening within
   accepted-known s h =
       always-good All-known
