@@ -7,10 +7,9 @@
 --   CR, and tab or line end in attribute values: XML 1.0 has them normalised before there is an event;
 --   blank-only text with a character reference: 670 and 680 look at the text before references are resolved;
 --   a reference in rdf:parseType: so does 406 at its value.
-use mathlib.Core.Path.{_≡_, refl, sym, _∙_}
-use mathlib.Core.Logic.{inl, inr}
-use mathlib.Core.Bool.{Bool, true, false, true≢false}
-use mathlib.Core.List.{List, [], _∷_, _++_}
+use mathlib.Core.Path.{_≡_}
+use mathlib.Core.Bool.{Bool, true, false}
+use mathlib.Core.List.{List, _++_}
 use Rattle.spec.specs.Bytes.{ascii, begins, All}
 use Rattle.spec.specs.Numbers.{refuse}
 use Rattle.spec.specs.declared.Refusal.{Refusal}
@@ -21,7 +20,7 @@ use Rattle.spec.specs.Document.{Doc, inScope, placeIn}
 use Rattle.spec.specs.Opening.{isSecondRoot, isXml, repeated}
 use Rattle.spec.specs.RdfXml.{next}
 use Rattle.theorems.specs.AttributeNames.{PrefixesKnown}
-use Rattle.theorems.specs.Refusals.{matches, wellFormed, refused-above}
+use Rattle.theorems.specs.Refusals.{matches}
 
 -- ---- the clauses
 
@@ -84,19 +83,6 @@ NeededPrefixes (closing n) d = Unit {0}
 NeededPrefixes (text s) d = Unit {0}
 NeededPrefixes instruction d = Unit {0}
 
--- where all are known, so are these
-pub needed : (e : Event) (d : Doc) → KnownPrefixes e d → NeededPrefixes e d
-needed (opening n as′) d k = (λ h. k, each as′ (k .1))
-  where
-    each : (xs : List Attribute)
-        → All (λ a. isDeclaration a ≡ false → isKnown (declared as′ ++ inScope (d .frames)) (nameOf a) ≡ true) xs
-        → All (XmlNameKnown (declared as′ ++ inScope (d .frames))) xs
-    each [] h = tt
-    each (x ∷ xs) h = (λ p q. h .0 p, each xs (h .1))
-needed (closing n) d k = tt
-needed (text s) d k = tt
-needed instruction d k = tt
-
 -- ---- the numbers outside it
 
 -- Is a refusal outside the domain? What the Rust does there stands in Outside, by computation. Of 8, see above.
@@ -124,42 +110,3 @@ outside StrayText = false
 outside EmptyLiteral = false
 -- a label's ninth digit is lost, so labels come again; the 100,000,000th rdf:li is rdf:_100000000
 outside LabelsSpent = true
-
--- ---- in the domain no event is refused by them
-
--- 6 is its first test
-well-formed : (e : Event) (d : Doc) → NamespaceWellFormed e d → NoRepeatedAttribute e d → wellFormed e d ≡ true
-well-formed (opening n as′) d k r = rw (k .0, k .1, r)
-well-formed (closing n) d k r = k
-well-formed (text s) d k r = refl
-well-formed instruction d k r = refl
-
-pub in-domain : (e : Event) (d : Doc) → InDomain e d → (n : Refusal) → next e d ≡ refuse n → outside n ≡ false
-in-domain e d k Incomplete h = refl
-in-domain e d k NoRoom h = refl
-in-domain e d k BadState h = refl
-in-domain e d k Closed h = refl
-in-domain e d k NotPyx h = refl
-in-domain e d k NotWellFormed h =
-    elim (refused-above e d NotWellFormed h) [
-      | inl x ↦ absurd (true≢false x)
-      | inr x ↦ absurd (true≢false (sym (well-formed e d (k .namespace-well-formed) (k .no-repeated-attribute)) ∙ x .1))
-    ]
-in-domain e d k OverLimit h = absurd (k .within-the-limits h)
-in-domain e d k NoNamespace h = refl
-in-domain e d k NotNcName h = refl
-in-domain e d k BadLanguage h = refl
-in-domain e d k BadIri h = refl
-in-domain e d k RepeatedId h = refl
-in-domain e d k BadLabel h = absurd (k .not-refused-by-13 h)
-in-domain e d k Reserved h = refl
-in-domain e d k TwoNames h = refl
-in-domain e d k StrayText h = refl
-in-domain e d k EmptyLiteral h = refl
-in-domain e d k LabelsSpent h = absurd (k .not-refused-by-18 h)
-
-pub in-domain-needed : (e : Event) (d : Doc) → InDomain e d → NeededPrefixes e d
-in-domain-needed (opening n as′) d k = needed (opening n as′) d (k .namespace-well-formed .2)
-in-domain-needed (closing n) d k = tt
-in-domain-needed (text s) d k = tt
-in-domain-needed instruction d k = tt

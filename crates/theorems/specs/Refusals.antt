@@ -342,6 +342,18 @@ next-above e d = next-given (AboveSix e d) above e d λ h. inr (refl, h)
 pub refused-above : (e : Event) (d : Doc) (r : Refusal) → next e d ≡ refuse r → AboveSix e d r
 refused-above e d r h = subst (λ (a : Answer (List Triple × Doc)). Given (AboveSix e d) a) h (next-above e d)
 
+-- and by 6 always there
+pub not-well-formed : (e : Event) (d : Doc) → wellFormed e d ≡ false → next e d ≡ refuse NotWellFormed
+unfolding next X.onEvent G.onOpening C.closeElement matches _>>=_ _>>_ require_or_
+not-well-formed (opening n as′) d h = rw h
+not-well-formed (closing n) d h = go (d .frames) h
+  where
+    go : (fs : List Frame) → matches n fs ≡ false → (C.closeElement n fs d >>= X.within) ≡ refuse NotWellFormed
+    go [] h = refl
+    go (f ∷ fs) h = rw h
+not-well-formed (text s) d h = absurd (true≢false h)
+not-well-formed instruction d h = absurd (true≢false h)
+
 -- ---- the answers 1 to 4, which do not close
 
 -- a refusal that closes has not the number of one that does not
