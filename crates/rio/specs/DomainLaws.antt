@@ -33,7 +33,7 @@ needed (closing n) d k = tt
 needed (text s) d k = tt
 needed instruction d k = tt
 
--- ---- in the domain no event is refused by them
+-- ---- in the domain no event is refused by a number outside it
 
 -- 6 is its first test
 well-formed : (e : Event) (d : Doc) → NamespaceWellFormed e d → NoRepeatedAttribute e d → wellFormed e d ≡ true
@@ -74,7 +74,7 @@ in-domain-needed instruction d k = tt
 
 -- ---- every event that is accepted is in it
 
-refuse-good : {A : Type 0} {n : Refusal} {a : A} → refuse n ≡ good a → ⊥
+pub refuse-good : {A : Type 0} {n : Refusal} {a : A} → refuse n ≡ good a → ⊥
 refuse-good e = let z : true ≡ false = cc in true≢false z
 
 module _ (d : Doc) (s : Step) where
@@ -94,8 +94,13 @@ module _ (d : Doc) (s : Step) where
   accepted-names : (e : Event) → next e d ≡ good s → wellFormed e d ≡ true
       → NamespaceWellFormed e d × NoRepeatedAttribute e d
   accepted-names (opening n as′) q h =
-      let r : (allLegal (declared as′) && not (repeated (placeIn (d .frames)) as′ d)) ≡ true = and-right (not (isSecondRoot d)) _ h in (
-        (not-true (isSecondRoot d) (and-left (not (isSecondRoot d)) _ h), and-left (allLegal (declared as′)) _ r, accepted-prefixes (opening n as′) q),
+      let r : (allLegal (declared as′) && not (repeated (placeIn (d .frames)) as′ d)) ≡ true
+      = and-right (not (isSecondRoot d)) _ h in (
+        (
+          not-true (isSecondRoot d) (and-left (not (isSecondRoot d)) _ h),
+          and-left (allLegal (declared as′)) _ r,
+          accepted-prefixes (opening n as′) q,
+        ),
         not-true (repeated (placeIn (d .frames)) as′ d) (and-right (allLegal (declared as′)) _ r),
       )
   accepted-names (closing n) q h = (h, tt)

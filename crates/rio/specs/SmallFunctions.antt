@@ -101,7 +101,8 @@ display-digits (suc i) v lo hi = go (eqb (v / 10) 0) refl (display-digits i (v /
 
     go : (b : Bool) → eqb (v / 10) 0 ≡ b
         → (0 < v / 10 → v / 10 < 10 ^ i → display i (v / 10) ≡ dropZeros (digits i (v / 10)))
-        → (if b then [] else display i (v / 10)) ++ ((48 + v % 10) ∷ []) ≡ dropZeros (digits i (v / 10) ++ ((48 + v % 10) ∷ []))
+        → (if b then [] else display i (v / 10)) ++ ((48 + v % 10) ∷ []) ≡ dropZeros
+        (digits i (v / 10) ++ ((48 + v % 10) ∷ []))
     go true e ih =
         let z : v / 10 ≡ 0 = eqb-true (v / 10) 0 e in
         rw (z, drop-zeros-last (digits i 0) (48 + v % 10) (no-digits i) λ y. omega arith)
@@ -109,7 +110,8 @@ display-digits (suc i) v lo hi = go (eqb (v / 10) 0) refl (display-digits i (v /
         let z : v / 10 ≡ 0 → ⊥ = eqb-false (v / 10) 0 e in
         let lo′ : 0 < v / 10 = positive (v / 10) z in
         let below : v / 10 < 10 ^ i = omega (arith, hi′) in
-        rw (ih lo′ below) (sym (drop-zeros-more (digits i (v / 10)) _ λ y. display-some i (v / 10) lo′ below (ih lo′ below ∙ y)))
+        rw (ih lo′ below)
+        (sym (drop-zeros-more (digits i (v / 10)) _ λ y. display-some i (v / 10) lo′ below (ih lo′ below ∙ y)))
 
 -- from 1 on, as far as a u64 goes
 pub display-decimal : (v : ℕ) → 0 < v → v < 10 ^ 20 → display u64-digits v ≡ decimal v
