@@ -144,8 +144,8 @@ module _ {based : Bool} {base : Bytes} {s : State} {w i : List ℕ} {o : Bytes} 
 
   -- A step that refuses an event of the domain, neither for the room (2) nor because the document is closed (4): the
   -- Rust has given the same triples before it, and refuses it too.
-  pub run-refused-same : {last : Bool} {input : Bytes} {out : List ℕ} {r : Report} {w′ i′ out′ : List ℕ} (e : Event)
-      (n : Refusal)
+  pub run-refused-same : {last : Bool} {input : Bytes} {out : List ℕ} {r : Report} {w′ i′ out′ : List ℕ}
+      (e : Event) (n : Refusal)
       → Steps last input s w i out r w′ i′ out′ → firstOf last input ≡ good e → r .answer ≡ Refused n
       → (n ≡ NoRoom → ⊥) → (n ≡ Closed → ⊥) → InDomain e (run-lines h .doc)
       → (ts : List Triple)
