@@ -4,6 +4,7 @@ pub mod Runs
 pub mod Events
 -- ---- what is proved of documents, for those that are run
 pub mod Whole
+pub mod Rust
 -- ---- elements and lists of a run
 pub mod Elements
 pub mod Collections

@@ -51,6 +51,16 @@ pub always-map : {A : Type 0} (R Q : A → Type 0) (m : Answer A) → Always R m
 always-map R Q (refuse n) h k = tt
 always-map R Q (good a) h k = k a h
 
+-- two facts of one answer
+pub always-both : {A : Type 0} (P Q : A → Type 0) (m : Answer A) → Always P m → Always Q m → Always (λ x. P x × Q x) m
+always-both P Q (refuse n) h k = tt
+always-both P Q (good a) h k = (h, k)
+
+-- a fact under a condition
+pub always-given : {A : Type 0} (C : Type 0) (Q : A → Type 0) (m : Answer A) → (C → Always Q m) → Always (λ x. C → Q x) m
+always-given C Q (refuse n) h = tt
+always-given C Q (good a) h = h
+
 -- an answer that is no refusal is what it is
 pub always-self : {A : Type 0} (m : Answer A) → Always (λ (a : A). m ≡ good a) m
 always-self (refuse n) = tt

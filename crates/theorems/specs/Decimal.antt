@@ -1,4 +1,4 @@
--- A number below 10ʲ is written in at most j digits.
+-- How numbers are written: what leading zeros leave, and that a number below 10ʲ has at most j digits.
 use mathlib.Core.Path.{_≡_, refl}
 use mathlib.Core.Bool.{Bool, true, false}
 use mathlib.Core.List.{[], _∷_, _++_, cons≢nil}
@@ -7,6 +7,7 @@ use native.Mathlib.Omega.{arith}
 use native.Mathlib.Nat.{pow-suc}
 use lib.Dec.{eqb}
 use lib.ListN.{length, length-append}
+use borrow.Author.Tests.{ne-eqb}
 use Rattle.spec.specs.Bytes.{Bytes, byte}
 use Rattle.spec.specs.NTriples.{digits, dropZeros, decimal}
 
@@ -34,7 +35,31 @@ drop-zeros-zero (a ∷ s) h = go (eqb a 48) (drop-zeros-zero s) h
     go true f h = f h
     go false f h = absurd (cons≢nil h)
 
-no-digits : (k : ℕ) → dropZeros (digits k 0) ≡ []
+-- a digit other than 0 behind nothing but zeros
+pub drop-zeros-last : (s : Bytes) (c : ℕ) → dropZeros s ≡ [] → (c ≡ 48 → ⊥) → dropZeros (s ++ (c ∷ [])) ≡ c ∷ []
+unfolding dropZeros byte
+drop-zeros-last [] c h n = rw (ne-eqb c 48 n, dropZeros)
+drop-zeros-last (a ∷ s) c h n = go (eqb a 48) (drop-zeros-last s c) h
+  where
+    go : (b : Bool) → (dropZeros s ≡ [] → (c ≡ 48 → ⊥) → dropZeros (s ++ (c ∷ [])) ≡ c ∷ [])
+        → _≡_ {A = Bytes} (elim b [ true ↦ dropZeros s | false ↦ a ∷ s ]) []
+        → _≡_ {A = Bytes} (elim b [ true ↦ dropZeros (s ++ (c ∷ [])) | false ↦ a ∷ (s ++ (c ∷ [])) ]) (c ∷ [])
+    go true f h = f h n
+    go false f h = absurd (cons≢nil h)
+
+-- what stands behind a digit that is left stays
+pub drop-zeros-more : (s t : Bytes) → (dropZeros s ≡ [] → ⊥) → dropZeros (s ++ t) ≡ dropZeros s ++ t
+unfolding dropZeros byte
+drop-zeros-more [] t n = absurd (n refl)
+drop-zeros-more (a ∷ s) t n = go (eqb a 48) (drop-zeros-more s t) n
+  where
+    go : (b : Bool) → ((dropZeros s ≡ [] → ⊥) → dropZeros (s ++ t) ≡ dropZeros s ++ t)
+        → (_≡_ {A = Bytes} (elim b [ true ↦ dropZeros s | false ↦ a ∷ s ]) [] → ⊥)
+        → _≡_ {A = Bytes} (elim b [ true ↦ dropZeros (s ++ t) | false ↦ a ∷ (s ++ t) ]) (elim b [ true ↦ dropZeros s | false ↦ a ∷ s ] ++ t)
+    go true f n = f n
+    go false f n = refl
+
+pub no-digits : (k : ℕ) → dropZeros (digits k 0) ≡ []
 unfolding digits dropZeros
 no-digits zero = refl
 no-digits (suc k) = drop-zeros-zero (digits k 0) (no-digits k)

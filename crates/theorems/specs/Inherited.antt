@@ -66,6 +66,11 @@ turns (closes {n = n} {f = f} {fs = fs}) = (saidOf f, ap (saidOf f ∷_) (sym (s
 turn : (e : Event) (d d′ : Doc) {us : List Triple} → next e d ≡ good (us, d′) → Turn e (said (d .frames)) (said (d′ .frames)) × (d′ .startBase ≡ d .startBase)
 turn e d d′ q = let m = always-good (Moved d e) (moves e d) q in (turns (m .0), m .1)
 
+-- the start base stays
+pub start-kept : {d₀ d : Doc} {ts : List Triple} → After d₀ d ts → d .startBase ≡ d₀ .startBase
+start-kept here = refl
+start-kept (event {d = d} before e d′ us q) = turn e d d′ q .1 ∙ start-kept before
+
 -- ---- below an open element all stays as it was
 
 -- the open elements S with x and others on top
@@ -130,6 +135,13 @@ base-said : (start : Option Bytes) (fs : List Frame) → baseInForce start fs �
 unfolding baseInForce baseSaid said
 base-said start [] = refl
 base-said start (f ∷ fs) = rw (base-said start fs) refl
+
+-- an rdf:li that is counted changes neither
+pub base-count : (i : Bytes) (b : Option Bytes) (fs : List Frame) → baseInForce b (countLi i fs) ≡ baseInForce b fs
+base-count i b fs = base-said b (countLi i fs) ∙ (ap (baseSaid b) (said-count i fs) ∙ sym (base-said b fs))
+
+pub language-count : (i : Bytes) (fs : List Frame) → languageInForce (countLi i fs) ≡ languageInForce fs
+language-count i fs = same-language (countLi i fs) fs (said-count i fs)
 
 scopeSaid : List Said → List Binding
 scopeSaid [] = []

@@ -93,7 +93,7 @@ Based [] = Unit {0}
 Based (f ∷ []) = isXmlElement (f .kind) ≡ false
 Based (f ∷ g ∷ gs) = Based (g ∷ gs)
 
-value-xml : (h : Value → Value) (k : Kind) → isXmlElement (onValue h k) ≡ isXmlElement k
+pub value-xml : (h : Value → Value) (k : Kind) → isXmlElement (onValue h k) ≡ isXmlElement k
 unfolding isXmlElement onValue
 value-xml h rdfRDF = refl
 value-xml h (nodeElement s li) = refl

@@ -11,11 +11,15 @@ pub mod Cuts
 pub mod Spelled
 pub mod Rfc3986Texts
 pub mod LanguageTags
+pub mod LowerTags
 -- ---- events and calls
 pub mod PyxCut
 pub mod Calls
 pub mod Refusals
 pub mod Division
+-- ---- attributes
+pub mod AttributeNames
+pub mod Roles
 -- ---- labels, subjects, lists
 pub mod Labels
 pub mod Decimal

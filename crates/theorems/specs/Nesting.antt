@@ -1,6 +1,6 @@
 -- Open elements stand in each other as the grammar says; so a property's subject is that of the node around it, and need not be kept twice.
 use mathlib.Core.Path.{_≡_, refl, sym, _∙_, ap, subst}
-use mathlib.Core.Bool.{Bool, true, false}
+use mathlib.Core.Bool.{Bool, true, false, false≢true}
 use mathlib.Core.Option.{Option}
 use mathlib.Core.List.{List, [], _∷_}
 use Prim.Native.Nat.{ℕ, _≤_}
@@ -23,6 +23,24 @@ use Rattle.spec.specs.Nesting.{Stands, Nested}
 use Rattle.theorems.specs.Always.{Always, always-any, always-after, always-require, always-if, always-good}
 use Rattle.theorems.specs.Changes.{Produces, Change, stays, takes-text, takes-xml, copies, opens, ends-root, ends-node, ends-property, ends-xml, always-holds}
 use Rattle.theorems.specs.Limits.{each-held, always-within}
+
+-- ---- Literal content
+
+pub in-xml : (p : Place) → isXml p ≡ true → p ≡ xml
+unfolding isXml
+in-xml outside h = absurd (false≢true h)
+in-xml nodes h = absurd (false≢true h)
+in-xml nodesOrText h = absurd (false≢true h)
+in-xml (properties s li) h = absurd (false≢true h)
+in-xml xml h = refl
+
+-- what stands outside Literal content stands in no Literal content
+pub outside-xml : (k : Kind) (p : Place) → Stands k p → isXml (inKind k) ≡ false → isXml p ≡ false
+unfolding inKind isXml
+outside-xml rdfRDF p s h = ap isXml s
+outside-xml (nodeElement u li) p s h = s
+outside-xml (propertyElement o v) p s h = ap isXml (s .1)
+outside-xml xmlElement p s h = absurd (false≢true (sym h))
 
 -- ---- what a start tag opens stands where it stood
 

@@ -1,6 +1,7 @@
--- What an event itself is refused for closes the document; so answers 1 to 4 are given exactly when document 01's table says.
+-- What an event itself is refused for: 6 by its first test only, else 7 to 18. It closes the document; so answers 1 to 4 are given
+-- exactly when document 01's table says.
 use mathlib.Core.Path.{_≡_, refl, sym, _∙_, ap, subst}
-use mathlib.Core.Bool.{Bool, true, false, true≢false}
+use mathlib.Core.Bool.{Bool, true, false, _&&_, not, true≢false}
 use mathlib.Core.Logic.{_⊎_, inl, inr}
 use mathlib.Core.Option.{Option, none, some}
 use mathlib.Core.List.{List, [], _∷_}
@@ -9,10 +10,10 @@ use native.Mathlib.Omega.{arith}
 use lib.Dec.{eqb, leb}
 use lib.ListN.{length}
 use borrow.Author.Tests.{leb-false, lt-leb}
-use Rattle.spec.specs.Bytes.{Bytes, byte, if_then_else_, each, _>>=_, _>>_, require_or_}
+use Rattle.spec.specs.Bytes.{Bytes, byte, same, if_then_else_, each, _>>=_, _>>_, require_or_}
 use Rattle.spec.specs.Numbers.{number, closes, Answer, refuse, good}
 use Rattle.spec.specs.declared.Refusal.{Refusal}
-use Rattle.spec.specs.declared.Refusal.the-variants.{Incomplete, NoRoom, BadState, Closed, NotPyx, OverLimit}
+use Rattle.spec.specs.declared.Refusal.the-variants.{Incomplete, NoRoom, BadState, Closed, NotPyx, NotWellFormed, OverLimit, NoNamespace, NotNcName, BadLanguage, BadIri, RepeatedId, BadLabel, Reserved, TwoNames, StrayText, EmptyLiteral, LabelsSpent}
 use Rattle.spec.specs.Pyx.{Attribute, attribute, Event, opening, closing, text, instruction, readEvent}
 use Rattle.spec.specs.Pyx as P
 use Rattle.spec.specs.Namespaces.{Binding}
@@ -32,218 +33,326 @@ use Rattle.spec.specs.Calls.{State, Report, isOpen, isClosed, unlawful, Accepte
 use Rattle.theorems.specs.PyxCut.{cut-waits}
 use Rattle.theorems.specs.Calls.{step-room, number-injective, number-positive}
 
--- ---- an answer that is no refusal, or one that closes
+-- ---- the refusals that an answer may give
+
+-- what holds of the refusal, if the answer is one
+abbrev pub Given : {A : Type 0} → (Refusal → Type 0) → Answer A → Type 0
+Given Q (refuse r) = Q r
+Given Q (good a) = Unit {0}
+
+module _ (Q : Refusal → Type 0) where
+  on-bind : {A B : Type 0} (m : Answer A) (f : A → Answer B) → Given Q m → ((a : A) → Given Q (f a)) → Given Q (m >>= f)
+  unfolding _>>=_
+  on-bind (refuse r) f h k = h
+  on-bind (good a) f h k = k a
+
+  on-then : {A B : Type 0} (m : Answer A) (k : Answer B) → Given Q m → Given Q k → Given Q (m >> k)
+  unfolding _>>_
+  on-then (refuse r) k h g = h
+  on-then (good a) k h g = g
+
+  on-test : (b : Bool) (r : Refusal) → Q r → Given Q (require b or r)
+  unfolding require_or_
+  on-test true r h = tt
+  on-test false r h = h
+
+  on-if : {A : Type 0} (b : Bool) (m k : Answer A) → Given Q m → Given Q k → Given Q (if b then m else k)
+  unfolding if_then_else_
+  on-if true m k h g = h
+  on-if false m k h g = g
+
+  on-require : {A : Type 0} (b : Bool) (r : Refusal) (m : Answer A) → Q r → Given Q m → Given Q ((require b or r) >> m)
+  on-require b r m h k = on-then (require b or r) m (on-test b r h) k
+
+  -- a test that is looked at where it fails
+  on-failing : {A : Type 0} (b : Bool) (r : Refusal) (m : Answer A) → (b ≡ false → Q r) → Given Q m
+      → Given Q ((require b or r) >> m)
+  unfolding _>>_ require_or_
+  on-failing true r m h k = k
+  on-failing false r m h k = h refl
+
+  on-each : {A B : Type 0} (f : A → Answer B) (l : List A) → ((a : A) → Given Q (f a)) → Given Q (each f l)
+  unfolding each
+  on-each f [] h = tt
+  on-each f (a ∷ l) h = on-bind _ _ (h a) λ b. on-bind _ _ (on-each f l h) λ bs. tt
+
+-- a refusal that closes
+abbrev Closes : Refusal → Type 0
+Closes r = closes r ≡ true
 
 abbrev pub Closing : {A : Type 0} → Answer A → Type 0
-Closing (refuse r) = closes r ≡ true
-Closing (good a) = Unit {0}
-
-on-bind : {A B : Type 0} (m : Answer A) (f : A → Answer B) → Closing m → ((a : A) → Closing (f a)) → Closing (m >>= f)
-unfolding _>>=_
-on-bind (refuse r) f h k = h
-on-bind (good a) f h k = k a
-
-on-then : {A B : Type 0} (m : Answer A) (k : Answer B) → Closing m → Closing k → Closing (m >> k)
-unfolding _>>_
-on-then (refuse r) k h g = h
-on-then (good a) k h g = g
-
-on-test : (b : Bool) (r : Refusal) → closes r ≡ true → Closing (require b or r)
-unfolding require_or_
-on-test true r h = tt
-on-test false r h = h
-
-on-if : {A : Type 0} (b : Bool) (m k : Answer A) → Closing m → Closing k → Closing (if b then m else k)
-unfolding if_then_else_
-on-if true m k h g = h
-on-if false m k h g = g
-
-on-require : {A : Type 0} (b : Bool) (r : Refusal) (m : Answer A) → closes r ≡ true → Closing m → Closing ((require b or r) >> m)
-on-require b r m h k = on-then (require b or r) m (on-test b r h) k
-
-on-each : {A B : Type 0} (f : A → Answer B) (l : List A) → ((a : A) → Closing (f a)) → Closing (each f l)
-unfolding each
-on-each f [] h = tt
-on-each f (a ∷ l) h = on-bind _ _ (h a) λ b. on-bind _ _ (on-each f l h) λ bs. tt
+Closing m = Given Closes m
 
 -- ---- lines
 
 escaped : (c : ℕ) → Closing (P.escaped c)
 unfolding P.escaped
-escaped c = on-if _ _ _ tt (on-if _ _ _ tt (on-if _ _ _ tt refl))
+escaped c = on-if Closes _ _ _ tt (on-if Closes _ _ _ tt (on-if Closes _ _ _ tt refl))
 
 unescape : (s : Bytes) → Closing (P.unescape s)
 unfolding P.unescape
 unescape [] = tt
-unescape (c ∷ []) = on-if _ _ _ refl tt
+unescape (c ∷ []) = on-if Closes _ _ _ refl tt
 unescape (c ∷ d ∷ s) = go (eqb c (byte "\\")) (unescape s) (unescape (d ∷ s))
   where
     go : (b : Bool) → Closing (P.unescape s) → Closing (P.unescape (d ∷ s))
         → Closing {A = Bytes} (elim b [ true ↦ P.escaped d >>= λ e. P.unescape s >>= λ t. good (e ∷ t) | false ↦ P.unescape (d ∷ s) >>= λ t. good (c ∷ t) ])
-    go true h k = on-bind _ _ (escaped d) λ e. on-bind _ _ h λ t. tt
-    go false h k = on-bind _ _ k λ t. tt
+    go true h k = on-bind Closes _ _ (escaped d) λ e. on-bind Closes _ _ h λ t. tt
+    go false h k = on-bind Closes _ _ k λ t. tt
 
 name : (s : Bytes) → Closing (P.name s)
 unfolding P.name
-name s = on-require _ _ _ refl tt
+name s = on-require Closes _ _ _ refl tt
 
 attribute-line : (l : Bytes) → Closing (P.readAttribute l)
 unfolding P.readAttribute
-attribute-line l = on-bind _ _ (name _) λ n. on-require _ _ _ refl (on-bind _ _ (unescape _) λ v. tt)
+attribute-line l = on-bind Closes _ _ (name _) λ n. on-require Closes _ _ _ refl (on-bind Closes _ _ (unescape _) λ v. tt)
 
 event-lines : (ls : List Bytes) → Closing (P.readLines ls)
 unfolding P.readLines P.readOpening P.readClosing P.readText
 event-lines [] = refl
 event-lines (l ∷ ls) =
-    on-if _ _ _ (on-bind _ _ (name _) λ n. on-bind _ _ (on-each P.readAttribute ls attribute-line) λ as′. tt)
-    (on-if _ _ _ (on-bind _ _ (name _) λ n. tt)
-    (on-if _ _ _ (on-bind _ _ (on-each _ (l ∷ ls) λ x. unescape _) λ ts. tt) (on-if _ _ _ tt refl)))
+    on-if Closes _ _ _ (on-bind Closes _ _ (name _) λ n. on-bind Closes _ _ (on-each Closes P.readAttribute ls attribute-line) λ as′. tt)
+    (on-if Closes _ _ _ (on-bind Closes _ _ (name _) λ n. tt)
+    (on-if Closes _ _ _ (on-bind Closes _ _ (on-each Closes _ (l ∷ ls) λ x. unescape _) λ ts. tt) (on-if Closes _ _ _ tt refl)))
 
 pub event-closing : (s : Bytes) → Closing (readEvent s)
 unfolding readEvent
-event-closing s = on-require _ _ _ refl (event-lines _)
+event-closing s = on-require Closes _ _ _ refl (event-lines _)
 
--- ---- start tags
+-- ---- 6, and what comes behind it
 
-in-namespace : (o : Option Bytes) (l : Bytes) → Closing (N.inNamespace o l)
-unfolding N.inNamespace
-in-namespace none l = refl
-in-namespace (some ns) l = on-require _ _ _ refl tt
+-- an end tag and the innermost open element, by the name as written
+unfoldable pub matches : Bytes → List Frame → Bool
+matches n [] = false
+matches n (f ∷ fs) = same n (f .name)
 
-expand : (bs : List Binding) (n : Bytes) → Closing (N.expandElement bs n)
-unfolding N.expandElement
-expand bs n = in-namespace _ _
+-- an event's first test: no end tag without match, no second root, no illegal xmlns, no repeated attribute
+abbrev pub wellFormed : Event → Doc → Bool
+wellFormed (opening n as′) d =
+    not (G.isSecondRoot d) && (N.allLegal (N.declared as′) && not (G.repeated (placeIn (d .frames)) as′ d))
+wellFormed (closing n) d = matches n (d .frames)
+wellFormed (text s) d = true
+wellFormed instruction d = true
 
-known : (n : Bytes) (o : Option Bytes) → Closing (S.known n o)
-unfolding S.known
-known n none = refl
-known n (some i) = on-require _ _ _ refl tt
+-- what holds of 7 to 18, by which an event is refused behind that test
+pub record Behind (Q : Refusal → Type 0) : Type 0 where
+  pub seven : Q OverLimit
+  pub eight : Q NoNamespace
+  pub nine : Q NotNcName
+  pub ten : Q BadLanguage
+  pub eleven : Q BadIri
+  pub twelve : Q RepeatedId
+  pub thirteen : Q BadLabel
+  pub fourteen : Q Reserved
+  pub fifteen : Q TwoNames
+  pub sixteen : Q StrayText
+  pub seventeen : Q EmptyLiteral
+  pub eighteen : Q LabelsSpent
 
-judge : (r : Role) (v : Bytes) → Closing (S.judge r v)
-unfolding S.judge
-judge nothing v = tt
-judge xml-lang v = on-test _ _ refl
-judge xml-base v = on-test _ _ refl
-judge rdf-ID v = on-test _ _ refl
-judge rdf-bagID v = on-test _ _ refl
-judge rdf-nodeID v = on-require _ _ _ refl (on-test _ _ refl)
-judge rdf-about v = tt
-judge rdf-resource v = tt
-judge rdf-datatype v = tt
-judge rdf-parseType v = tt
-judge rdf-type v = tt
-judge forbidden v = refl
-judge property v = tt
+module _ (Q : Refusal → Type 0) (j : Behind Q) where
+  -- ---- start tags
 
-meaning : (bs : List Binding) (a : Attribute) → Closing (S.meaning bs a)
-unfolding S.meaning
-meaning bs (attribute n v) = on-if _ _ _ tt (on-bind _ _ (known n _) λ i. on-then _ _ (judge _ v) tt)
+  in-namespace : (o : Option Bytes) (l : Bytes) → Given Q (N.inNamespace o l)
+  unfolding N.inNamespace
+  in-namespace none l = j .eight
+  in-namespace (some ns) l = on-require Q _ _ _ (j .eight) tt
 
-resolved : (b r : Option Bytes) → Closing (S.resolved b r)
-unfolding S.resolved
-resolved b none = tt
-resolved none (some r) = on-require _ _ _ refl tt
-resolved (some b) (some r) = on-require _ _ _ refl tt
+  expand : (bs : List Binding) (n : Bytes) → Given Q (N.expandElement bs n)
+  unfolding N.expandElement
+  expand bs n = in-namespace _ _
 
-read-tag : (n : Bytes) (as′ : List Attribute) (d : Doc) → Closing (readTag n as′ d)
-unfolding readTag
-read-tag n as′ d =
-    on-bind _ _ (expand _ n) λ i.
-    on-bind _ _ (on-each _ as′ (meaning _)) λ ms.
-    on-bind _ _ (resolved _ _) λ id′.
-    on-require _ _ _ refl
-    (on-bind _ _ (resolved _ _) λ about′.
-    on-bind _ _ (resolved _ _) λ resource′.
-    on-bind _ _ (resolved _ _) λ datatype′.
-    on-bind _ _ (resolved _ _) λ type′. tt)
+  known : (n : Bytes) (o : Option Bytes) → Given Q (S.known n o)
+  unfolding S.known
+  known n none = j .eight
+  known n (some i) = on-require Q _ _ _ (j .eight) tt
 
-open-node : (t : Tag) (n : ℕ) → Closing (openNode t n)
-unfolding openNode O.oneMore
-open-node t n = on-require _ _ _ refl (on-require _ _ _ refl (on-require _ _ _ refl tt))
+  judge : (r : Role) (v : Bytes) → Given Q (S.judge r v)
+  unfolding S.judge
+  judge nothing v = tt
+  judge xml-lang v = on-test Q _ _ (j .ten)
+  judge xml-base v = on-test Q _ _ (j .eleven)
+  judge rdf-ID v = on-test Q _ _ (j .nine)
+  judge rdf-bagID v = on-test Q _ _ (j .nine)
+  judge rdf-nodeID v = on-require Q _ _ _ (j .nine) (on-test Q _ _ (j .thirteen))
+  judge rdf-about v = tt
+  judge rdf-resource v = tt
+  judge rdf-datatype v = tt
+  judge rdf-parseType v = tt
+  judge rdf-type v = tt
+  judge forbidden v = j .fourteen
+  judge property v = tt
 
-object-of : (r l : Option Bytes) (n : ℕ) → Closing (O.objectOf r l n)
-unfolding O.objectOf O.oneMore
-object-of (some r) l n = tt
-object-of none (some l) n = tt
-object-of none none n = on-require _ _ _ refl tt
+  meaning : (bs : List Binding) (a : Attribute) → Given Q (S.meaning bs a)
+  unfolding S.meaning
+  meaning bs (attribute n v) = on-if Q _ _ _ tt (on-bind Q _ _ (known n _) λ i. on-then Q _ _ (judge _ v) tt)
 
-open-as : (a : ParseType) (t : Tag) (p : Property) (n : ℕ) → Closing (O.openAs a t p n)
-unfolding O.openAs O.openDefault O.openWithNode O.openResource O.openWith O.oneMore
-open-as noParseType t p n = on-if _ _ _ (on-bind _ _ (object-of _ _ n) λ o. tt) tt
-open-as asCollection t p n = tt
-open-as asResource t p n = on-require _ _ _ refl tt
-open-as asLiteral t p n = tt
-open-as asOther t p n = tt
+  resolved : (b r : Option Bytes) → Given Q (S.resolved b r)
+  unfolding S.resolved
+  resolved b none = tt
+  resolved none (some r) = on-require Q _ _ _ (j .eleven) tt
+  resolved (some b) (some r) = on-require Q _ _ _ (j .eleven) tt
 
-open-property : (t : Tag) (s : Subject) (li n : ℕ) → Closing (openProperty t s li n)
-unfolding openProperty O.oneMore
-open-property t s li n =
-    on-require _ _ _ refl (on-require _ _ _ refl (on-then _ _ (on-if _ _ _ (on-test _ _ refl) tt) (open-as _ t _ n)))
+  read-tag : (n : Bytes) (as′ : List Attribute) (d : Doc) → Given Q (readTag n as′ d)
+  unfolding readTag
+  read-tag n as′ d =
+      on-bind Q _ _ (expand _ n) λ i.
+      on-bind Q _ _ (on-each Q _ as′ (meaning _)) λ ms.
+      on-bind Q _ _ (resolved _ _) λ id′.
+      on-require Q _ _ _ (j .twelve)
+      (on-bind Q _ _ (resolved _ _) λ about′.
+      on-bind Q _ _ (resolved _ _) λ resource′.
+      on-bind Q _ _ (resolved _ _) λ datatype′.
+      on-bind Q _ _ (resolved _ _) λ type′. tt)
 
-open-root : (t : Tag) (n : ℕ) → Closing (openRoot t n)
-unfolding openRoot
-open-root t n = on-if _ _ _ tt (open-node t n)
+  open-node : (t : Tag) (n : ℕ) → Given Q (openNode t n)
+  unfolding openNode O.oneMore
+  open-node t n = on-require Q _ _ _ (j .fourteen) (on-require Q _ _ _ (j .fifteen) (on-require Q _ _ _ (j .eighteen) tt))
 
-open-element : (production : Tag → ℕ → Answer Opened) (m : Bytes) (as′ : List Attribute) (d : Doc) → ((t : Tag) (n : ℕ) → Closing (production t n)) → Closing (G.openElement production m as′ d)
-unfolding G.openElement
-open-element production m as′ d h = on-bind _ _ (read-tag m as′ d) λ t. on-bind _ _ (h t (d .labels)) λ o. on-require _ _ _ refl tt
+  object-of : (r l : Option Bytes) (n : ℕ) → Given Q (O.objectOf r l n)
+  unfolding O.objectOf O.oneMore
+  object-of (some r) l n = tt
+  object-of none (some l) n = tt
+  object-of none none n = on-require Q _ _ _ (j .eighteen) tt
 
-copy-element : (m : Bytes) (as′ : List Attribute) (d : Doc) → Closing (G.copyElement m as′ d)
-unfolding G.copyElement G.knownAttribute
-copy-element m as′ d = on-require _ _ _ refl (on-then _ _ (on-each _ as′ λ a. on-test _ _ refl) tt)
+  open-as : (a : ParseType) (t : Tag) (p : Property) (n : ℕ) → Given Q (O.openAs a t p n)
+  unfolding O.openAs O.openDefault O.openWithNode O.openResource O.openWith O.oneMore
+  open-as noParseType t p n = on-if Q _ _ _ (on-bind Q _ _ (object-of _ _ n) λ o. tt) tt
+  open-as asCollection t p n = tt
+  open-as asResource t p n = on-require Q _ _ _ (j .eighteen) tt
+  open-as asLiteral t p n = tt
+  open-as asOther t p n = tt
 
-open-in : (p : Place) (m : Bytes) (as′ : List Attribute) (d : Doc) → Closing (G.openIn p m as′ d)
-unfolding G.openIn
-open-in outside m as′ d = open-element openRoot m as′ d open-root
-open-in nodes m as′ d = open-element openNode m as′ d open-node
-open-in nodesOrText m as′ d = open-element openNode m as′ d open-node
-open-in (properties s li) m as′ d = open-element (λ t. openProperty t s li) m as′ d λ t. open-property t s li
-open-in xml m as′ d = copy-element m as′ d
+  open-property : (t : Tag) (s : Subject) (li n : ℕ) → Given Q (openProperty t s li n)
+  unfolding openProperty O.oneMore
+  open-property t s li n =
+      on-require Q _ _ _ (j .fourteen)
+      (on-require Q _ _ _ (j .fifteen) (on-then Q _ _ (on-if Q _ _ _ (on-test Q _ _ (j .eighteen)) tt) (open-as _ t _ n)))
 
-on-opening : (m : Bytes) (as′ : List Attribute) (d : Doc) → Closing (G.onOpening m as′ d)
-unfolding G.onOpening
-on-opening m as′ d = on-require _ _ _ refl (on-require _ _ _ refl (open-in _ m as′ d))
+  open-root : (t : Tag) (n : ℕ) → Given Q (openRoot t n)
+  unfolding openRoot
+  open-root t n = on-if Q _ _ _ tt (open-node t n)
 
--- ---- end tags and text
+  open-element : (production : Tag → ℕ → Answer Opened) (m : Bytes) (as′ : List Attribute) (d : Doc) → ((t : Tag) (n : ℕ) → Given Q (production t n)) → Given Q (G.openElement production m as′ d)
+  unfolding G.openElement
+  open-element production m as′ d h = on-bind Q _ _ (read-tag m as′ d) λ t. on-bind Q _ _ (h t (d .labels)) λ o. on-require Q _ _ _ (j .seven) tt
 
-end-value : (p : Property) (v : Value) (l : Option Bytes) (d : Doc) → Closing (C.endValue p v l d)
-unfolding C.endValue
-end-value p (default t o) l d = tt
-end-value p (collection cs) l d = on-require _ _ _ refl tt
-end-value p (literal x) l d = on-require _ _ _ refl tt
-end-value p other l d = tt
+  copy-element : (m : Bytes) (as′ : List Attribute) (d : Doc) → Given Q (G.copyElement m as′ d)
+  unfolding G.copyElement G.knownAttribute
+  copy-element m as′ d = on-require Q _ _ _ (j .eight) (on-then Q _ _ (on-each Q _ as′ λ a. on-test Q _ _ (j .eight)) tt)
 
-end-kind : (k : Kind) (m : Bytes) (l : Option Bytes) (d : Doc) → Closing (C.endKind k m l d)
-unfolding C.endKind
-end-kind rdfRDF m l d = tt
-end-kind (nodeElement s li) m l d = tt
-end-kind (propertyElement p v) m l d = end-value p v l d
-end-kind xmlElement m l d = tt
+  open-in : (p : Place) (m : Bytes) (as′ : List Attribute) (d : Doc) → Given Q (G.openIn p m as′ d)
+  unfolding G.openIn
+  open-in outside m as′ d = open-element openRoot m as′ d open-root
+  open-in nodes m as′ d = open-element openNode m as′ d open-node
+  open-in nodesOrText m as′ d = open-element openNode m as′ d open-node
+  open-in (properties s li) m as′ d = open-element (λ t. openProperty t s li) m as′ d λ t. open-property t s li
+  open-in xml m as′ d = copy-element m as′ d
 
-close-element : (m : Bytes) (fs : List Frame) (d : Doc) → Closing (C.closeElement m fs d)
-unfolding C.closeElement
-close-element m [] d = refl
-close-element m (f ∷ fs) d = on-require _ _ _ refl (end-kind (f .kind) m _ _)
+  on-opening : (m : Bytes) (as′ : List Attribute) (d : Doc) → (wellFormed (opening m as′) d ≡ false → Q NotWellFormed)
+      → Given Q (G.onOpening m as′ d)
+  unfolding G.onOpening
+  on-opening m as′ d six = on-failing Q _ _ _ six (on-require Q _ _ _ (j .seven) (open-in _ m as′ d))
 
-on-text : (p : Place) (v : Bytes) (d : Doc) → Closing (X.onText p v d)
-unfolding X.onText
-on-text outside v d = on-require _ _ _ refl tt
-on-text nodes v d = on-require _ _ _ refl tt
-on-text (properties s li) v d = on-require _ _ _ refl tt
-on-text nodesOrText v d = tt
-on-text xml v d = tt
+  -- ---- end tags and text
 
-on-event : (e : Event) (d : Doc) → Closing (X.onEvent e d)
-unfolding X.onEvent
-on-event (opening m as′) d = on-opening m as′ d
-on-event (closing m) d = close-element m (d .frames) d
-on-event (text v) d = on-text (placeIn (d .frames)) v d
-on-event instruction d = tt
+  end-value : (p : Property) (v : Value) (l : Option Bytes) (d : Doc) → Given Q (C.endValue p v l d)
+  unfolding C.endValue
+  end-value p (default t o) l d = tt
+  end-value p (collection cs) l d = on-require Q _ _ _ (j .eighteen) tt
+  end-value p (literal x) l d = on-require Q _ _ _ (j .seventeen) tt
+  end-value p other l d = tt
+
+  end-kind : (k : Kind) (m : Bytes) (l : Option Bytes) (d : Doc) → Given Q (C.endKind k m l d)
+  unfolding C.endKind
+  end-kind rdfRDF m l d = tt
+  end-kind (nodeElement s li) m l d = tt
+  end-kind (propertyElement p v) m l d = end-value p v l d
+  end-kind xmlElement m l d = tt
+
+  close-element : (m : Bytes) (fs : List Frame) (d : Doc) → (matches m fs ≡ false → Q NotWellFormed)
+      → Given Q (C.closeElement m fs d)
+  unfolding C.closeElement matches
+  close-element m [] d six = six refl
+  close-element m (f ∷ fs) d six = on-failing Q _ _ _ six (end-kind (f .kind) m _ _)
+
+  on-text : (p : Place) (v : Bytes) (d : Doc) → Given Q (X.onText p v d)
+  unfolding X.onText
+  on-text outside v d = on-require Q _ _ _ (j .sixteen) tt
+  on-text nodes v d = on-require Q _ _ _ (j .sixteen) tt
+  on-text (properties s li) v d = on-require Q _ _ _ (j .sixteen) tt
+  on-text nodesOrText v d = tt
+  on-text xml v d = tt
+
+  on-event : (e : Event) (d : Doc) → (wellFormed e d ≡ false → Q NotWellFormed) → Given Q (X.onEvent e d)
+  unfolding X.onEvent
+  on-event (opening m as′) d six = on-opening m as′ d six
+  on-event (closing m) d six = close-element m (d .frames) d six
+  on-event (text v) d six = on-text (placeIn (d .frames)) v d
+  on-event instruction d six = tt
+
+  -- an event itself is refused by 7 to 18, or by 6 where that test fails
+  pub next-given : (e : Event) (d : Doc) → (wellFormed e d ≡ false → Q NotWellFormed) → Given Q (next e d)
+  unfolding next X.within
+  next-given e d six = on-bind Q _ _ (on-event e d six) λ s. on-require Q _ _ _ (j .seven) tt
 
 -- whatever an event itself is refused for closes the document
 pub next-closing : (e : Event) (d : Doc) → Closing (next e d)
-unfolding next X.within
-next-closing e d = on-bind _ _ (on-event e d) λ s. on-require _ _ _ refl tt
+next-closing e d = next-given Closes all-close e d λ h. refl
+  where
+    all-close : Behind Closes
+    all-close = record {
+      seven = refl;
+      eight = refl;
+      nine = refl;
+      ten = refl;
+      eleven = refl;
+      twelve = refl;
+      thirteen = refl;
+      fourteen = refl;
+      fifteen = refl;
+      sixteen = refl;
+      seventeen = refl;
+      eighteen = refl;
+    }
+
+-- by 1 to 5 never, and by 6 only where it is not well-formed
+abbrev AboveSix : Event → Doc → Refusal → Type 0
+AboveSix e d r = (leb (number r) 6 ≡ false) ⊎ ((r ≡ NotWellFormed) × (wellFormed e d ≡ false))
+
+next-above : (e : Event) (d : Doc) → Given (AboveSix e d) (next e d)
+next-above e d = next-given (AboveSix e d) above e d λ h. inr (refl, h)
+  where
+    above : Behind (AboveSix e d)
+    above = record {
+      seven = inl refl;
+      eight = inl refl;
+      nine = inl refl;
+      ten = inl refl;
+      eleven = inl refl;
+      twelve = inl refl;
+      thirteen = inl refl;
+      fourteen = inl refl;
+      fifteen = inl refl;
+      sixteen = inl refl;
+      seventeen = inl refl;
+      eighteen = inl refl;
+    }
+
+pub refused-above : (e : Event) (d : Doc) (r : Refusal) → next e d ≡ refuse r → AboveSix e d r
+refused-above e d r h = subst (λ (a : Answer (List Triple × Doc)). Given (AboveSix e d) a) h (next-above e d)
+
+-- and by 6 always there
+pub not-well-formed : (e : Event) (d : Doc) → wellFormed e d ≡ false → next e d ≡ refuse NotWellFormed
+unfolding next X.onEvent G.onOpening C.closeElement matches _>>=_ _>>_ require_or_
+not-well-formed (opening n as′) d h = rw h
+not-well-formed (closing n) d h = go (d .frames) h
+  where
+    go : (fs : List Frame) → matches n fs ≡ false → (C.closeElement n fs d >>= X.within) ≡ refuse NotWellFormed
+    go [] h = refl
+    go (f ∷ fs) h = rw h
+not-well-formed (text s) d h = absurd (true≢false h)
+not-well-formed instruction d h = absurd (true≢false h)
 
 -- ---- the answers 1 to 4, which do not close
 
