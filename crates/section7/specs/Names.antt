@@ -1,0 +1,138 @@
+-- The names of section 7 and those of document 01.
+use mathlib.Core.Path.{_≡_, refl, sym, _∙_, ap}
+use mathlib.Core.Logic.{inl, inr}
+use mathlib.Core.Bool.{Bool, true, false, _&&_, _||_, not, false≢true}
+use mathlib.Core.List.{List, [], _∷_, _++_, map}
+use Prim.Native.String.{String}
+use borrow.Author.Tests.{not-true}
+use Rattle.spec.specs.Bytes.{Bytes, if_then_else_, same, member, those}
+use Rattle.spec.specs.Rdf.{rdf, reservedElements, mayBeNode, mayBeProperty}
+use Rattle.spec.specs.Rdf as F
+use Rattle.spec.specs.StartTag.{Role, property, roleNumber, sameRole, rdfRoles, roleAmong}
+use Rattle.spec.proofs.Booleans.{or-cases, or-left, and-left, and-right, no-true}
+use Rattle.spec.proofs.Bytes.{same-true}
+use Rattle.theorems.specs.Roles.{or-none}
+use Rattle.section7.specs.Events.{AttributeEvent}
+use Rattle.section7.specs.Grammar.{coreSyntaxTerms, oldTerms, nodeElementURIs, propertyElementURIs, propertyAttributeURIs, literalAttribute, Only, OrProperties}
+use Rattle.section7.specs.Attributes.{isProperty}
+
+-- a list of names inside another
+unfoldable pub within : List Bytes → List Bytes → Bool
+within [] m = true
+within (x ∷ l) m = member x m && within l m
+
+sub-member : (i : Bytes) (l m : List Bytes) → within l m ≡ true → member i l ≡ true → member i m ≡ true
+unfolding within member
+sub-member i [] m w h = absurd (false≢true h)
+sub-member i (x ∷ l) m w h = elim (or-cases (same i x) (member i l) h) [
+  | inl e ↦ ap (λ (y : Bytes). member y m) (same-true i x e) ∙ and-left (member x m) (within l m) w
+  | inr e ↦ sub-member i l m (and-right (member x m) (within l m) w) e
+]
+
+not-member : (i : Bytes) (l m : List Bytes) → within l m ≡ true → member i m ≡ false → member i l ≡ false
+not-member i l m w h = no-true (member i l) λ e. false≢true (sym h ∙ sub-member i l m w e)
+
+-- ---- elements
+
+abbrev not-nodes : List Bytes
+not-nodes = coreSyntaxTerms ++ (rdf "li" ∷ oldTerms)
+
+abbrev not-properties : List Bytes
+not-properties = coreSyntaxTerms ++ (rdf "Description" ∷ oldTerms)
+
+abbrev not-attributes : List Bytes
+not-attributes = coreSyntaxTerms ++ (rdf "Description" ∷ rdf "li" ∷ oldTerms)
+
+reserved-nodes : within reservedElements not-nodes ≡ true
+unfolding reservedElements coreSyntaxTerms oldTerms within F.all
+reserved-nodes = refl
+
+reserved-properties : within (rdf "Description" ∷ reservedElements) (rdf "li" ∷ not-properties) ≡ true
+unfolding reservedElements coreSyntaxTerms oldTerms within F.all
+reserved-properties = refl
+
+pub node-name : (i : Bytes) → nodeElementURIs i ≡ true → mayBeNode i ≡ true
+unfolding nodeElementURIs mayBeNode
+node-name i h = ap not (not-member i reservedElements not-nodes reserved-nodes (not-true _ h))
+
+neither : (a b : Bool) → a ≡ false → b ≡ false → (a || b) ≡ false
+neither a b p q = rw (p, q)
+
+property-others : (i : Bytes) → member i (rdf "li" ∷ not-properties) ≡ false → (member i reservedElements || same i (rdf "Description")) ≡ false
+unfolding member
+property-others i h =
+    let k : (same i (rdf "Description") ≡ false) × (member i reservedElements ≡ false) = or-none _ _ (not-member i (rdf "Description" ∷ reservedElements) (rdf "li" ∷ not-properties) reserved-properties h) in
+    neither (member i reservedElements) (same i (rdf "Description")) (k .1) (k .0)
+
+pub property-name : (i : Bytes) → propertyElementURIs i ≡ true → mayBeProperty i ≡ true
+unfolding propertyElementURIs mayBeProperty member
+property-name i h = go (same i (rdf "li")) refl
+  where
+    go : (b : Bool) → same i (rdf "li") ≡ b → (b || not (member i reservedElements || same i (rdf "Description"))) ≡ true
+    go true e = refl
+    go false e = ap not (property-others i (neither (same i (rdf "li")) (member i not-properties) e (not-true _ h)))
+
+-- ---- attributes
+
+-- the names of the table
+unfoldable pub names : List (String × Role) → List Bytes
+names rs = map (λ e. rdf (e .0)) rs
+
+noProperty : List (String × Role) → Bool
+noProperty [] = true
+noProperty (e ∷ rs) = not (sameRole property (e .1)) && noProperty rs
+
+table-property : noProperty rdfRoles ≡ true
+unfolding noProperty rdfRoles sameRole roleNumber
+table-property = refl
+
+-- a property is what has none of them
+property-names : (rs : List (String × Role)) (i : Bytes) → noProperty rs ≡ true → sameRole property (roleAmong rs i) ≡ not (member i (names rs))
+unfolding noProperty names roleAmong member if_then_else_ sameRole roleNumber
+property-names [] i h = refl
+property-names (e ∷ rs) i h = go (same i (rdf (e .0))) (property-names rs i (and-right (not (sameRole property (e .1))) (noProperty rs) h))
+  where
+    go : (b : Bool) → sameRole property (roleAmong rs i) ≡ not (member i (names rs)) → sameRole property (if b then e .1 else roleAmong rs i) ≡ not (b || member i (names rs))
+    go true ih = not-true (sameRole property (e .1)) (and-left _ (noProperty rs) h)
+    go false ih = ih
+
+table-attributes : within (names rdfRoles) (rdf "type" ∷ not-attributes) ≡ true
+unfolding names rdfRoles coreSyntaxTerms oldTerms within F.all
+table-attributes = refl
+
+type-in-table : within (rdf "type" ∷ []) (names rdfRoles) ≡ true
+unfolding names rdfRoles within F.all
+type-in-table = refl
+
+-- of a property attribute: all but rdf:type
+allowed-property : (i : Bytes) → member i not-attributes ≡ false → member i (names rdfRoles) ≡ same i (rdf "type")
+allowed-property i h = go (same i (rdf "type")) refl
+  where
+    go : (b : Bool) → same i (rdf "type") ≡ b → member i (names rdfRoles) ≡ b
+    go true e = sub-member i (rdf "type" ∷ []) (names rdfRoles) type-in-table (unfold member in or-left (same i (rdf "type")) false e)
+    go false e = not-member i (names rdfRoles) (rdf "type" ∷ not-attributes) table-attributes (unfold member in neither (same i (rdf "type")) (member i not-attributes) e h)
+
+-- the other attributes that a production names
+abbrev pub Terms : List Bytes → Type 0
+Terms us = within us (names rdfRoles) ≡ true
+
+property-same : (us : List Bytes) → Terms us → (a : AttributeEvent) → (member (a .0) us || propertyAttributeURIs (a .0)) ≡ true → isProperty a ≡ literalAttribute a
+unfolding isProperty literalAttribute propertyAttributeURIs
+property-same us t a h = property-names rdfRoles (a .0) table-property ∙ go (member (a .0) not-attributes) refl h
+  where
+    go : (b : Bool) → member (a .0) not-attributes ≡ b → (member (a .0) us || not b) ≡ true → not (member (a .0) (names rdfRoles)) ≡ (not b && not (same (a .0) (rdf "type")))
+    go true e k =
+        let m : member (a .0) us ≡ true = elim (or-cases (member (a .0) us) false k) [ inl x ↦ x | inr y ↦ absurd (false≢true y) ] in
+        ap not (sub-member (a .0) us (names rdfRoles) t m)
+    go false e k = ap not (allowed-property (a .0) e)
+
+pub properties-same : (us : List Bytes) → Terms us → (as′ : List AttributeEvent) → OrProperties us as′ → those isProperty as′ ≡ those literalAttribute as′
+unfolding those
+properties-same us t [] h = refl
+properties-same us t (a ∷ as′) h = rw (property-same us t a (h .0), properties-same us t as′ (h .1))
+
+-- where only such attributes are allowed there is no property attribute
+pub only-properties : (us : List Bytes) → Terms us → (as′ : List AttributeEvent) → Only us as′ → those isProperty as′ ≡ []
+unfolding those isProperty if_then_else_
+only-properties us t [] h = refl
+only-properties us t (a ∷ as′) h = rw (property-names rdfRoles (a .0) table-property, sub-member (a .0) us (names rdfRoles) t (h .0)) (only-properties us t as′ (h .1))
