@@ -1,11 +1,11 @@
 -- The attribute events of section 6 and the attributes' meanings in document 01.
-use mathlib.Core.Path.{_≡_, refl, sym, _∙_, ap}
+use mathlib.Core.Path.{_≡_, refl, sym, _∙_, ap, subst}
 use mathlib.Core.Bool.{Bool, true, false, _&&_, _||_, not, false≢true}
 use mathlib.Core.Option.{Option, none, some}
 use mathlib.Core.List.{List, [], _∷_, _++_, map}
 use Prim.Native.String.{String}
 use lib.Dec.{eqb}
-use borrow.Author.Tests.{eqb-true, eq-eqb}
+use borrow.Author.Tests.{eqb-true, eq-eqb, not-true}
 use Rattle.spec.specs.Bytes.{Bytes, ascii, if_then_else_, same, begins, isEmpty, isSome, member, those, each, All, _>>=_, _>>_, require_or_}
 use Rattle.spec.specs.Numbers.{good}
 use Rattle.spec.specs.Abnf.{lower}
@@ -14,7 +14,7 @@ use Rattle.spec.specs.XmlNames.{isNCName, prefixOf, localOf}
 use Rattle.spec.specs.Rfc3987.{isIri}
 use Rattle.spec.specs.Rfc5646.{isLanguageTag}
 use Rattle.spec.specs.Pyx.{Attribute, attribute}
-use Rattle.spec.specs.Namespaces.{Binding, isDeclaration, isKnown, namespace, joined, expandAttribute}
+use Rattle.spec.specs.Namespaces.{Binding, isDeclaration, nameOf, isKnown, namespace, joined, expandAttribute}
 use Rattle.spec.specs.Rdf.{rdf}
 use Rattle.spec.specs.Rdf as F
 use Rattle.spec.specs.StartTag.{Role, nothing, xml-lang, xml-base, rdf-ID, rdf-bagID, rdf-nodeID, rdf-about, rdf-resource, rdf-datatype, rdf-parseType, rdf-type, forbidden, property, roleNumber, sameRole, rdfRoles, roleAmong, roleOf, isGenerated, endsInStop, judge, known, Meaning, means, meaning, first, propertyAttributes}
@@ -22,8 +22,25 @@ use Rattle.spec.proofs.Booleans.{and-left, and-right, no-true}
 use Rattle.spec.proofs.Bytes.{same-true, same-refl}
 use Rattle.theorems.specs.AttributeNames.{declaration-xml, declaration-not, named-xml}
 use Rattle.theorems.specs.Roles.{nameIn, hasName, same-role, table-fits, among-name}
-use Rattle.section7.specs.Events.{written, AttributeEvent, uri-of, attributes}
-use Rattle.section7.specs.Grammar.{oldTerms, value, goodValue, Fine, declaration, reserved, event}
+use Rattle.section7.specs.Events.{written, AttributeEvent, uri-of, attribute-uri, is-reserved, is-named, attributes}
+use Rattle.section7.specs.Grammar.{oldTerms, value, is-rdf-id}
+use Rattle.section7.specs.Differences.{says, is-free-label}
+
+-- ---- an attribute that the reader accepts
+
+unfoldable pub goodValue : Bytes → Bytes → Bool
+goodValue u v =
+    if same u (rdf "ID") then isNCName v else
+    if same u (rdf "nodeID") then isNCName v && (not (endsInStop v) && not (isGenerated v)) else true
+
+pub data Fine (bs : List Binding) : Attribute → Type 0 where
+  declaration : {n v : Bytes} → isDeclaration (attribute n v) ≡ true → Fine bs (attribute n v)
+  -- a name that begins `xml`
+  reserved : {n v : Bytes} → isDeclaration (attribute n v) ≡ false → begins (ascii "xml") n ≡ true → isKnown bs n ≡ true
+      → (same n (ascii "xml:lang") ≡ true → isLanguageTag v ≡ true) → (same n (ascii "xml:base") ≡ true → isIri v ≡ true) → Fine bs (attribute n v)
+  -- any other, with a prefix, and none of the terms that no production has
+  event : {n v ns : Bytes} → begins (ascii "xml") (map lower n) ≡ false → isEmpty (prefixOf n) ≡ false → namespace bs (prefixOf n) ≡ some ns
+      → member (ns ++ localOf n) (rdf "RDF" ∷ rdf "li" ∷ oldTerms) ≡ false → goodValue (ns ++ localOf n) v ≡ true → Fine bs (attribute n v)
 
 -- ---- roles and names
 
@@ -57,7 +74,7 @@ table-check P u (e ∷ rs) c h = go (same u (rdf (e .0))) refl (table-check P u 
     go false q ih = ih
 
 -- the terms that no production has as attributes
-abbrev noAttributes : List Bytes
+abbrev pub noAttributes : List Bytes
 noAttributes = rdf "RDF" ∷ rdf "li" ∷ oldTerms
 
 -- a role that an attribute can have
@@ -183,6 +200,81 @@ fine-meaning bs (attribute n v) (event {ns = ns} x p e m g) =
     let j : judge (roleAmong rdfRoles (ns ++ localOf n)) v ≡ good tt = judge-good (roleAmong rdfRoles (ns ++ localOf n)) (ns ++ localOf n) v (in-table (ns ++ localOf n)) (among-name rdfRoles (ns ++ localOf n) table-fits) m g in
     rw (undeclared n v z, expand-event bs n ns p e, known-event n (ns ++ localOf n) p, other-role n (ns ++ localOf n) z, j)
 
+-- it is one, by the grammar and without a difference
+good-value : (u v : Bytes) → is-rdf-id (u, v) ≡ true → is-free-label (u, v) ≡ true → goodValue u v ≡ true
+unfolding goodValue is-rdf-id is-free-label member if_then_else_
+good-value u v h k = go (same u (rdf "ID")) (same u (rdf "nodeID")) (isNCName v) (not (endsInStop v) && not (isGenerated v)) h k
+  where
+    go : (a b x y : Bool) → (if a || (b || false) then x else true) ≡ true → (if b then y else true) ≡ true → (if a then x else if b then x && y else true) ≡ true
+    go true b x y h k = h
+    go false true x y h k = rw (h, k)
+    go false false x y h k = refl
+
+pub says-then : (m : String) (test : Bytes → Bool) (n v : Bytes) → says m test (attribute n v) ≡ true → same n (ascii m) ≡ true → test v ≡ true
+unfolding says if_then_else_
+says-then m test n v h e = let g : (if true then test v else true) ≡ true = rw e at h in g
+
+language-good : (v : Bytes) → not (isEmpty v) ≡ true → (isEmpty v || isLanguageTag v) ≡ true → isLanguageTag v ≡ true
+language-good v h k = go (isEmpty v) (isLanguageTag v) h k
+  where
+    go : (a b : Bool) → not a ≡ true → (a || b) ≡ true → b ≡ true
+    go true b h k = absurd (false≢true h)
+    go false b h k = k
+
+-- what the grammar and the clauses say of one attribute
+pub record Accepted (bs : List Binding) (y : Attribute) : Type 0 where
+  pub named : is-named bs y ≡ true
+  pub prefixed : (is-reserved (nameOf y) || not (isEmpty (prefixOf (nameOf y)))) ≡ true
+  pub small : (not (is-reserved (nameOf y)) || begins (ascii "xml") (nameOf y)) ≡ true
+  pub language : says "xml:lang" (λ v. not (isEmpty v)) y ≡ true
+  pub tag : says "xml:lang" (λ v. isEmpty v || isLanguageTag v) y ≡ true
+  pub base : says "xml:base" isIri y ≡ true
+
+-- and of its event
+abbrev pub AcceptedEvent : AttributeEvent → Type 0
+AcceptedEvent a = (is-rdf-id a ≡ true) × (is-free-label a ≡ true) × (member (a .0) noAttributes ≡ false)
+
+module _ (bs : List Binding) (n v : Bytes) (k : Accepted bs (attribute n v)) where
+  fine-reserved : isDeclaration (attribute n v) ≡ false → is-reserved n ≡ true → Fine bs (attribute n v)
+  unfolding is-named nameOf
+  fine-reserved d r =
+      let z : (isKnown bs n && (true || isSome (attribute-uri bs n))) ≡ true = rw (d, r) at (k .named) in
+      let x : begins (ascii "xml") n ≡ true = rw r at (k .small) in
+      reserved d x (and-left (isKnown bs n) _ z)
+      (λ e. language-good v (says-then "xml:lang" _ n v (k .language) e) (says-then "xml:lang" _ n v (k .tag) e))
+      (λ e. says-then "xml:base" isIri n v (k .base) e)
+
+  has-namespace : (o : Option Bytes) → isSome (joined o (localOf n)) ≡ true → (ns : Bytes) × (o ≡ some ns)
+  unfolding joined isSome
+  has-namespace none h = absurd (false≢true h)
+  has-namespace (some ns) h = (ns, refl)
+
+  named-so : (ns : Bytes) → isEmpty (prefixOf n) ≡ false → namespace bs (prefixOf n) ≡ some ns → uri-of (attribute-uri bs n) ≡ ns ++ localOf n
+  unfolding attribute-uri if_then_else_ joined uri-of
+  named-so ns p e = rw (p, e)
+
+  fine-event : is-reserved n ≡ false → AcceptedEvent (uri-of (attribute-uri bs n), v) → Fine bs (attribute n v)
+  unfolding is-named nameOf attribute-uri if_then_else_ is-reserved
+  fine-event r h =
+      let d : isDeclaration (attribute n v) ≡ false = undeclared n v (not-lower-xml n r) in
+      let p : isEmpty (prefixOf n) ≡ false = not-true _ (rw r at (k .prefixed)) in
+      let z : (isKnown bs n && (false || isSome (joined (namespace bs (prefixOf n)) (localOf n)))) ≡ true = rw (d, r, p) at (k .named) in
+      let o : (ns : Bytes) × (namespace bs (prefixOf n) ≡ some ns) = has-namespace _ (and-right (isKnown bs n) _ z) in
+      let g : AcceptedEvent (o .0 ++ localOf n, v) = subst (λ (x : Bytes). AcceptedEvent (x, v)) (named-so (o .0) p (o .1)) h in
+      event r p (o .1) (g .2) (good-value (o .0 ++ localOf n) v (g .0) (g .1))
+
+pub fine-all : (bs : List Binding) (as′ : List Attribute) → All (Accepted bs) as′ → All AcceptedEvent (attributes bs as′) → All (Fine bs) as′
+unfolding attributes if_then_else_
+fine-all bs [] h k = tt
+fine-all bs (attribute n v ∷ as′) h k = go (isDeclaration (attribute n v)) (is-reserved n) refl refl (fine-all bs as′ (h .1)) k
+  where
+    go : (d r : Bool) → isDeclaration (attribute n v) ≡ d → is-reserved n ≡ r → (All AcceptedEvent (attributes bs as′) → All (Fine bs) as′)
+        → All AcceptedEvent (if r then attributes bs as′ else ((uri-of (attribute-uri bs n), v) ∷ attributes bs as′)) → All (Fine bs) (attribute n v ∷ as′)
+    go true true p q rest k = (declaration p, rest k)
+    go false true p q rest k = (fine-reserved bs n v (h .0) p q, rest k)
+    go true false p q rest k = absurd (false≢true (sym q ∙ unfold is-reserved in lower-xml n (declaration-xml n v p)))
+    go false false p q rest k = (fine-event bs n v (h .0) q (k .0), rest (k .1))
+
 pub fine-meanings : (bs : List Binding) (as′ : List Attribute) → All (Fine bs) as′ → each (meaning bs) as′ ≡ good (map (meaning-of bs) as′)
 unfolding each _>>=_
 fine-meanings bs [] h = refl
@@ -208,12 +300,13 @@ module _ (bs : List Binding) (n v : Bytes) (as′ : List Attribute) where
       rw (undeclared n v z, expand-event bs n ns p e, other-role n (ns ++ localOf n) z)
 
   events-skip : begins (ascii "xml") n ≡ true → attributes bs (attribute n v ∷ as′) ≡ attributes bs as′
-  unfolding attributes if_then_else_
+  unfolding attributes is-reserved if_then_else_
   events-skip x = rw (lower-xml n x)
 
-  events-event : (ns : Bytes) → begins (ascii "xml") (map lower n) ≡ false → namespace bs (prefixOf n) ≡ some ns → attributes bs (attribute n v ∷ as′) ≡ (ns ++ localOf n, v) ∷ attributes bs as′
-  unfolding attributes if_then_else_ joined uri-of
-  events-event ns x e = rw (x, e)
+  events-event : (ns : Bytes) → begins (ascii "xml") (map lower n) ≡ false → isEmpty (prefixOf n) ≡ false → namespace bs (prefixOf n) ≡ some ns
+      → attributes bs (attribute n v ∷ as′) ≡ (ns ++ localOf n, v) ∷ attributes bs as′
+  unfolding attributes is-reserved attribute-uri if_then_else_ joined uri-of
+  events-event ns x p e = rw (x, p, e)
 
 -- a role of the rdf namespace that has a name
 pub record RdfRole (r : Role) : Type 0 where
@@ -238,7 +331,7 @@ module _ (bs : List Binding) (r : Role) (k : RdfRole r) where
   first-value (attribute n v ∷ as′) (reserved d x q l b, h) =
       rw (means-reserved bs n v as′ d x, events-skip bs n v as′ x, not-reserved (same n (ascii "xml:lang")) (same n (ascii "xml:base"))) (first-value as′ h)
   first-value (attribute n v ∷ as′) (event {ns = ns} x p e m g, h) =
-      rw (means-event bs n v as′ ns x p e, events-event bs n v as′ ns x e, role-named r (ns ++ localOf n) (k .has-name) (k .in-rdf), first-value as′ h)
+      rw (means-event bs n v as′ ns x p e, events-event bs n v as′ ns x p e, role-named r (ns ++ localOf n) (k .has-name) (k .in-rdf), first-value as′ h)
 
 -- is it a property of document 01?
 unfoldable pub isProperty : AttributeEvent → Bool
@@ -263,7 +356,7 @@ module _ (bs : List Binding) where
   property-events (attribute n v ∷ as′) (reserved d x q l b, h) =
       rw (means-reserved bs n v as′ d x, events-skip bs n v as′ x, reserved-property (same n (ascii "xml:lang")) (same n (ascii "xml:base"))) (property-events as′ h)
   property-events (attribute n v ∷ as′) (event {ns = ns} x p e m g, h) =
-      rw (means-event bs n v as′ ns x p e, events-event bs n v as′ ns x e, property-events as′ h)
+      rw (means-event bs n v as′ ns x p e, events-event bs n v as′ ns x p e, property-events as′ h)
 
   -- xml:lang and xml:base, as written
   lang-role : (x y : Bool) → sameRole xml-lang (if x then xml-lang else if y then xml-base else nothing) ≡ x

@@ -5,7 +5,7 @@ use mathlib.Core.Bool.{Bool, true, false, _&&_, _||_, not, false≢true}
 use mathlib.Core.List.{List, [], _∷_, _++_, map}
 use Prim.Native.String.{String}
 use borrow.Author.Tests.{not-true}
-use Rattle.spec.specs.Bytes.{Bytes, if_then_else_, same, member, those}
+use Rattle.spec.specs.Bytes.{Bytes, if_then_else_, same, member, those, All}
 use Rattle.spec.specs.Rdf.{rdf, reservedElements, mayBeNode, mayBeProperty}
 use Rattle.spec.specs.Rdf as F
 use Rattle.spec.specs.StartTag.{Role, property, roleNumber, sameRole, rdfRoles, roleAmong}
@@ -14,7 +14,7 @@ use Rattle.spec.proofs.Bytes.{same-true}
 use Rattle.theorems.specs.Roles.{or-none}
 use Rattle.section7.specs.Events.{AttributeEvent}
 use Rattle.section7.specs.Grammar.{coreSyntaxTerms, oldTerms, nodeElementURIs, propertyElementURIs, propertyAttributeURIs, literalAttribute, Only, OrProperties}
-use Rattle.section7.specs.Attributes.{isProperty}
+use Rattle.section7.specs.Attributes.{isProperty, noAttributes}
 
 -- a list of names inside another
 unfoldable pub within : List Bytes → List Bytes → Bool
@@ -136,3 +136,20 @@ pub only-properties : (us : List Bytes) → Terms us → (as′ : List Attribute
 unfolding those isProperty if_then_else_
 only-properties us t [] h = refl
 only-properties us t (a ∷ as′) h = rw (property-names rdfRoles (a .0) table-property, sub-member (a .0) us (names rdfRoles) t (h .0)) (only-properties us t as′ (h .1))
+
+-- no attribute that a production has is one of the terms that none has
+unfoldable pub none-passes : (Bytes → Bool) → List Bytes → Bool
+none-passes test [] = true
+none-passes test (x ∷ l) = not (test x) && none-passes test l
+
+passes-none : (test : Bytes → Bool) (l : List Bytes) → none-passes test l ≡ true → (i : Bytes) → test i ≡ true → member i l ≡ false
+unfolding none-passes member
+passes-none test [] h i t = refl
+passes-none test (x ∷ l) h i t = neither (same i x) (member i l) differs (passes-none test l (and-right (not (test x)) (none-passes test l) h) i t)
+  where
+    differs : same i x ≡ false
+    differs = no-true (same i x) λ e. false≢true (sym (not-true (test x) (and-left (not (test x)) (none-passes test l) h)) ∙ (ap test (sym (same-true i x e)) ∙ t))
+
+pub all-allowed : (test : Bytes → Bool) → none-passes test noAttributes ≡ true → (as′ : List AttributeEvent) → All (λ a. test (a .0) ≡ true) as′ → All (λ a. member (a .0) noAttributes ≡ false) as′
+all-allowed test h [] k = tt
+all-allowed test h (a ∷ as′) k = (passes-none test noAttributes h (a .0) (k .0), all-allowed test h as′ (k .1))

@@ -2,26 +2,52 @@
 use mathlib.Core.Path.{_≡_, refl, sym, _∙_, ap}
 use mathlib.Core.Bool.{Bool, true, false, _&&_, not, false≢true}
 use mathlib.Core.Option.{Option, none, some}
-use mathlib.Core.List.{List, [], _∷_, _++_, append-assoc, append-nil}
-use Rattle.spec.specs.Bytes.{Bytes, if_then_else_, isEmpty, each, All, _>>=_, _>>_, require_or_}
+use mathlib.Core.List.{List, [], _∷_, _++_, map, append-assoc, append-nil}
+use Rattle.spec.specs.Bytes.{Bytes, if_then_else_, same, isEmpty, member, repeats, each, All, _>>=_, _>>_, require_or_}
 use Rattle.spec.specs.Numbers.{Answer, refuse, good}
 use Rattle.spec.specs.declared.Refusal.the-variants.{NotWellFormed, OverLimit, NoNamespace, EmptyLiteral}
-use Rattle.spec.specs.Pyx.{Attribute, Event, opening, closing, text}
-use Rattle.spec.specs.Namespaces.{Binding, declared, allLegal, isKnown}
+use Rattle.spec.specs.Pyx.{Attribute, attribute, Event, opening, closing, text}
+use Rattle.spec.specs.Namespaces.{Binding, declared, nameOf, allLegal, isKnown, repeatsWritten}
 use Rattle.spec.specs.Rdf.{rdf}
-use Rattle.spec.specs.NTriples.{Triple, typed}
+use Rattle.spec.specs.NTriples.{Triple, typed, coded}
 use Rattle.spec.specs.Document.{Value, literal, Property, Kind, propertyElement, xmlElement, Frame, Doc, withFrames, withKind, isXmlElement, onValue, changeValue, inScope, languageInForce, Place, xml, placeIn, inKind, inValue}
 use Rattle.spec.specs.Productions.{statement}
-use Rattle.spec.specs.XmlLiteral.{startTagXml, endTagXml, textXml, takesXml, addXml}
+use Rattle.spec.specs.XmlLiteral.{startTagXml, endTagXml, textByte, textXml, takesXml, addXml}
 use Rattle.spec.specs.Opening.{Step, isSecondRoot, knownAttribute, copyElement, openIn, isXml, repeated, onOpening}
 use Rattle.spec.specs.EndTag.{endValue, endKind, closeElement}
 use Rattle.spec.specs.RdfXml.{onText, onEvent, next}
 use Rattle.spec.proofs.Bytes.{same-refl}
 use Rattle.theorems.specs.AttributeNames.{known-each}
-use Rattle.section7.specs.Events.{Content, end, characters, element, events}
-use Rattle.section7.specs.Grammar.{xmlText, Tagged, Copied, Used}
+use Rattle.theorems.specs.Roles.{or-none}
+use Rattle.section7.specs.Events.{Content, end, characters, instruction, comment, element, ended, events-after, same-name, stands-in, repeats-name}
+use Rattle.section7.specs.Grammar.{WellFormedTag, XmlContent, Used}
+use Rattle.section7.specs.Differences.{xmlText}
 use Rattle.section7.specs.Reading.{Gives, Steps, Runs, doc}
-use Rattle.section7.specs.Giving.{_first_, _before_, no-event, gives-limit, gives-pass, gives-within}
+use Rattle.section7.specs.Giving.{_first_, _before_, no-event, gives-limit, gives-pass, gives-within, instruction-gives}
+
+-- ---- names as written
+
+not-written : (bs : List Binding) (n : Bytes) (as′ : List Attribute) → stands-in bs n as′ ≡ false → member n (map nameOf as′) ≡ false
+unfolding stands-in same-name member nameOf
+not-written bs n [] h = refl
+not-written bs n (attribute m v ∷ as′) h =
+    let k : (same-name bs n m ≡ false) × (stands-in bs n as′ ≡ false) = or-none (same-name bs n m) (stands-in bs n as′) h in
+    rw (or-none (same n m) _ (k .0) .0) (not-written bs n as′ (k .1))
+
+-- attributes that are unique are so as written
+written-once : (bs : List Binding) (as′ : List Attribute) → repeats-name bs as′ ≡ false → repeatsWritten as′ ≡ false
+unfolding repeats-name repeatsWritten repeats nameOf
+written-once bs [] h = refl
+written-once bs (attribute n v ∷ as′) h =
+    let k : (stands-in bs n as′ ≡ false) × (repeats-name bs as′ ≡ false) = or-none (stands-in bs n as′) (repeats-name bs as′) h in
+    rw (not-written bs n as′ (k .0)) (written-once bs as′ (k .1))
+
+-- ---- XML text
+
+text-append : (p s : Bytes) → textXml (p ++ s) ≡ textXml p ++ textXml s
+unfolding textXml coded
+text-append [] s = refl
+text-append (a ∷ p) s = rw (text-append p s) (sym (append-assoc (textByte a) (textXml p) (textXml s)))
 
 -- elements inside Literal content
 abbrev AllXml : List Frame → Type 0
@@ -60,20 +86,20 @@ module _ (b : Option Bytes) (p : Property) (g : Frame) (fs : List Frame) (u : Us
   }
 
   -- 6 is not given
-  copy-legal : (n : Bytes) (as′ : List Attribute) (y : Bytes) (xs : List Frame) (bs : List Binding) → Tagged bs n as′
+  copy-legal : (n : Bytes) (as′ : List Attribute) (y : Bytes) (xs : List Frame) (bs : List Binding) → WellFormedTag bs n as′
       → (not (isSecondRoot (doc b (xs ++ around y) u)) && (allLegal (declared as′) && not (repeated xml as′ (doc b (xs ++ around y) u)))) ≡ true
   unfolding isSecondRoot doc isEmpty repeated isXml if_then_else_
-  copy-legal n as′ y [] bs t = rw (t .legal, t .once)
-  copy-legal n as′ y (f ∷ xs) bs t = rw (t .legal, t .once)
+  copy-legal n as′ y [] bs t = rw (t .legal, written-once (declared as′ ++ bs) as′ (t .once))
+  copy-legal n as′ y (f ∷ xs) bs t = rw (t .legal, written-once (declared as′ ++ bs) as′ (t .once))
 
-  copied : (n : Bytes) (as′ : List Attribute) (y : Bytes) (xs : List Frame) → AllXml xs → Tagged (inScope (xs ++ around y)) n as′
+  copied : (n : Bytes) (as′ : List Attribute) (y : Bytes) (xs : List Frame) → AllXml xs → WellFormedTag (inScope (xs ++ around y)) n as′
       → Gives (copyElement n as′ (doc b (xs ++ around y) u)) [] (doc b ((copy n as′ ∷ xs) ++ around (y ++ startTagXml n as′)) u)
   unfolding copyElement doc addXml withFrames _>>=_ _>>_ require_or_
   copied n as′ y xs a t =
       let k : (us : List (Unit {0})) × (each (knownAttribute (declared as′ ++ inScope (xs ++ around y))) as′ ≡ good us) = known-each _ as′ (t .all-known) in
       rw (t .known, k .1, takes-xml (startTagXml n as′) y xs a) refl
 
-  tag-copied : (n : Bytes) (as′ : List Attribute) (y : Bytes) (xs : List Frame) → AllXml xs → Tagged (inScope (xs ++ around y)) n as′
+  tag-copied : (n : Bytes) (as′ : List Attribute) (y : Bytes) (xs : List Frame) → AllXml xs → WellFormedTag (inScope (xs ++ around y)) n as′
       → Steps (opening n as′) (doc b (xs ++ around y) u) [] (doc b ((copy n as′ ∷ xs) ++ around (y ++ startTagXml n as′)) u)
   unfolding next onEvent onOpening openIn doc
   tag-copied n as′ y xs a t = record {
@@ -93,21 +119,33 @@ module _ (b : Option Bytes) (p : Property) (g : Frame) (fs : List Frame) (u : Us
         (gives-pass _ NotWellFormed _ _ _ (same-refl n) (rw (takes-xml (endTagXml n) y xs a) refl));
   }
 
+  -- characters that have no event yet
+  ended-copied : (p y : Bytes) (xs : List Frame) {es : List Event} {d : Doc} → AllXml xs
+      → Runs es (doc b (xs ++ around (y ++ textXml p)) u) [] d → Runs (ended p es) (doc b (xs ++ around y) u) [] d
+  unfolding ended textXml coded
+  ended-copied [] y xs a r = rw (append-nil y) at r
+  ended-copied (c ∷ s) y xs a r = text-copied (c ∷ s) y xs a first r
+
   -- any content
-  pub copy-runs : (x : Content) (y : Bytes) (xs : List Frame) → AllXml xs → Copied (inScope (xs ++ around [])) x → Runs (events x) (doc b (xs ++ around y) u) [] (doc b (xs ++ around (y ++ xmlText x)) u)
-  unfolding events xmlText inScope
-  copy-runs end y xs a t = rw (append-nil y) no-event
-  copy-runs (characters s f) y xs a t = rw (← append-assoc y (textXml s) (xmlText f)) (text-copied s y xs a first copy-runs f (y ++ textXml s) xs a t)
-  copy-runs (element n as′ children f) y xs a t =
-      let y₁ : Bytes = y ++ startTagXml n as′ in
+  pub copy-runs : (x : Content) (p y : Bytes) (xs : List Frame) → AllXml xs → XmlContent (inScope (xs ++ around [])) x
+      → Runs (events-after p x) (doc b (xs ++ around y) u) [] (doc b (xs ++ around (y ++ (textXml p ++ xmlText x))) u)
+  unfolding events-after xmlText inScope textXml coded
+  copy-runs end p y xs a t = rw (append-nil (textXml p)) (ended-copied p y xs a no-event)
+  copy-runs (characters s f) p y xs a t = rw (← append-assoc (textXml p) (textXml s) (xmlText f), ← text-append p s) (copy-runs f (p ++ s) y xs a t)
+  copy-runs (instruction s f) p y xs a t = rw (← append-assoc y (textXml p) (xmlText f)) (ended-copied p y xs a (instruction-gives first copy-runs f [] (y ++ textXml p) xs a t))
+  copy-runs (comment s f) p y xs a t = copy-runs f p y xs a t
+  copy-runs (element n as′ children f) p y xs a t =
+      let y₀ : Bytes = y ++ textXml p in
+      let y₁ : Bytes = y₀ ++ startTagXml n as′ in
       let y₂ : Bytes = y₁ ++ xmlText children in
-      let z : y ++ (startTagXml n as′ ++ (xmlText children ++ (endTagXml n ++ xmlText f))) ≡ (y₂ ++ endTagXml n) ++ xmlText f
-      = sym (append-assoc y₂ (endTagXml n) (xmlText f) ∙ (append-assoc y₁ (xmlText children) (endTagXml n ++ xmlText f) ∙ append-assoc y (startTagXml n as′) (xmlText children ++ (endTagXml n ++ xmlText f)))) in
-      rw z
-      (tag-copied n as′ y xs a (rw (xml-scope [] y xs) at (t .0))
-      first copy-runs children y₁ (copy n as′ ∷ xs) (refl, a) (t .1)
+      let z : y₀ ++ (startTagXml n as′ ++ (xmlText children ++ (endTagXml n ++ xmlText f))) ≡ (y₂ ++ endTagXml n) ++ xmlText f
+      = sym (append-assoc y₂ (endTagXml n) (xmlText f) ∙ (append-assoc y₁ (xmlText children) (endTagXml n ++ xmlText f) ∙ append-assoc y₀ (startTagXml n as′) (xmlText children ++ (endTagXml n ++ xmlText f)))) in
+      rw (← append-assoc y (textXml p) (startTagXml n as′ ++ (xmlText children ++ (endTagXml n ++ xmlText f))), z)
+      (ended-copied p y xs a
+      (tag-copied n as′ y₀ xs a (rw (xml-scope [] y₀ xs) at (t .0))
+      first copy-runs children [] y₁ (copy n as′ ∷ xs) (refl, a) (t .1)
       before end-copied n as′ y₂ xs a
-      first copy-runs f (y₂ ++ endTagXml n) xs a (t .2))
+      first copy-runs f [] (y₂ ++ endTagXml n) xs a (t .2)))
 
 -- 17 is not given: the statement, at the end tag
 pub xml-closes : (b : Option Bytes) (p : Property) (g : Frame) (fs : List Frame) (u : Used) (x : Bytes) → isEmpty x ≡ false
