@@ -11,6 +11,7 @@ use Rattle.spec.specs.Namespaces.{Binding, declared, isDeclaration, nameOf, loo
 use Rattle.spec.specs.NTriples.{coded}
 use Rattle.spec.specs.XmlLiteral.{attributesXml, endTagXml}
 use Rattle.section7.specs.Events.{Content, end, characters, instruction, comment, element, uri-of}
+use Rattle.section7.specs.Events as E
 
 -- ---- order: Canonical XML 1.0, 2.2, document order
 
@@ -93,5 +94,5 @@ canonical bs rs (element n as′ children following) =
     ++ (canonical (declared as′ ++ bs) (rendered (declared as′ ++ bs) rs n as′ ++ rs) children ++ (endTagXml n ++ canonical bs rs following))
 
 unfoldable pub all : Unit {0}
-unfolding precedes put sorted before-binding space-of before-attribute attribute-prefixes once-each used-prefixes is-rendered rendered declaration character start-tag canonical
+unfolding E.all precedes put sorted before-binding space-of before-attribute attribute-prefixes once-each used-prefixes is-rendered rendered declaration character start-tag canonical
 all = tt

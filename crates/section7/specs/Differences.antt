@@ -20,6 +20,7 @@ use Rattle.spec.specs.XmlLiteral.{startTagXml, endTagXml, textXml}
 use Rattle.section7.specs.Events.{Content, end, characters, instruction, comment, element, events, text-of, Context, written, inside, AttributeEvent, uri-of, is-reserved}
 use Rattle.section7.specs.Canonical.{canonical}
 use Rattle.section7.specs.Grammar.{value, attrs, nodeID, literalAttribute, parseOther, Identifier, iri-of, Used, outermost}
+use Rattle.section7.specs.Grammar as G
 
 -- ---- what the clauses speak of
 
@@ -69,20 +70,44 @@ pub record NoDifferenceInTag (c : Context) (as′ : List Attribute) : Type 0 whe
 
 -- ---- of a property element
 
+abbrev pub parseType : Context → List Attribute → Option Bytes
+parseType c as′ = value (rdf "parseType") (attrs c as′)
+
+-- a test of what may be missing
+unfoldable pub if-any : Option Bytes → (Bytes → Bool) → Bool
+if-any none test = true
+if-any (some v) test = test v
+
+-- 7.2.16: the text of a property without rdf:parseType
+unfoldable pub literal-text : Option Bytes → Option Bytes → Option Bytes
+literal-text (some v) t = none
+literal-text none none = none
+literal-text none (some t) = if isEmpty t then none else some t
+
+-- one text, and this
+unfoldable pub is-one : Bytes → List Bytes → Bool
+is-one t [] = false
+is-one t (s ∷ []) = same s t
+is-one t (s ∷ r ∷ l) = false
+
+unfoldable pub is-literal : Option Bytes → Bool
+is-literal none = false
+is-literal (some v) = same v (ascii "Literal")
+
 pub record NoDifferenceInProperty (c : Context) (as′ : List Attribute) (children : Content) : Type 0 where
   -- 7.2.16: white space is a literal; the empty one
-  pub blank-text : (t : Bytes) → value (rdf "parseType") (attrs c as′) ≡ none → text-of children ≡ some t → isEmpty t ≡ false → isBlank t ≡ false
+  pub blank-text : if-any (literal-text (parseType c as′) (text-of children)) (λ t. not (isBlank t)) ≡ true
   -- 6: text on both sides of an instruction is one; the last piece
-  pub divided-text : (t : Bytes) → value (rdf "parseType") (attrs c as′) ≡ none → text-of children ≡ some t → isEmpty t ≡ false → texts (events children) ≡ t ∷ []
+  pub divided-text : if-any (literal-text (parseType c as′) (text-of children)) (λ t. is-one t (texts (events children))) ≡ true
   -- 7.2.21: rdf:type, the only property attribute, is of a node; nothing
-  pub type-alone : value (rdf "parseType") (attrs c as′) ≡ none → value (rdf "resource") (attrs c as′) ≡ none → nodeID c as′ ≡ none
-      → those literalAttribute (attrs c as′) ≡ [] → value (rdf "type") (attrs c as′) ≡ none
+  pub type-alone : (isSome (parseType c as′) || (isSome (value (rdf "resource") (attrs c as′)) || (isSome (nodeID c as′)
+      || (not (isEmpty (those literalAttribute (attrs c as′))) || not (isSome (value (rdf "type") (attrs c as′))))))) ≡ true
   -- 7.2.20: as Literal; nothing
-  pub other-parseType : (v : Bytes) → value (rdf "parseType") (attrs c as′) ≡ some v → parseOther v ≡ false
+  pub other-parseType : if-any (parseType c as′) (λ v. not (parseOther v)) ≡ true
   -- 7.2.17: the empty XML literal; 17
-  pub empty-literal : value (rdf "parseType") (attrs c as′) ≡ some (ascii "Literal") → isEmpty (xmlText children) ≡ false
+  pub empty-literal : (not (is-literal (parseType c as′)) || not (isEmpty (xmlText children))) ≡ true
   -- 7.2.17: the canonical form; as document 01 writes it
-  pub xml-literal : value (rdf "parseType") (attrs c as′) ≡ some (ascii "Literal") → canonical (declared as′ ++ c .bindings) [] children ≡ xmlText children
+  pub xml-literal : (not (is-literal (parseType c as′)) || same (canonical (declared as′ ++ c .bindings) [] children) (xmlText children)) ≡ true
 
 -- ---- of a tree
 
@@ -132,3 +157,7 @@ pub record NoDifferences (b : Option Bytes) (x : Content) (u : Used) : Type 0 wh
   pub in-elements : NoDifference document (outermost b) x
   -- constraint-id: two pairs of a base and an rdf:ID are two; 12 where they are one IRI
   pub ids-of-one-iri : OneIriEach (u .ids)
+
+unfoldable pub all : Unit {0}
+unfolding G.all texts xmlText says is-free-label if-any literal-text is-one is-literal by-parseType place-in element-uri
+all = tt
