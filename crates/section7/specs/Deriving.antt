@@ -36,11 +36,16 @@ abbrev pub Said : Type 0
 Said = Bool × Answer Bytes × Answer (Option Bytes) × Answer (Option Bytes) × Answer (Option Bytes) × Answer (Option Bytes) × Answer (Option Bytes) × Answer (Option Bytes)
 
 unfoldable pub says-all : Context → Bytes → List Attribute → List Identifier → Said
-says-all c n as′ ids =
-    (tests c as′ ids, expandElement (declared as′ ++ c .bindings) n, resolved (c .base-uri) (written (ascii "xml:base") as′),
-    resolved (inside as′ c .base-uri) (withHash (value (rdf "ID") (attrs c as′))), resolved (inside as′ c .base-uri) (value (rdf "about") (attrs c as′)),
-    resolved (inside as′ c .base-uri) (value (rdf "resource") (attrs c as′)), resolved (inside as′ c .base-uri) (value (rdf "datatype") (attrs c as′)),
-    resolved (inside as′ c .base-uri) (value (rdf "type") (attrs c as′)))
+says-all c n as′ ids = (
+  tests c as′ ids,
+  expandElement (declared as′ ++ c .bindings) n,
+  resolved (c .base-uri) (written (ascii "xml:base") as′),
+  resolved (inside as′ c .base-uri) (withHash (value (rdf "ID") (attrs c as′))),
+  resolved (inside as′ c .base-uri) (value (rdf "about") (attrs c as′)),
+  resolved (inside as′ c .base-uri) (value (rdf "resource") (attrs c as′)),
+  resolved (inside as′ c .base-uri) (value (rdf "datatype") (attrs c as′)),
+  resolved (inside as′ c .base-uri) (value (rdf "type") (attrs c as′)),
+)
 
 unfoldable pub start : (c : Context) (n : Bytes) (as′ : List Attribute) (ids : List Identifier) (uri : Bytes) (base id about resource datatype type : Option Bytes)
     → says-all c n as′ ids ≡ (true, good uri, good base, good id, good about, good resource, good datatype, good type) → StartElement c n as′ ids

@@ -157,7 +157,7 @@ unfolding D.all lines run gives literal-tag
 xml-literal-namespaces = record {
   used = behind-root;
   accepted = accepted-in-node (parseTypeLiteralPropertyElt literal-tag refl (refl, tt) refl
-  (record { legal = refl; once = refl; known = refl; all-known = (λ h. refl, (λ h. refl, tt)) }, tt, tt) noProperty);
+      (record { legal = refl; once = refl; known = refl; all-known = (λ h. refl, (λ h. refl, tt)) }, tt, tt) noProperty);
   read = refl;
   others = refl;
 }
@@ -314,7 +314,7 @@ unfolding D.all lines run gives rdf-tag id-tag₁ id-tag₂
 ids-of-one-iri = record {
   used = record { labels = 2; ids = (some (ascii "http://h/a#f"), ascii "x") ∷ x₁ ∷ [] };
   accepted = RDF rdf-tag refl refl
-  (nodeElement id-tag₁ refl (refl, tt) refl refl refl refl noProperty (nodeElement id-tag₂ refl (refl, tt) refl refl refl refl noProperty noNode)) tt;
+      (nodeElement id-tag₁ refl (refl, tt) refl refl refl refl noProperty (nodeElement id-tag₂ refl (refl, tt) refl refl refl refl noProperty noNode)) tt;
   read = refl;
   others = refl;
 }
