@@ -37,23 +37,23 @@ pub record Differs (b : Option Bytes) (x : Content) (ts : List Triple) (answer :
 
 -- ---- a document with one node element
 
-abbrev names : List Attribute
+abbrev pub names : List Attribute
 names = attribute (ascii "xmlns:rdf") (rdf "") ∷ attribute (ascii "xmlns:e") (ascii "http://e/") ∷ []
 
-abbrev p-attributes : List Attribute
+abbrev pub p-attributes : List Attribute
 p-attributes = attribute (ascii "rdf:about") (ascii "http://e/p") ∷ names
 
 -- <e:P .. rdf:about="http://e/p">..</e:P>
-abbrev in-node : Content → Content
+abbrev pub in-node : Content → Content
 in-node x = element (ascii "e:P") p-attributes x end
 
-abbrev p : Subject
+abbrev pub p : Subject
 p = named (ascii "http://e/p")
 
-abbrev q : Bytes
+abbrev pub q : Bytes
 q = ascii "http://e/q"
 
-abbrev type-of-p : Triple
+abbrev pub type-of-p : Triple
 type-of-p = triple p (rdf "type") (node (named (ascii "http://e/P")))
 
 abbrev top : Context
@@ -75,10 +75,10 @@ unfolding D.all root
 accepted-in-node {ts = ts} m = rw (← append-nil ts) (alone (nodeElement root refl (refl, tt) refl refl refl refl m noNode) tt)
 
 -- a property in it
-abbrev q-with : List Attribute → Content → Content
+abbrev pub q-with : List Attribute → Content → Content
 q-with as′ x = in-node (element (ascii "e:q") as′ x end)
 
-abbrev only : String → String → List Attribute
+abbrev pub only : String → String → List Attribute
 only n v = attribute (ascii n) (ascii v) ∷ []
 
 q-tag : StartElement in-p (ascii "e:q") [] []

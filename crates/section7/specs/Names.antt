@@ -21,7 +21,7 @@ unfoldable pub within : List Bytes → List Bytes → Bool
 within [] m = true
 within (x ∷ l) m = member x m && within l m
 
-pub sub-member : (i : Bytes) (l m : List Bytes) → within l m ≡ true → member i l ≡ true → member i m ≡ true
+sub-member : (i : Bytes) (l m : List Bytes) → within l m ≡ true → member i l ≡ true → member i m ≡ true
 unfolding within member
 sub-member i [] m w h = absurd (false≢true h)
 sub-member i (x ∷ l) m w h = elim (or-cases (same i x) (member i l) h) [

@@ -1,6 +1,5 @@
 -- What the productions ask of attributes and children alone, as a test: what fails it is not in the grammar.
 use mathlib.Core.Path.{_≡_, refl, sym, _∙_, ap}
-use mathlib.Core.Logic.{inl, inr}
 use mathlib.Core.Bool.{Bool, true, false, _&&_, _||_, not, false≢true}
 use mathlib.Core.Option.{Option, none, some}
 use mathlib.Core.List.{List, [], _∷_, _++_}
@@ -12,11 +11,10 @@ use Rattle.spec.specs.Bytes.{Bytes, ascii, if_then_else_, same, isEmpty, isSome
 use Rattle.spec.specs.Pyx.{Attribute}
 use Rattle.spec.specs.Namespaces.{declared}
 use Rattle.spec.specs.Rdf.{rdf}
-use Rattle.spec.specs.Rdf as F
 use Rattle.theorems.specs.Roles.{or-none}
 use Rattle.spec.specs.NTriples.{Subject, Triple}
 use Rattle.spec.specs.RdfXml.{isBlank}
-use Rattle.spec.proofs.Booleans.{or-cases, or-left, or-right, and-both}
+use Rattle.spec.proofs.Booleans.{or-left, or-right, and-both}
 use Rattle.spec.proofs.Bytes.{same-refl}
 use Rattle.section7.specs.Events.{Content, end, characters, instruction, comment, element, before-text, text-of, Context, inside, AttributeEvent}
 use Rattle.section7.specs.Grammar as G
@@ -28,7 +26,6 @@ use Rattle.section7.specs.Productions.{only-parseType, datatype-parseTyp
 use Rattle.section7.specs.Section7.{inside-resource, inside-collection, inside-default}
 use Rattle.section7.specs.Documents.{uri-same, not-root, inside-rdf, inside-node}
 use Rattle.section7.specs.OtherEvents.{before-some, no-text}
-use Rattle.section7.specs.Names.{within, sub-member}
 
 -- ---- the test
 
@@ -59,7 +56,8 @@ is-spaced (element n as′ children following) = is-spaced following
 unfoldable pub default-shape : Option Bytes → List AttributeEvent → Content → Bool
 default-shape none as′ x = only (rdf "ID" ∷ []) as′ && (eqb (elements-in x) 1 && is-spaced x)
 default-shape (some t) as′ x =
-    if isEmpty t then or-properties (rdf "ID" ∷ rdf "resource" ∷ rdf "nodeID" ∷ rdf "datatype" ∷ []) as′ else only (rdf "ID" ∷ rdf "datatype" ∷ []) as′
+    if isEmpty t then or-properties (rdf "ID" ∷ rdf "resource" ∷ rdf "nodeID" ∷ []) as′ || or-properties (rdf "ID" ∷ rdf "datatype" ∷ []) as′ else
+    only (rdf "ID" ∷ rdf "datatype" ∷ []) as′
 
 -- 7.2.14, by rdf:parseType
 unfoldable pub property-shape : Option Bytes → List AttributeEvent → Content → Bool
@@ -118,29 +116,11 @@ no-text-with (G.ignoredInstruction m) = no-text-with m
 no-text-with (G.ignoredComment m) = no-text-with m
 no-text-with (G.nodeElement e h a p q r s m₁ m₂) = refl
 
--- a longer list
-longer-only : (us vs : List Bytes) → within us vs ≡ true → (as′ : List AttributeEvent) → G.Only us as′ → or-properties vs as′ ≡ true
+-- property attributes are not asked for
+without-properties : (us : List Bytes) (as′ : List AttributeEvent) → G.Only us as′ → or-properties us as′ ≡ true
 unfolding or-properties
-longer-only us vs w [] h = refl
-longer-only us vs w (a ∷ as′) h = and-both _ _ (or-left _ _ (sub-member (a .0) us vs w (h .0))) (longer-only us vs w as′ (h .1))
-
-longer-or : (us vs : List Bytes) → within us vs ≡ true → (as′ : List AttributeEvent) → G.OrProperties us as′ → or-properties vs as′ ≡ true
-unfolding or-properties
-longer-or us vs w [] h = refl
-longer-or us vs w (a ∷ as′) h = and-both _ _ either (longer-or us vs w as′ (h .1))
-  where
-    either : (member (a .0) vs || propertyAttributeURIs (a .0)) ≡ true
-    either = elim (or-cases (member (a .0) us) (propertyAttributeURIs (a .0)) (h .0)) [
-      | inl m ↦ or-left _ _ (sub-member (a .0) us vs w m)
-      | inr q ↦ or-right (member (a .0) vs) _ q
-    ]
-
-abbrev of-empty : List Bytes
-of-empty = rdf "ID" ∷ rdf "resource" ∷ rdf "nodeID" ∷ rdf "datatype" ∷ []
-
-among-empty : (within (rdf "ID" ∷ rdf "datatype" ∷ []) of-empty ≡ true) × (within (rdf "ID" ∷ rdf "resource" ∷ rdf "nodeID" ∷ []) of-empty ≡ true)
-unfolding within F.all
-among-empty = (refl, refl)
+without-properties us [] h = refl
+without-properties us (a ∷ as′) h = and-both _ _ (or-left _ _ (h .0)) (without-properties us as′ (h .1))
 
 -- content without elements, and XML content
 text-shaped : (p : Place) (c : Context) (x : Content) (t : Bytes) → text-of x ≡ some t → is-shaped p c x ≡ true
@@ -176,7 +156,8 @@ module _ (as′ : List AttributeEvent) (x : Content) where
   unfolding property-shape default-shape if_then_else_
   text-passes t h full a = rw (datatype-parseType as′ a, h, full) (passes-only _ as′ a)
 
-  empty-passes : text-of x ≡ some [] → value (rdf "parseType") as′ ≡ none → or-properties of-empty as′ ≡ true → property-shape (value (rdf "parseType") as′) as′ x ≡ true
+  empty-passes : text-of x ≡ some [] → value (rdf "parseType") as′ ≡ none
+      → (or-properties (rdf "ID" ∷ rdf "resource" ∷ rdf "nodeID" ∷ []) as′ || or-properties (rdf "ID" ∷ rdf "datatype" ∷ []) as′) ≡ true → property-shape (value (rdf "parseType") as′) as′ x ≡ true
   unfolding property-shape default-shape if_then_else_ isEmpty
   empty-passes h n a = rw (n, h) a
 
@@ -215,11 +196,11 @@ row-shaped (G.parseTypeCollectionPropertyElt {c = c} {as′ = as′} {children =
 row-shaped (G.parseTypeOtherPropertyElt {c = c} {v = v} {as′ = as′} {children = x} e h a t o w m) =
     three _ _ _ (parseType-passes (attrs c as′) x _ t a) (placed (inside as′ c) x (inside-other [] v _ t o) (xml-shaped _ x)) (row-shaped m)
 row-shaped (G.emptyPropertyElt {c = c} {as′ = as′} {children = x} e h a is m) =
-    three _ _ _ (empty-passes (attrs c as′) x is (datatype-parseType (attrs c as′) a) (longer-only _ _ (among-empty .0) _ a)) (text-shaped _ _ x [] is) (row-shaped m)
+    three _ _ _ (empty-passes (attrs c as′) x is (datatype-parseType (attrs c as′) a) (or-right (or-properties _ (attrs c as′)) _ (without-properties _ _ a))) (text-shaped _ _ x [] is) (row-shaped m)
 row-shaped (G.emptyPropertyEltNamed {c = c} {as′ = as′} {children = x} e h a two one is o m) =
-    three _ _ _ (empty-passes (attrs c as′) x is (object-parseType (attrs c as′) a) (longer-or _ _ (among-empty .1) _ a)) (text-shaped _ _ x [] is) (row-shaped m)
+    three _ _ _ (empty-passes (attrs c as′) x is (object-parseType (attrs c as′) a) (or-left _ _ (passes-or _ _ a))) (text-shaped _ _ x [] is) (row-shaped m)
 row-shaped (G.emptyPropertyEltBlank {c = c} {as′ = as′} {children = x} e h a one is o m) =
-    three _ _ _ (empty-passes (attrs c as′) x is (blank-parseType (attrs c as′) a) (longer-or _ _ (among-empty .0) _ a)) (text-shaped _ _ x [] is) (row-shaped m)
+    three _ _ _ (empty-passes (attrs c as′) x is (blank-parseType (attrs c as′) a) (or-right (or-properties _ (attrs c as′)) _ (passes-or _ _ a))) (text-shaped _ _ x [] is) (row-shaped m)
 
 misc-shaped : (p : Place) (c : Context) (x : Content) → Misc x → is-shaped p c x ≡ true
 unfolding is-shaped
