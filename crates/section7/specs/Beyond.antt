@@ -99,6 +99,11 @@ pub attributes-and-parseType : Beyond (q-with (attribute (ascii "e:a") (ascii "1
 unfolding S.all lines run
 attributes-and-parseType = beyond refl refl
 
+-- <e:q rdf:parseType="Resource" rdf:nodeID="k" rdf:resource="http://e/r"/>
+pub objects-and-parseType : Beyond (q-with (attribute (ascii "rdf:parseType") (ascii "Resource") ∷ attribute (ascii "rdf:nodeID") (ascii "k") ∷ only "rdf:resource" "http://e/r") end) (type-of-p ∷ is (label 2) ∷ [])
+unfolding S.all lines run
+objects-and-parseType = beyond refl refl
+
 -- <e:q rdf:resource="http://e/r">t</e:q>
 pub resource-and-text : Beyond (q-with (only "rdf:resource" "http://e/r") (characters (ascii "t") end)) (type-of-p ∷ triple p q (plain (ascii "t")) ∷ [])
 unfolding S.all lines run
