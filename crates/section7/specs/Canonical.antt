@@ -1,4 +1,4 @@
--- Exclusive XML Canonicalization 1.0, with comments and an empty list of inclusive prefixes: the text of an XML literal (7.2.17).
+-- Exclusive XML Canonicalization 1.0, with comments and no inclusive prefixes: the text of an XML literal (7.2.17).
 use mathlib.Core.Bool.{Bool, true, false, _&&_, _||_, not}
 use mathlib.Core.Option.{Option, none, some}
 use mathlib.Core.List.{List, [], _∷_, _++_, map}
@@ -40,13 +40,15 @@ space-of bs (attribute n v) = if isEmpty (prefixOf n) then [] else uri-of (names
 -- attributes by namespace, then by local name
 unfoldable pub before-attribute : List Binding → Attribute → Attribute → Bool
 before-attribute bs a b =
-    precedes (space-of bs a) (space-of bs b) || (same (space-of bs a) (space-of bs b) && precedes (localOf (nameOf a)) (localOf (nameOf b)))
+    precedes (space-of bs a) (space-of bs b)
+    || (same (space-of bs a) (space-of bs b) && precedes (localOf (nameOf a)) (localOf (nameOf b)))
 
--- ---- namespaces: those that an element or its attributes use, and that no element around it in the output has with this value
+-- ---- namespaces: those that an element or its attributes use, and that the output around it does not have so
 
 -- the prefixes used: of the element, empty for the default, and of attributes that have one
 unfoldable pub attribute-prefixes : List Attribute → List Bytes
-attribute-prefixes as′ = those (λ p. not (isEmpty p)) (map (λ a. prefixOf (nameOf a)) (those (λ a. not (isDeclaration a)) as′))
+attribute-prefixes as′ =
+    those (λ p. not (isEmpty p)) (map (λ a. prefixOf (nameOf a)) (those (λ a. not (isDeclaration a)) as′))
 
 unfoldable pub once-each : List Bytes → List Bytes
 once-each [] = []
@@ -61,7 +63,8 @@ is-rendered rs b = same (uri-of (lookUp (b .0) rs)) (b .1)
 
 unfoldable pub rendered : List Binding → List Binding → Bytes → List Attribute → List Binding
 rendered bs rs n as′ =
-    those (λ b. not (is-rendered rs b)) (sorted before-binding (map (λ p. (p, uri-of (namespace bs p))) (used-prefixes n as′)))
+    those (λ b. not (is-rendered rs b))
+    (sorted before-binding (map (λ p. (p, uri-of (namespace bs p))) (used-prefixes n as′)))
 
 -- as an attribute
 unfoldable pub declaration : Binding → Attribute
@@ -91,7 +94,8 @@ canonical bs rs (instruction s following) = ascii "<?" ++ (s ++ (ascii "?>" ++ c
 canonical bs rs (comment s following) = ascii "<!--" ++ (s ++ (ascii "-->" ++ canonical bs rs following))
 canonical bs rs (element n as′ children following) =
     start-tag (declared as′ ++ bs) rs n as′
-    ++ (canonical (declared as′ ++ bs) (rendered (declared as′ ++ bs) rs n as′ ++ rs) children ++ (endTagXml n ++ canonical bs rs following))
+    ++ (canonical (declared as′ ++ bs) (rendered (declared as′ ++ bs) rs n as′ ++ rs) children
+    ++ (endTagXml n ++ canonical bs rs following))
 
 unfoldable pub all : Unit {0}
 unfolding E.all precedes put sorted before-binding space-of before-attribute attribute-prefixes once-each used-prefixes is-rendered rendered declaration character start-tag canonical

@@ -1,5 +1,5 @@
--- Where the reader gives something else for a tree that section 7 accepts: one clause for each difference, under its name in docs/DIFFERENCES.md.
--- Differing has an input for each.
+-- Where the reader gives something else for a tree that section 7 accepts: one clause for each difference, under its name
+-- in docs/DIFFERENCES.md; a comment says what section 7 has, and then what the reader does. Differing has an input for each.
 use mathlib.Core.Path.{_≡_}
 use mathlib.Core.Bool.{Bool, true, false, _&&_, _||_, not}
 use mathlib.Core.Option.{Option, none, some}
@@ -38,7 +38,8 @@ xmlText end = []
 xmlText (characters s following) = textXml s ++ xmlText following
 xmlText (instruction s following) = xmlText following
 xmlText (comment s following) = xmlText following
-xmlText (element n as′ children following) = startTagXml n as′ ++ (xmlText children ++ (endTagXml n ++ xmlText following))
+xmlText (element n as′ children following) =
+    startTagXml n as′ ++ (xmlText children ++ (endTagXml n ++ xmlText following))
 
 -- of the attribute with this name as written
 unfoldable pub says : String → (Bytes → Bool) → Attribute → Bool
@@ -98,16 +99,21 @@ pub record NoDifferenceInProperty (c : Context) (as′ : List Attribute) (childr
   -- 7.2.16: white space is a literal; the empty one
   pub blank-text : if-any (literal-text (parseType c as′) (text-of children)) (λ t. not (isBlank t)) ≡ true
   -- 6: text on both sides of an instruction is one; the last piece
-  pub divided-text : if-any (literal-text (parseType c as′) (text-of children)) (λ t. is-one t (texts (events children))) ≡ true
+  pub divided-text :
+      if-any (literal-text (parseType c as′) (text-of children)) (λ t. is-one t (texts (events children))) ≡ true
   -- 7.2.21: rdf:type, the only property attribute, is of a node; nothing
-  pub type-alone : (isSome (parseType c as′) || (isSome (value (rdf "resource") (attrs c as′)) || (isSome (nodeID c as′)
-      || (not (isEmpty (those literalAttribute (attrs c as′))) || not (isSome (value (rdf "type") (attrs c as′))))))) ≡ true
+  pub type-alone :
+      (isSome (parseType c as′) || (isSome (value (rdf "resource") (attrs c as′)) || (isSome (nodeID c as′)
+      || (not (isEmpty (those literalAttribute (attrs c as′)))
+      || not (isSome (value (rdf "type") (attrs c as′))))))) ≡ true
   -- 7.2.20: as Literal; nothing
   pub other-parseType : if-any (parseType c as′) (λ v. not (parseOther v)) ≡ true
   -- 7.2.17: the empty XML literal; 17
   pub empty-literal : (not (is-literal (parseType c as′)) || not (isEmpty (xmlText children))) ≡ true
   -- 7.2.17: the canonical form; as document 01 writes it
-  pub xml-literal : (not (is-literal (parseType c as′)) || same (canonical (declared as′ ++ c .bindings) [] children) (xmlText children)) ≡ true
+  pub xml-literal :
+      (not (is-literal (parseType c as′)) || same (canonical (declared as′ ++ c .bindings) [] children) (xmlText children))
+      ≡ true
 
 -- ---- of a tree
 
@@ -118,7 +124,8 @@ pub data Place : Type 0 where
 -- what stands inside an element there, by its URI and its rdf:parseType
 unfoldable pub by-parseType : Option Bytes → Place
 by-parseType none = nodes
-by-parseType (some v) = if same v (ascii "Resource") then properties else if same v (ascii "Collection") then nodes else xml
+by-parseType (some v) =
+    if same v (ascii "Resource") then properties else if same v (ascii "Collection") then nodes else xml
 
 unfoldable pub place-in : Place → Bytes → Option Bytes → Place
 place-in document uri p = if same uri (rdf "RDF") then nodes else properties
@@ -145,7 +152,7 @@ NoDifference p c (instruction s following) = NoDifference p c following
 NoDifference p c (comment s following) = NoDifference p c following
 NoDifference p c (element n as′ children following) =
     NoDifferenceIn p c as′ children
-    × NoDifference (place-in p (element-uri (declared as′ ++ c .bindings) n) (value (rdf "parseType") (attrs c as′))) (inside as′ c) children
+    × NoDifference (place-in p (element-uri (declared as′ ++ c .bindings) n) (parseType c as′)) (inside as′ c) children
     × NoDifference p c following
 
 -- each rdf:ID is another IRI

@@ -72,7 +72,7 @@ behind-root = record { labels = 1; ids = [] }
 -- its properties are enough
 accepted-in-node : {x : Content} {u : Used} {li : ℕ} {ts : List Triple} → Matches (propertyEltList p 0 li) in-p x behind-root u ts → Accepts none (in-node x) u (type-of-p ∷ ts)
 unfolding D.all root
-accepted-in-node {ts = ts} m = rw (← append-nil ts) (alone (nodeElement root refl (refl, tt) refl refl refl refl m noNode) tt)
+accepted-in-node {ts = ts} m = rw (← append-nil ts) (alone (nodeElement root refl (refl, tt) (refl, refl, refl) refl m noNode) tt)
 
 -- a property in it
 abbrev pub q-with : List Attribute → Content → Content
@@ -181,7 +181,7 @@ about-tag = start _ _ _ _ (ascii "http://e/P") none none (some (ascii "http://e/
 
 pub names-without-prefix : Differs none (element (ascii "e:P") about-attributes end end) (type-of-p ∷ []) (refuse NoNamespace)
 unfolding D.all lines run gives about-tag
-names-without-prefix = record { used = behind-root; accepted = alone (nodeElement about-tag refl (refl, tt) refl refl refl refl noProperty noNode) tt; read = refl; others = refl }
+names-without-prefix = record { used = behind-root; accepted = alone (nodeElement about-tag refl (refl, tt) (refl, refl, refl) refl noProperty noNode) tt; read = refl; others = refl }
 
 -- <e:P .. xmlns:XMLx="http://x/" XMLx:a="1" rdf:about="http://e/p"/>
 abbrev capital-attributes : List Attribute
@@ -193,7 +193,7 @@ capital-tag = start _ _ _ _ (ascii "http://e/P") none none (some (ascii "http://
 
 pub names-in-capitals : Differs none (element (ascii "e:P") capital-attributes end end) (type-of-p ∷ []) (good (triple p (ascii "http://x/a") (plain (ascii "1")) ∷ type-of-p ∷ []))
 unfolding D.all lines run gives capital-tag
-names-in-capitals = record { used = behind-root; accepted = alone (nodeElement capital-tag refl (refl, tt) refl refl refl refl noProperty noNode) tt; read = refl; others = refl }
+names-in-capitals = record { used = behind-root; accepted = alone (nodeElement capital-tag refl (refl, tt) (refl, refl, refl) refl noProperty noNode) tt; read = refl; others = refl }
 
 -- <e:P .. xmlns:f="http://e/b" e:bc="1" f:c="2" rdf:about="http://e/p"/>
 abbrev joined-attributes : List Attribute
@@ -207,7 +207,7 @@ pub joined-names : Differs none (element (ascii "e:P") joined-attributes end end
     (triple p (ascii "http://e/bc") (plain (ascii "1")) ∷ triple p (ascii "http://e/bc") (plain (ascii "2")) ∷ type-of-p ∷ [])
     (refuse NotWellFormed)
 unfolding D.all lines run gives joined-tag
-joined-names = record { used = behind-root; accepted = alone (nodeElement joined-tag refl (refl, (refl, (refl, tt))) refl refl refl refl noProperty noNode) tt; read = refl; others = refl }
+joined-names = record { used = behind-root; accepted = alone (nodeElement joined-tag refl (refl, (refl, (refl, tt))) (refl, refl, refl) refl noProperty noNode) tt; read = refl; others = refl }
 
 -- <e:q xml:lang="">t</e:q>
 cleared-tag : StartElement in-p (ascii "e:q") (only "xml:lang" "") []
@@ -241,7 +241,7 @@ relative-tag = start _ _ _ _ (ascii "http://e/P") (some (ascii "http://h/x")) no
 
 pub relative-base : Differs h (element (ascii "e:P") relative-attributes end end) (triple (named (ascii "http://h/x")) (rdf "type") (node (named (ascii "http://e/P"))) ∷ []) (refuse BadIri)
 unfolding D.all lines run gives relative-tag
-relative-base = record { used = behind-root; accepted = alone (nodeElement relative-tag refl (refl, tt) refl refl refl refl noProperty noNode) tt; read = refl; others = refl }
+relative-base = record { used = behind-root; accepted = alone (nodeElement relative-tag refl (refl, tt) (refl, refl, refl) refl noProperty noNode) tt; read = refl; others = refl }
 
 -- <e:P .. xml:base="http://h/a/../b" rdf:about=""/>
 abbrev dots-attributes : List Attribute
@@ -255,7 +255,7 @@ pub dots-in-base : Differs h (element (ascii "e:P") dots-attributes end end)
     (triple (named (ascii "http://h/b")) (rdf "type") (node (named (ascii "http://e/P"))) ∷ [])
     (good (triple (named (ascii "http://h/a/../b")) (rdf "type") (node (named (ascii "http://e/P"))) ∷ []))
 unfolding D.all lines run gives dots-tag
-dots-in-base = record { used = behind-root; accepted = alone (nodeElement dots-tag refl (refl, tt) refl refl refl refl noProperty noNode) tt; read = refl; others = refl }
+dots-in-base = record { used = behind-root; accepted = alone (nodeElement dots-tag refl (refl, tt) (refl, refl, refl) refl noProperty noNode) tt; read = refl; others = refl }
 
 -- <e:P .. rdf:nodeID="a."/>
 abbrev label-attributes : Bytes → List Attribute
@@ -267,7 +267,7 @@ stop-tag = start _ _ _ _ (ascii "http://e/P") none none none none none none refl
 
 pub refused-label : Differs none (element (ascii "e:P") (label-attributes (ascii "a.")) end end) (triple (blank (ascii "a.")) (rdf "type") (node (named (ascii "http://e/P"))) ∷ []) (refuse BadLabel)
 unfolding D.all lines run gives stop-tag
-refused-label = record { used = behind-root; accepted = alone (nodeElement stop-tag refl (refl, tt) refl refl refl refl noProperty noNode) tt; read = refl; others = refl }
+refused-label = record { used = behind-root; accepted = alone (nodeElement stop-tag refl (refl, tt) (refl, refl, refl) refl noProperty noNode) tt; read = refl; others = refl }
 
 -- <e:P .. rdf:nodeID="riog00000001"/>
 riog-tag : StartElement top (ascii "e:P") (label-attributes (ascii "riog00000001")) []
@@ -278,7 +278,7 @@ pub refused-label-generated : Differs none (element (ascii "e:P") (label-attribu
     (triple (blank (ascii "riog00000001")) (rdf "type") (node (named (ascii "http://e/P"))) ∷ [])
     (refuse BadLabel)
 unfolding D.all lines run gives riog-tag
-refused-label-generated = record { used = behind-root; accepted = alone (nodeElement riog-tag refl (refl, tt) refl refl refl refl noProperty noNode) tt; read = refl; others = refl }
+refused-label-generated = record { used = behind-root; accepted = alone (nodeElement riog-tag refl (refl, tt) (refl, refl, refl) refl noProperty noNode) tt; read = refl; others = refl }
 
 -- ---- of all rdf:IDs: <rdf:RDF ..><e:P xml:base="http://h/a" rdf:ID="x"/><e:P xml:base="http://h/a#f" rdf:ID="x"/></rdf:RDF>
 
@@ -314,7 +314,7 @@ unfolding D.all lines run gives rdf-tag id-tag₁ id-tag₂
 ids-of-one-iri = record {
   used = record { labels = 2; ids = (some (ascii "http://h/a#f"), ascii "x") ∷ x₁ ∷ [] };
   accepted = RDF rdf-tag refl refl
-      (nodeElement id-tag₁ refl (refl, tt) refl refl refl refl noProperty (nodeElement id-tag₂ refl (refl, tt) refl refl refl refl noProperty noNode)) tt;
+      (nodeElement id-tag₁ refl (refl, tt) (refl, refl, refl) refl noProperty (nodeElement id-tag₂ refl (refl, tt) (refl, refl, refl) refl noProperty noNode)) tt;
   read = refl;
   others = refl;
 }

@@ -107,14 +107,14 @@ counted-nodes G.noNode = (refl, refl)
 counted-nodes (G.ws h m) = (counted-nodes m .0, and-both _ _ h (counted-nodes m .1))
 counted-nodes (G.ignoredInstruction m) = counted-nodes m
 counted-nodes (G.ignoredComment m) = counted-nodes m
-counted-nodes (G.nodeElement e h a p q r s m₁ m₂) = (ap suc (counted-nodes m₂ .0), counted-nodes m₂ .1)
+counted-nodes (G.nodeElement e h a two s m₁ m₂) = (ap suc (counted-nodes m₂ .0), counted-nodes m₂ .1)
 
 no-text-with : {s : Subject} {ss : List Subject} {c : Context} {x : Content} {u u′ : Used} {ts : List Triple} → Matches (nodeElementList (s ∷ ss)) c x u u′ ts → text-of x ≡ none
 unfolding text-of before-text
 no-text-with (G.ws h m) = rw (no-text-with m)
 no-text-with (G.ignoredInstruction m) = no-text-with m
 no-text-with (G.ignoredComment m) = no-text-with m
-no-text-with (G.nodeElement e h a p q r s m₁ m₂) = refl
+no-text-with (G.nodeElement e h a two s m₁ m₂) = refl
 
 -- property attributes are not asked for
 without-properties : (us : List Bytes) (as′ : List AttributeEvent) → G.Only us as′ → or-properties us as′ ≡ true
@@ -182,7 +182,7 @@ row-shaped G.noProperty = refl
 row-shaped (G.ws h m) = row-shaped m
 row-shaped (G.ignoredInstruction m) = row-shaped m
 row-shaped (G.ignoredComment m) = row-shaped m
-row-shaped (G.nodeElement e h a p q r s m₁ m₂) = three _ _ _ (passes-or _ _ a) (row-shaped m₁) (row-shaped m₂)
+row-shaped (G.nodeElement e h a two s m₁ m₂) = three _ _ _ (passes-or _ _ a) (row-shaped m₁) (row-shaped m₂)
 row-shaped (G.resourcePropertyElt {c = c} {as′ = as′} {children = x} e h a m₁ m₂) =
     three _ _ _ (node-passes (attrs c as′) x m₁ a) (placed (inside as′ c) x (inside-default [] _ (only-parseType (attrs c as′) a)) (row-shaped m₁)) (row-shaped m₂)
 row-shaped (G.literalPropertyElt {c = c} {t = t} {as′ = as′} {children = x} e h a is full m) =
@@ -224,7 +224,7 @@ unfolding is-shaped node-shape
 accepted-shaped b (RDF {n = n} {as′ = as′} {children = children} {f = f} e h a m misc) =
     let z : element-uri (declared as′ ++ []) n ≡ rdf "RDF" = uri-same b n as′ e ∙ h in
     three _ _ _ (root-shape _ _ as′ children z a) (placed (inside as′ (outermost b)) children (inside-rdf _ _ z) (row-shaped m)) (misc-shaped document (outermost b) f misc)
-accepted-shaped b (alone {f = f} (G.nodeElement {n = n} {as′ = as′} {children = children} e h a p q r s m G.noNode) misc) =
+accepted-shaped b (alone {f = f} (G.nodeElement {n = n} {as′ = as′} {children = children} e h a two s m G.noNode) misc) =
     let z : G.nodeElementURIs (element-uri (declared as′ ++ []) n) ≡ true = rw (uri-same b n as′ e) h in
     three _ _ _ (alone-shape _ _ as′ children z (passes-or _ _ a)) (placed (inside as′ (outermost b)) children (inside-node _ _ z) (row-shaped m)) (misc-shaped document (outermost b) f misc)
 accepted-shaped b (miscWs h m) = accepted-shaped b m
