@@ -6,7 +6,7 @@ use mathlib.Core.List.{List, [], _∷_, _++_, map}
 use Prim.Native.String.{String}
 use lib.Dec.{eqb}
 use borrow.Author.Tests.{eqb-true, eq-eqb, not-true}
-use Rattle.spec.specs.Bytes.{Bytes, ascii, if_then_else_, same, begins, isEmpty, isSome, member, those, each, All, _>>=_, _>>_, require_or_}
+use Rattle.spec.specs.Bytes.{Bytes, ascii, if_then_else_, same, begins, isEmpty, isSome, present, repeats, member, those, each, All, _>>=_, _>>_, require_or_}
 use Rattle.spec.specs.Numbers.{good}
 use Rattle.spec.specs.Abnf.{lower}
 use Rattle.spec.specs.Abnf as A
@@ -14,14 +14,14 @@ use Rattle.spec.specs.XmlNames.{isNCName, prefixOf, localOf}
 use Rattle.spec.specs.Rfc3987.{isIri}
 use Rattle.spec.specs.Rfc5646.{isLanguageTag}
 use Rattle.spec.specs.Pyx.{Attribute, attribute}
-use Rattle.spec.specs.Namespaces.{Binding, isDeclaration, nameOf, isKnown, namespace, joined, expandAttribute}
+use Rattle.spec.specs.Namespaces.{Binding, isDeclaration, nameOf, isKnown, namespace, joined, expandAttribute, expandedNames}
 use Rattle.spec.specs.Rdf.{rdf}
 use Rattle.spec.specs.Rdf as F
 use Rattle.spec.specs.StartTag.{Role, nothing, xml-lang, xml-base, rdf-ID, rdf-bagID, rdf-nodeID, rdf-about, rdf-resource, rdf-datatype, rdf-parseType, rdf-type, forbidden, property, roleNumber, sameRole, rdfRoles, roleAmong, roleOf, isGenerated, endsInStop, judge, known, Meaning, means, meaning, first, propertyAttributes}
 use Rattle.spec.proofs.Booleans.{and-left, and-right, no-true}
 use Rattle.spec.proofs.Bytes.{same-true, same-refl}
 use Rattle.theorems.specs.AttributeNames.{declaration-xml, declaration-not, named-xml}
-use Rattle.theorems.specs.Roles.{nameIn, hasName, same-role, table-fits, among-name}
+use Rattle.theorems.specs.Roles.{or-none, nameIn, hasName, same-role, table-fits, among-name}
 use Rattle.section7.specs.Events.{written, AttributeEvent, uri-of, attribute-uri, is-reserved, is-named, attributes}
 use Rattle.section7.specs.Grammar.{oldTerms, value, is-rdf-id}
 use Rattle.section7.specs.Differences.{says, is-free-label}
@@ -332,6 +332,61 @@ module _ (bs : List Binding) (r : Role) (k : RdfRole r) where
       rw (means-reserved bs n v as′ d x, events-skip bs n v as′ x, not-reserved (same n (ascii "xml:lang")) (same n (ascii "xml:base"))) (first-value as′ h)
   first-value (attribute n v ∷ as′) (event {ns = ns} x p e m g, h) =
       rw (means-event bs n v as′ ns x p e, events-event bs n v as′ ns x p e, role-named r (ns ++ localOf n) (k .has-name) (k .in-rdf), first-value as′ h)
+
+-- ---- no name twice
+
+module _ (bs : List Binding) where
+  abbrev uris : List Attribute → List Bytes
+  uris as′ = map (λ (a : AttributeEvent). a .0) (attributes bs as′)
+
+  -- the names of the events are among those that document 01 compares
+  names-skip : (n v : Bytes) (as′ : List Attribute) → isDeclaration (attribute n v) ≡ true → expandedNames bs (attribute n v ∷ as′) ≡ expandedNames bs as′
+  unfolding expandedNames those if_then_else_
+  names-skip n v as′ h = rw h
+
+  names-add : (n v : Bytes) (as′ : List Attribute) → isDeclaration (attribute n v) ≡ false
+      → expandedNames bs (attribute n v ∷ as′) ≡ present (expandAttribute bs n ∷ []) ++ expandedNames bs as′
+  unfolding expandedNames those if_then_else_ present nameOf
+  names-add n v as′ h = rw h (go (expandAttribute bs n))
+    where
+      go : (o : Option Bytes) → present (o ∷ map (λ (a : Attribute). expandAttribute bs (nameOf a)) (those (λ (a : Attribute). not (isDeclaration a)) as′))
+          ≡ present (o ∷ []) ++ present (map (λ (a : Attribute). expandAttribute bs (nameOf a)) (those (λ (a : Attribute). not (isDeclaration a)) as′))
+      go none = refl
+      go (some i) = refl
+
+  behind-one : (u : Bytes) (o : Option Bytes) (l : List Bytes) → member u (present (o ∷ []) ++ l) ≡ false → member u l ≡ false
+  unfolding present member
+  behind-one u none l h = h
+  behind-one u (some i) l h = or-none (same u i) (member u l) h .1
+
+  once-behind : (o : Option Bytes) (l : List Bytes) → repeats (present (o ∷ []) ++ l) ≡ false → repeats l ≡ false
+  unfolding present repeats
+  once-behind none l h = h
+  once-behind (some i) l h = or-none (member i l) (repeats l) h .1
+
+  not-among : (u : Bytes) (as′ : List Attribute) → All (Fine bs) as′ → member u (expandedNames bs as′) ≡ false → member u (uris as′) ≡ false
+  unfolding attributes member
+  not-among u [] f h = refl
+  not-among u (attribute n v ∷ as′) (declaration d, f) h = rw (events-skip bs n v as′ (declaration-xml n v d)) (not-among u as′ f (rw (names-skip n v as′ d) at h))
+  not-among u (attribute n v ∷ as′) (reserved d x q l b, f) h = rw (events-skip bs n v as′ x) (not-among u as′ f (behind-one u (expandAttribute bs n) _ (rw (names-add n v as′ d) at h)))
+  not-among u (attribute n v ∷ as′) (event {ns = ns} x p e m g, f) h =
+      let k : member u (present (some (ns ++ localOf n) ∷ []) ++ expandedNames bs as′) ≡ false = rw (names-add n v as′ (undeclared n v (not-lower-xml n x)), expand-event bs n ns p e) at h in
+      rw (events-event bs n v as′ ns x p e) (joint u (ns ++ localOf n) as′ k (not-among u as′ f (behind-one u (some (ns ++ localOf n)) _ k)))
+    where
+      joint : (u i : Bytes) (as′ : List Attribute) → member u (present (some i ∷ []) ++ expandedNames bs as′) ≡ false → member u (uris as′) ≡ false → member u (i ∷ uris as′) ≡ false
+      joint u i as′ h k = unfold present member in rw (or-none (same u i) (member u (expandedNames bs as′)) h .0) k
+
+  pub once-among : (as′ : List Attribute) → All (Fine bs) as′ → repeats (expandedNames bs as′) ≡ false → repeats (uris as′) ≡ false
+  unfolding attributes repeats
+  once-among [] f h = refl
+  once-among (attribute n v ∷ as′) (declaration d, f) h = rw (events-skip bs n v as′ (declaration-xml n v d)) (once-among as′ f (rw (names-skip n v as′ d) at h))
+  once-among (attribute n v ∷ as′) (reserved d x q l b, f) h = rw (events-skip bs n v as′ x) (once-among as′ f (once-behind (expandAttribute bs n) _ (rw (names-add n v as′ d) at h)))
+  once-among (attribute n v ∷ as′) (event {ns = ns} x p e m g, f) h =
+      let k : repeats (present (some (ns ++ localOf n) ∷ []) ++ expandedNames bs as′) ≡ false = rw (names-add n v as′ (undeclared n v (not-lower-xml n x)), expand-event bs n ns p e) at h in
+      rw (events-event bs n v as′ ns x p e, not-among (ns ++ localOf n) as′ f (first-new (ns ++ localOf n) as′ k)) (once-among as′ f (once-behind (some (ns ++ localOf n)) _ k))
+    where
+      first-new : (i : Bytes) (as′ : List Attribute) → repeats (present (some i ∷ []) ++ expandedNames bs as′) ≡ false → member i (expandedNames bs as′) ≡ false
+      first-new i as′ h = unfold present repeats in or-none (member i (expandedNames bs as′)) (repeats (expandedNames bs as′)) h .0
 
 -- is it a property of document 01?
 unfoldable pub isProperty : AttributeEvent → Bool

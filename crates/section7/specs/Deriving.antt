@@ -12,7 +12,7 @@ use Rattle.spec.specs.Rdf.{rdf}
 use Rattle.spec.specs.StartTag.{resolved, withHash}
 use Rattle.spec.proofs.Booleans.{and-left, and-right}
 use Rattle.section7.specs.Events.{Context, written, inside, is-named, repeats-name}
-use Rattle.section7.specs.Grammar.{value, attrs, is-rdf-id, terms-in, Identifier, identifier, is-new, StartElement}
+use Rattle.section7.specs.Grammar.{value, values, all-resolved, attrs, is-rdf-id, terms-in, Identifier, identifier, is-new, StartElement}
 use Rattle.section7.specs.Differences as D
 
 -- of every element
@@ -33,7 +33,7 @@ tests c as′ ids =
 
 -- its URI, xml:base, and references
 abbrev pub Said : Type 0
-Said = Bool × Answer Bytes × Answer (Option Bytes) × Answer (Option Bytes) × Answer (Option Bytes) × Answer (Option Bytes) × Answer (Option Bytes) × Answer (Option Bytes)
+Said = Bool × Answer Bytes × Answer (Option Bytes) × Answer (Option Bytes) × Answer (Option Bytes) × Answer (Option Bytes) × Answer (Option Bytes) × Answer (List (Option Bytes))
 
 unfoldable pub says-all : Context → Bytes → List Attribute → List Identifier → Said
 says-all c n as′ ids = (
@@ -44,13 +44,13 @@ says-all c n as′ ids = (
   resolved (inside as′ c .base-uri) (value (rdf "about") (attrs c as′)),
   resolved (inside as′ c .base-uri) (value (rdf "resource") (attrs c as′)),
   resolved (inside as′ c .base-uri) (value (rdf "datatype") (attrs c as′)),
-  resolved (inside as′ c .base-uri) (value (rdf "type") (attrs c as′)),
+  all-resolved (inside as′ c .base-uri) (values (rdf "type") (attrs c as′)),
 )
 
-unfoldable pub start : (c : Context) (n : Bytes) (as′ : List Attribute) (ids : List Identifier) (uri : Bytes) (base id about resource datatype type : Option Bytes)
-    → says-all c n as′ ids ≡ (true, good uri, good base, good id, good about, good resource, good datatype, good type) → StartElement c n as′ ids
+unfoldable pub start : (c : Context) (n : Bytes) (as′ : List Attribute) (ids : List Identifier) (uri : Bytes) (base id about resource datatype : Option Bytes) (types : List (Option Bytes))
+    → says-all c n as′ ids ≡ (true, good uri, good base, good id, good about, good resource, good datatype, good types) → StartElement c n as′ ids
 unfolding says-all tests
-start c n as′ ids uri base id about resource datatype type h =
+start c n as′ ids uri base id about resource datatype types h =
     let t : tests c as′ ids ≡ true = ap (λ (x : Said). x .0) h in
     let t₁ : _ ≡ true = and-right (allLegal (declared as′)) _ t in
     let t₂ : _ ≡ true = and-right (not (repeats-name (declared as′ ++ c .bindings) as′)) _ t₁ in
@@ -75,8 +75,8 @@ start c n as′ ids uri base id about resource datatype type h =
       resource-resolved = ap (λ (x : Said). x .5) h;
       datatype = datatype;
       datatype-resolved = ap (λ (x : Said). x .6) h;
-      type = type;
-      type-resolved = ap (λ (x : Said). x .7) h;
+      types = types;
+      types-resolved = ap (λ (x : Said). x .7) h;
     }
 
 unfoldable pub all : Unit {0}

@@ -64,7 +64,7 @@ in-p = inside p-attributes top
 
 root : StartElement top (ascii "e:P") p-attributes []
 unfolding D.all
-root = start _ _ _ _ (ascii "http://e/P") none none (some (ascii "http://e/p")) none none none refl
+root = start _ _ _ _ (ascii "http://e/P") none none (some (ascii "http://e/p")) none none [] refl
 
 abbrev behind-root : Used
 behind-root = record { labels = 1; ids = [] }
@@ -83,7 +83,7 @@ only n v = attribute (ascii n) (ascii v) ∷ []
 
 q-tag : StartElement in-p (ascii "e:q") [] []
 unfolding D.all
-q-tag = start _ _ _ _ q none none none none none none refl
+q-tag = start _ _ _ _ q none none none none none [] refl
 
 -- ---- of a property element
 
@@ -104,7 +104,7 @@ divided-text = record { used = behind-root; accepted = accepted-in-node (literal
 -- <e:q rdf:type="http://e/T"/>
 type-tag : StartElement in-p (ascii "e:q") (only "rdf:type" "http://e/T") []
 unfolding D.all
-type-tag = start _ _ _ _ q none none none none none (some (ascii "http://e/T")) refl
+type-tag = start _ _ _ _ q none none none none none (some (ascii "http://e/T") ∷ []) refl
 
 pub type-alone : Differs none (q-with (only "rdf:type" "http://e/T") end)
     (type-of-p ∷ triple (blank (label 2)) (rdf "type") (node (named (ascii "http://e/T"))) ∷ triple p q (node (blank (label 2))) ∷ [])
@@ -120,7 +120,7 @@ type-alone = record {
 -- <e:q rdf:parseType="x">t</e:q>
 other-tag : StartElement in-p (ascii "e:q") (only "rdf:parseType" "x") []
 unfolding D.all
-other-tag = start _ _ _ _ q none none none none none none refl
+other-tag = start _ _ _ _ q none none none none none [] refl
 
 pub other-parseType : Differs none (q-with (only "rdf:parseType" "x") (characters (ascii "t") end))
     (type-of-p ∷ triple p q (typed (ascii "t") (rdf "XMLLiteral")) ∷ [])
@@ -130,7 +130,7 @@ other-parseType = record { used = behind-root; accepted = accepted-in-node (pars
 
 literal-tag : StartElement in-p (ascii "e:q") (only "rdf:parseType" "Literal") []
 unfolding D.all
-literal-tag = start _ _ _ _ q none none none none none none refl
+literal-tag = start _ _ _ _ q none none none none none [] refl
 
 -- <e:q rdf:parseType="Literal"/>
 pub empty-literal : Differs none (q-with (only "rdf:parseType" "Literal") end)
@@ -177,7 +177,7 @@ about-attributes = attribute (ascii "about") (ascii "http://e/p") ∷ names
 
 about-tag : StartElement top (ascii "e:P") about-attributes []
 unfolding D.all
-about-tag = start _ _ _ _ (ascii "http://e/P") none none (some (ascii "http://e/p")) none none none refl
+about-tag = start _ _ _ _ (ascii "http://e/P") none none (some (ascii "http://e/p")) none none [] refl
 
 pub names-without-prefix : Differs none (element (ascii "e:P") about-attributes end end) (type-of-p ∷ []) (refuse NoNamespace)
 unfolding D.all lines run gives about-tag
@@ -189,7 +189,7 @@ capital-attributes = attribute (ascii "xmlns:XMLx") (ascii "http://x/") ∷ attr
 
 capital-tag : StartElement top (ascii "e:P") capital-attributes []
 unfolding D.all
-capital-tag = start _ _ _ _ (ascii "http://e/P") none none (some (ascii "http://e/p")) none none none refl
+capital-tag = start _ _ _ _ (ascii "http://e/P") none none (some (ascii "http://e/p")) none none [] refl
 
 pub names-in-capitals : Differs none (element (ascii "e:P") capital-attributes end end) (type-of-p ∷ []) (good (triple p (ascii "http://x/a") (plain (ascii "1")) ∷ type-of-p ∷ []))
 unfolding D.all lines run gives capital-tag
@@ -201,7 +201,7 @@ joined-attributes = attribute (ascii "xmlns:f") (ascii "http://e/b") ∷ attribu
 
 joined-tag : StartElement top (ascii "e:P") joined-attributes []
 unfolding D.all
-joined-tag = start _ _ _ _ (ascii "http://e/P") none none (some (ascii "http://e/p")) none none none refl
+joined-tag = start _ _ _ _ (ascii "http://e/P") none none (some (ascii "http://e/p")) none none [] refl
 
 pub joined-names : Differs none (element (ascii "e:P") joined-attributes end end)
     (triple p (ascii "http://e/bc") (plain (ascii "1")) ∷ triple p (ascii "http://e/bc") (plain (ascii "2")) ∷ type-of-p ∷ [])
@@ -212,7 +212,7 @@ joined-names = record { used = behind-root; accepted = alone (nodeElement joined
 -- <e:q xml:lang="">t</e:q>
 cleared-tag : StartElement in-p (ascii "e:q") (only "xml:lang" "") []
 unfolding D.all
-cleared-tag = start _ _ _ _ q none none none none none none refl
+cleared-tag = start _ _ _ _ q none none none none none [] refl
 
 pub cleared-language : Differs none (q-with (only "xml:lang" "") (characters (ascii "t") end)) (type-of-p ∷ triple p q (plain (ascii "t")) ∷ []) (refuse BadLanguage)
 unfolding D.all lines run gives cleared-tag
@@ -221,7 +221,7 @@ cleared-language = record { used = behind-root; accepted = accepted-in-node (lit
 -- <e:q xml:lang="e">t</e:q>
 short-tag : StartElement in-p (ascii "e:q") (only "xml:lang" "e") []
 unfolding D.all
-short-tag = start _ _ _ _ q none none none none none none refl
+short-tag = start _ _ _ _ q none none none none none [] refl
 
 pub other-language : Differs none (q-with (only "xml:lang" "e") (characters (ascii "t") end)) (type-of-p ∷ triple p q (tagged (ascii "t") (ascii "e")) ∷ []) (refuse BadLanguage)
 unfolding D.all lines run gives short-tag
@@ -237,7 +237,7 @@ relative-attributes = attribute (ascii "xml:base") (ascii "x") ∷ attribute (as
 
 relative-tag : StartElement (outermost h) (ascii "e:P") relative-attributes []
 unfolding D.all
-relative-tag = start _ _ _ _ (ascii "http://e/P") (some (ascii "http://h/x")) none (some (ascii "http://h/x")) none none none refl
+relative-tag = start _ _ _ _ (ascii "http://e/P") (some (ascii "http://h/x")) none (some (ascii "http://h/x")) none none [] refl
 
 pub relative-base : Differs h (element (ascii "e:P") relative-attributes end end) (triple (named (ascii "http://h/x")) (rdf "type") (node (named (ascii "http://e/P"))) ∷ []) (refuse BadIri)
 unfolding D.all lines run gives relative-tag
@@ -249,7 +249,7 @@ dots-attributes = attribute (ascii "xml:base") (ascii "http://h/a/../b") ∷ att
 
 dots-tag : StartElement (outermost h) (ascii "e:P") dots-attributes []
 unfolding D.all
-dots-tag = start _ _ _ _ (ascii "http://e/P") (some (ascii "http://h/b")) none (some (ascii "http://h/b")) none none none refl
+dots-tag = start _ _ _ _ (ascii "http://e/P") (some (ascii "http://h/b")) none (some (ascii "http://h/b")) none none [] refl
 
 pub dots-in-base : Differs h (element (ascii "e:P") dots-attributes end end)
     (triple (named (ascii "http://h/b")) (rdf "type") (node (named (ascii "http://e/P"))) ∷ [])
@@ -263,7 +263,7 @@ label-attributes l = attribute (ascii "rdf:nodeID") l ∷ names
 
 stop-tag : StartElement top (ascii "e:P") (label-attributes (ascii "a.")) []
 unfolding D.all
-stop-tag = start _ _ _ _ (ascii "http://e/P") none none none none none none refl
+stop-tag = start _ _ _ _ (ascii "http://e/P") none none none none none [] refl
 
 pub refused-label : Differs none (element (ascii "e:P") (label-attributes (ascii "a.")) end end) (triple (blank (ascii "a.")) (rdf "type") (node (named (ascii "http://e/P"))) ∷ []) (refuse BadLabel)
 unfolding D.all lines run gives stop-tag
@@ -272,7 +272,7 @@ refused-label = record { used = behind-root; accepted = alone (nodeElement stop-
 -- <e:P .. rdf:nodeID="riog00000001"/>
 riog-tag : StartElement top (ascii "e:P") (label-attributes (ascii "riog00000001")) []
 unfolding D.all
-riog-tag = start _ _ _ _ (ascii "http://e/P") none none none none none none refl
+riog-tag = start _ _ _ _ (ascii "http://e/P") none none none none none [] refl
 
 pub refused-label-generated : Differs none (element (ascii "e:P") (label-attributes (ascii "riog00000001")) end end)
     (triple (blank (ascii "riog00000001")) (rdf "type") (node (named (ascii "http://e/P"))) ∷ [])
@@ -293,15 +293,15 @@ x₁ = (some (ascii "http://h/a"), ascii "x")
 
 rdf-tag : StartElement top (ascii "rdf:RDF") names []
 unfolding D.all
-rdf-tag = start _ _ _ _ (rdf "RDF") none none none none none none refl
+rdf-tag = start _ _ _ _ (rdf "RDF") none none none none none [] refl
 
 id-tag₁ : StartElement in-rdf (ascii "e:P") (id-attributes (ascii "http://h/a")) []
 unfolding D.all
-id-tag₁ = start _ _ _ _ (ascii "http://e/P") (some (ascii "http://h/a")) (some (ascii "http://h/a#x")) none none none none refl
+id-tag₁ = start _ _ _ _ (ascii "http://e/P") (some (ascii "http://h/a")) (some (ascii "http://h/a#x")) none none none [] refl
 
 id-tag₂ : StartElement in-rdf (ascii "e:P") (id-attributes (ascii "http://h/a#f")) (x₁ ∷ [])
 unfolding D.all
-id-tag₂ = start _ _ _ _ (ascii "http://e/P") (some (ascii "http://h/a#f")) (some (ascii "http://h/a#x")) none none none none refl
+id-tag₂ = start _ _ _ _ (ascii "http://e/P") (some (ascii "http://h/a#f")) (some (ascii "http://h/a#x")) none none none [] refl
 
 abbrev x-type : Triple
 x-type = triple (named (ascii "http://h/a#x")) (rdf "type") (node (named (ascii "http://e/P")))

@@ -2,10 +2,10 @@
 use mathlib.Core.Path.{_≡_, refl, sym, _∙_, ap}
 use mathlib.Core.Bool.{Bool, true, false, _&&_, _||_, not, false≢true}
 use mathlib.Core.Option.{Option, none, some}
-use mathlib.Core.List.{List, [], _∷_, _++_, map}
+use mathlib.Core.List.{List, [], _∷_, _++_, map, append-nil}
 use Prim.Native.Nat.{ℕ}
 use borrow.Author.Tests.{not-true}
-use Rattle.spec.specs.Bytes.{Bytes, ascii, byte, if_then_else_, same, begins, isEmpty, isSome, member, repeats, those, All, orElse, _>>=_, _>>_, require_or_}
+use Rattle.spec.specs.Bytes.{Bytes, ascii, byte, if_then_else_, same, begins, isEmpty, isSome, member, repeats, those, All, orElse, each, _>>=_, _>>_, require_or_}
 use Rattle.spec.specs.Numbers.{Answer, refuse, good}
 use Rattle.spec.specs.declared.Refusal.the-variants.{NotWellFormed, OverLimit, BadIri}
 use Rattle.spec.specs.XmlNames.{prefixOf}
@@ -13,22 +13,25 @@ use Rattle.spec.specs.Rfc3986.{resolve, resolves}
 use Rattle.spec.specs.Rfc3987.{isIri, isIriReference}
 use Rattle.spec.specs.Rfc5646.{isLanguageTag}
 use Rattle.spec.specs.Pyx.{Attribute, attribute, opening}
-use Rattle.spec.specs.Namespaces.{Binding, declared, nameOf, allLegal, expandedNames, repeatsExpanded}
+use Rattle.spec.specs.Namespaces.{Binding, declared, isDeclaration, nameOf, allLegal, expandedNames, unknownNames, repeatsExpanded}
 use Rattle.spec.specs.Rdf.{rdf}
+use Rattle.spec.specs.NTriples.{Subject}
+use Rattle.spec.proofs.Booleans.{no-true}
+use Rattle.spec.proofs.Bytes.{same-true, same-refl}
 use Rattle.spec.specs.Rdf as F
 use Rattle.spec.specs.Document.{Kind, Frame, Doc, withKind, inScope, languageInForce, baseInForce, placeIn, inKind}
 use Rattle.spec.specs.StartTag.{rdf-ID, rdf-nodeID, rdf-about, rdf-resource, rdf-datatype, rdf-parseType, rdf-type, roleNumber, sameRole, rdfRoles, roleAmong, lowercased, resolved, withHash, isUnused, Tag, readTag, isShort}
 use Rattle.spec.specs.Productions.{Opened}
 use Rattle.spec.specs.Opening.{enter, counted, countLi, opened, openElement, openIn, isXml, isSecondRoot, repeated, onOpening}
 use Rattle.spec.specs.RdfXml.{next, onEvent}
-use Rattle.theorems.specs.Always.{always-after, always-good}
+use Rattle.theorems.specs.Always.{always-bind, always-any, always-after, always-self, always-good}
 use Rattle.theorems.specs.Roles.{or-none, nameIn}
 use Rattle.section7.specs.Events.{Context, written, target, language-in, inside, AttributeEvent, attributes, uri-of, is-reserved, is-named}
-use Rattle.section7.specs.Grammar.{value, is-rdf-id, Identifier, under, identifier, entered, iri-of, StartElement, Used, attrs, nodeID}
+use Rattle.section7.specs.Grammar.{value, values, is-rdf-id, all-resolved, typeTriple, typeTriples, Identifier, under, identifier, entered, iri-of, StartElement, Used, attrs, nodeID}
 use Rattle.section7.specs.Differences.{says, is-free-label, NoDifferenceInTag, OneIriEach}
 use Rattle.section7.specs.Reading.{Gives, Steps, doc, context}
 use Rattle.section7.specs.Giving.{gives-limit, gives-pass, gives-within, Produces}
-use Rattle.section7.specs.Attributes.{Fine, Accepted, AcceptedEvent, noAttributes, says-then, fine-all, fine-meanings, RdfRole, first-value, isProperty, property-events, first-lang, first-base}
+use Rattle.section7.specs.Attributes.{Fine, Accepted, AcceptedEvent, noAttributes, says-then, fine-all, fine-meanings, RdfRole, once-among, first-value, isProperty, property-events, first-lang, first-base}
 
 -- ---- the roles
 
@@ -108,6 +111,71 @@ same-base-uri as′ b h = rw h
 same-context : (x : Context) {bs : List Binding} {b l : Option Bytes} → x .bindings ≡ bs → x .base-uri ≡ b → x .language ≡ l → x ≡ record { bindings = bs; base-uri = b; language = l }
 same-context x p q r = rw (← p, ← q, ← r)
 
+-- ---- rdf:type
+
+-- the first, as it is the only one
+unfoldable pub first-type : List (Option Bytes) → Option Bytes
+first-type [] = none
+first-type (t ∷ ts) = t
+
+-- one or none
+unfoldable pub few : {A : Type 0} → List A → Bool
+few [] = true
+few (a ∷ []) = true
+few (a ∷ b ∷ l) = false
+
+abbrev uris : List AttributeEvent → List Bytes
+uris es = map (λ (a : AttributeEvent). a .0) es
+
+no-values : (u : Bytes) (es : List AttributeEvent) → member u (uris es) ≡ false → values u es ≡ []
+unfolding values member if_then_else_
+no-values u [] h = refl
+no-values u (a ∷ es) h = let k : (same u (a .0) ≡ false) × (member u (uris es) ≡ false) = or-none _ _ h in rw (unlike (a .0) u (k .0)) (no-values u es (k .1))
+  where
+    unlike : (i u : Bytes) → same u i ≡ false → same i u ≡ false
+    unlike i u h = no-true _ λ s. false≢true (sym h ∙ (ap (same u) (same-true i u s) ∙ same-refl u))
+
+few-values : (u : Bytes) (es : List AttributeEvent) → repeats (uris es) ≡ false → few (values u es) ≡ true
+unfolding values repeats few if_then_else_
+few-values u [] h = refl
+few-values u (a ∷ es) h = go (same (a .0) u) refl (few-values u es (or-none (member (a .0) (uris es)) (repeats (uris es)) h .1))
+  where
+    go : (b : Bool) → same (a .0) u ≡ b → few (values u es) ≡ true → few (if b then a .1 ∷ values u es else values u es) ≡ true
+    go true e k = let z : values u es ≡ [] = no-values u es (rw (same-true (a .0) u e) at (or-none (member (a .0) (uris es)) (repeats (uris es)) h .0)) in rw z
+    go false e k = k
+
+few-types : (b : Option Bytes) (vs : List Bytes) (ts : List (Option Bytes)) → few vs ≡ true → all-resolved b vs ≡ good ts → few ts ≡ true
+unfolding few all-resolved each _>>=_
+few-types b [] ts f h = let z : good [] ≡ good ts = h in let g : ts ≡ [] = cc in rw g
+few-types b (v ∷ []) ts f h = always-good (λ ts. few ts ≡ true) (always-any (λ ts. few ts ≡ true) (resolved b (some v)) (λ i. good (i ∷ [])) λ i. refl) h
+few-types b (v ∷ w ∷ vs) ts f h = absurd (false≢true f)
+
+-- its triples are those of the first
+pub one-triple : (s : Subject) (ts : List (Option Bytes)) → few ts ≡ true → typeTriple s (first-type ts) ≡ typeTriples s ts
+unfolding few first-type typeTriple typeTriples
+one-triple s [] h = refl
+one-triple s (t ∷ []) h = sym (append-nil (typeTriple s t))
+one-triple s (t ∷ r ∷ ts) h = absurd (false≢true h)
+
+-- and the reader resolves the first
+resolves-first : (b : Option Bytes) (v : Bytes) (vs : List Bytes) (ts : List (Option Bytes)) → all-resolved b (v ∷ vs) ≡ good ts → resolved b (some v) ≡ good (first-type ts)
+unfolding all-resolved each first-type
+resolves-first b v vs ts h =
+    always-good (λ ts. resolved b (some v) ≡ good (first-type ts))
+    (always-bind (λ i. resolved b (some v) ≡ good i) (λ ts. resolved b (some v) ≡ good (first-type ts)) (resolved b (some v)) _ (always-self (resolved b (some v)))
+    λ i q. always-any (λ ts. resolved b (some v) ≡ good (first-type ts)) (all-resolved b vs) _ λ is. q) h
+
+type-first : (b : Option Bytes) (es : List AttributeEvent) (ts : List (Option Bytes)) → all-resolved b (values (rdf "type") es) ≡ good ts → resolved b (value (rdf "type") es) ≡ good (first-type ts)
+unfolding values value if_then_else_
+type-first b [] ts h = unfold all-resolved each first-type resolved in let z : good [] ≡ good ts = h in let g : ts ≡ [] = cc in rw g
+type-first b (a ∷ es) ts h = go (same (a .0) (rdf "type")) h (type-first b es ts)
+  where
+    go : (t : Bool) → all-resolved b (if t then a .1 ∷ values (rdf "type") es else values (rdf "type") es) ≡ good ts
+        → (all-resolved b (values (rdf "type") es) ≡ good ts → resolved b (value (rdf "type") es) ≡ good (first-type ts))
+        → resolved b (if t then some (a .1) else value (rdf "type") es) ≡ good (first-type ts)
+    go true h k = resolves-first b (a .1) (values (rdf "type") es) ts h
+    go false h k = k h
+
 -- ---- the tag
 
 -- what the grammar and the clauses give of a start tag
@@ -117,6 +185,7 @@ pub record Readable (c : Context) (n : Bytes) (as′ : List Attribute) (u : Used
   pub base-same : inside as′ c .base-uri ≡ orElse (written (ascii "xml:base") as′) (c .base-uri)
   pub language-same : inside as′ c .language ≡ orElse (lowercased (written (ascii "xml:lang") as′)) (c .language)
   pub unused : isUnused (e .id) (map iri-of (u .ids)) ≡ true
+  pub one-type : few (e .types) ≡ true
 
 all-accepted : (bs : List Binding) (as′ : List Attribute) → All (λ a. is-named bs a ≡ true) as′
     → All (λ a. (is-reserved (nameOf a) || not (isEmpty (prefixOf (nameOf a)))) ≡ true) as′ → All (λ a. (not (is-reserved (nameOf a)) || begins (ascii "xml") (nameOf a)) ≡ true) as′
@@ -130,16 +199,28 @@ all-events : (es : List AttributeEvent) → All (λ a. is-rdf-id a ≡ true) es 
 all-events [] g h i = tt
 all-events (a ∷ es) g h i = ((g .0, h .0, i .0), all-events es (g .1) (h .1) (i .1))
 
+names-once : (bs : List Binding) (as′ : List Attribute) → repeatsExpanded bs as′ ≡ false → repeats (expandedNames bs as′) ≡ false
+unfolding repeatsExpanded
+names-once bs as′ h =
+    or-none (repeats (unknownNames bs as′)) (repeats (expandedNames bs as′))
+    (or-none (repeats (map nameOf (those isDeclaration as′))) (repeats (unknownNames bs as′) || repeats (expandedNames bs as′)) h .1) .1
+
 pub readable : (c : Context) (n : Bytes) (as′ : List Attribute) (u : Used) (e : StartElement c n as′ (u .ids)) → NoDifferenceInTag c as′
     → All (λ a. member (a .0) noAttributes ≡ false) (attrs c as′) → OneIriEach (entered (identifier c as′) (u .ids)) → Readable c n as′ u e
 unfolding inside
-readable c n as′ u e d a o = record {
-  fine = fine-all _ as′ (all-accepted _ as′ (e .all-named) (d .names-without-prefix) (d .names-in-capitals) (d .cleared-language) (d .other-language) (d .relative-base)) (all-events (attrs c as′) (e .all-ids) (d .refused-label) a);
-  joined = d .joined-names;
-  base-same = same-base-uri as′ (c .base-uri) (d .dots-in-base);
-  language-same = same-language as′ (c .language) (d .cleared-language);
-  unused = unused-iri (u .ids) (e .id) (rw (entered-iri (u .ids) (inside as′ c .base-uri) (value (rdf "ID") (attrs c as′)) (e .id) (e .id-resolved)) o);
-}
+readable c n as′ u e d a o =
+    let bs : List Binding = declared as′ ++ c .bindings in
+    let fine : All (Fine bs) as′
+    = fine-all bs as′ (all-accepted bs as′ (e .all-named) (d .names-without-prefix) (d .names-in-capitals) (d .cleared-language) (d .other-language) (d .relative-base))
+    (all-events (attrs c as′) (e .all-ids) (d .refused-label) a) in
+    record {
+      fine = fine;
+      joined = d .joined-names;
+      base-same = same-base-uri as′ (c .base-uri) (d .dots-in-base);
+      language-same = same-language as′ (c .language) (d .cleared-language);
+      unused = unused-iri (u .ids) (e .id) (rw (entered-iri (u .ids) (inside as′ c .base-uri) (value (rdf "ID") (attrs c as′)) (e .id) (e .id-resolved)) o);
+      one-type = few-types _ _ (e .types) (few-values (rdf "type") (attrs c as′) (once-among bs as′ fine (names-once bs as′ (d .joined-names)))) (e .types-resolved);
+    }
 
 module _ (c : Context) (n : Bytes) (as′ : List Attribute) (u : Used) (e : StartElement c n as′ (u .ids)) where
   -- the same, as document 01 reads it
@@ -159,7 +240,7 @@ module _ (c : Context) (n : Bytes) (as′ : List Attribute) (u : Used) (e : Star
     about = e .about;
     resource = e .resource;
     datatype = e .datatype;
-    type = e .type;
+    type = first-type (e .types);
   }
 
   -- the new element, of kind k
@@ -207,7 +288,7 @@ module _ (c : Context) (n : Bytes) (as′ : List Attribute) (u : Used) (e : Star
           first-value bs rdf-datatype datatype-role as′ (r .fine),
           e .datatype-resolved,
           first-value bs rdf-type type-role as′ (r .fine),
-          e .type-resolved,
+          type-first (inside as′ c .base-uri) (attrs c as′) (e .types) (e .types-resolved),
           first-value bs rdf-nodeID nodeID-role as′ (r .fine),
           first-value bs rdf-parseType parseType-role as′ (r .fine),
           property-events bs as′ (r .fine),
