@@ -9,10 +9,10 @@ use Rattle.spec.specs.Numbers.{Answer, good}
 use Rattle.spec.specs.Pyx.{Attribute}
 use Rattle.spec.specs.Namespaces.{declared, allLegal, expandElement}
 use Rattle.spec.specs.Rdf.{rdf}
-use Rattle.spec.specs.StartTag.{resolved, withHash}
+use Rattle.spec.specs.StartTag.{resolved}
 use Rattle.spec.proofs.Booleans.{and-left, and-right}
 use Rattle.section7.specs.Events.{Context, written, inside, is-named, repeats-name}
-use Rattle.section7.specs.Grammar.{value, values, all-resolved, attrs, is-rdf-id, terms-in, Identifier, identifier, is-new, StartElement}
+use Rattle.section7.specs.Grammar.{value, values, fragment, all-resolved, attrs, is-rdf-id, terms-in, Identifier, identifier, is-new, StartElement}
 use Rattle.section7.specs.Differences as D
 
 -- of every element
@@ -40,7 +40,7 @@ says-all c n as′ ids = (
   tests c as′ ids,
   expandElement (declared as′ ++ c .bindings) n,
   resolved (c .base-uri) (written (ascii "xml:base") as′),
-  resolved (inside as′ c .base-uri) (withHash (value (rdf "ID") (attrs c as′))),
+  resolved (inside as′ c .base-uri) (fragment (value (rdf "ID") (attrs c as′))),
   resolved (inside as′ c .base-uri) (value (rdf "about") (attrs c as′)),
   resolved (inside as′ c .base-uri) (value (rdf "resource") (attrs c as′)),
   resolved (inside as′ c .base-uri) (value (rdf "datatype") (attrs c as′)),

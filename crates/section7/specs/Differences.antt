@@ -15,11 +15,10 @@ use Rattle.spec.specs.Pyx as P
 use Rattle.spec.specs.Namespaces.{Binding, declared, nameOf, namespace, joined, repeatsExpanded}
 use Rattle.spec.specs.Rdf.{rdf}
 use Rattle.spec.specs.StartTag.{resolved, isGenerated, endsInStop}
-use Rattle.spec.specs.RdfXml.{isBlank}
 use Rattle.spec.specs.XmlLiteral.{startTagXml, endTagXml, textXml}
 use Rattle.section7.specs.Events.{Content, end, characters, instruction, comment, element, events, text-of, Context, written, inside, AttributeEvent, uri-of, is-reserved}
 use Rattle.section7.specs.Canonical.{canonical}
-use Rattle.section7.specs.Grammar.{value, attrs, nodeID, literalAttribute, parseOther, Identifier, iri-of, Used, outermost}
+use Rattle.section7.specs.Grammar.{value, attrs, nodeID, literalAttribute, parseOther, is-space, Identifier, iri-of, Used, outermost}
 use Rattle.section7.specs.Grammar as G
 
 -- ---- what the clauses speak of
@@ -97,7 +96,7 @@ is-literal (some v) = same v (ascii "Literal")
 
 pub record NoDifferenceInProperty (c : Context) (as′ : List Attribute) (children : Content) : Type 0 where
   -- 7.2.16: white space is a literal; the empty one
-  pub blank-text : if-any (literal-text (parseType c as′) (text-of children)) (λ t. not (isBlank t)) ≡ true
+  pub blank-text : if-any (literal-text (parseType c as′) (text-of children)) (λ t. not (is-space t)) ≡ true
   -- 6: text on both sides of an instruction is one; the last piece
   pub divided-text :
       if-any (literal-text (parseType c as′) (text-of children)) (λ t. is-one t (texts (events children))) ≡ true

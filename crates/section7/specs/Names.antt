@@ -5,15 +5,16 @@ use mathlib.Core.Bool.{Bool, true, false, _&&_, _||_, not, false≢true}
 use mathlib.Core.List.{List, [], _∷_, _++_, map}
 use Prim.Native.String.{String}
 use borrow.Author.Tests.{not-true}
-use Rattle.spec.specs.Bytes.{Bytes, if_then_else_, same, member, those, All}
+use Rattle.spec.specs.Bytes.{Bytes, ascii, if_then_else_, same, member, those, All}
 use Rattle.spec.specs.Rdf.{rdf, reservedElements, mayBeNode, mayBeProperty}
 use Rattle.spec.specs.Rdf as F
+use Rattle.spec.specs.RdfXml.{isBlank}
 use Rattle.spec.specs.StartTag.{Role, property, roleNumber, sameRole, rdfRoles, roleAmong}
 use Rattle.spec.proofs.Booleans.{or-cases, or-left, and-left, and-right, no-true}
 use Rattle.spec.proofs.Bytes.{same-true}
 use Rattle.theorems.specs.Roles.{or-none}
 use Rattle.section7.specs.Events.{AttributeEvent}
-use Rattle.section7.specs.Grammar.{coreSyntaxTerms, oldTerms, nodeElementURIs, propertyElementURIs, propertyAttributeURIs, literalAttribute, Only, OrProperties}
+use Rattle.section7.specs.Grammar.{coreSyntaxTerms, oldTerms, nodeElementURIs, propertyElementURIs, propertyAttributeURIs, literalAttribute, Only, OrProperties, is-space}
 use Rattle.section7.specs.Attributes.{isProperty, noAttributes}
 
 -- a list of names inside another
@@ -43,34 +44,64 @@ not-properties = coreSyntaxTerms ++ (rdf "Description" ∷ oldTerms)
 abbrev not-attributes : List Bytes
 not-attributes = coreSyntaxTerms ++ (rdf "Description" ∷ rdf "li" ∷ oldTerms)
 
+same-members : (l m : List Bytes) → within l m ≡ true → within m l ≡ true → (i : Bytes) → member i l ≡ member i m
+same-members l m v w i = go (member i m) refl
+  where
+    go : (b : Bool) → member i m ≡ b → member i l ≡ b
+    go true e = sub-member i m l w e
+    go false e = not-member i l m v e
+
 reserved-nodes : within reservedElements not-nodes ≡ true
 unfolding reservedElements coreSyntaxTerms oldTerms within F.all
 reserved-nodes = refl
+
+nodes-reserved : within not-nodes reservedElements ≡ true
+unfolding reservedElements coreSyntaxTerms oldTerms within F.all
+nodes-reserved = refl
+
+-- 7.2.5: document 01 has the same names
+pub node-names : (i : Bytes) → mayBeNode i ≡ nodeElementURIs i
+unfolding nodeElementURIs mayBeNode
+node-names i = ap not (same-members reservedElements not-nodes reserved-nodes nodes-reserved i)
+
+pub node-name : (i : Bytes) → nodeElementURIs i ≡ true → mayBeNode i ≡ true
+node-name i h = node-names i ∙ h
+
+neither : (a b : Bool) → a ≡ false → b ≡ false → (a || b) ≡ false
+neither a b p q = rw (p, q)
 
 reserved-properties : within (rdf "Description" ∷ reservedElements) (rdf "li" ∷ not-properties) ≡ true
 unfolding reservedElements coreSyntaxTerms oldTerms within F.all
 reserved-properties = refl
 
-pub node-name : (i : Bytes) → nodeElementURIs i ≡ true → mayBeNode i ≡ true
-unfolding nodeElementURIs mayBeNode
-node-name i h = ap not (not-member i reservedElements not-nodes reserved-nodes (not-true _ h))
+properties-reserved : within (rdf "li" ∷ not-properties) (rdf "Description" ∷ reservedElements) ≡ true
+unfolding reservedElements coreSyntaxTerms oldTerms within F.all
+properties-reserved = refl
 
-neither : (a b : Bool) → a ≡ false → b ≡ false → (a || b) ≡ false
-neither a b p q = rw (p, q)
+li-property : member (rdf "li") not-properties ≡ false
+unfolding coreSyntaxTerms oldTerms F.all
+li-property = refl
 
-property-others : (i : Bytes) → member i (rdf "li" ∷ not-properties) ≡ false → (member i reservedElements || same i (rdf "Description")) ≡ false
-unfolding member
-property-others i h =
-    let k : (same i (rdf "Description") ≡ false) × (member i reservedElements ≡ false) = or-none _ _ (not-member i (rdf "Description" ∷ reservedElements) (rdf "li" ∷ not-properties) reserved-properties h) in
-    neither (member i reservedElements) (same i (rdf "Description")) (k .1) (k .0)
+-- 7.2.6: and here
+pub property-element-names : (i : Bytes) → mayBeProperty i ≡ propertyElementURIs i
+unfolding propertyElementURIs mayBeProperty
+property-element-names i = go (same i (rdf "li")) (member i not-properties) (same i (rdf "Description")) (member i reservedElements) is-li both
+  where
+    is-li : same i (rdf "li") ≡ true → member i not-properties ≡ false
+    is-li e = ap (λ (x : Bytes). member x not-properties) (same-true i (rdf "li") e) ∙ li-property
+
+    both : (same i (rdf "Description") || member i reservedElements) ≡ (same i (rdf "li") || member i not-properties)
+    both = unfold member in same-members (rdf "Description" ∷ reservedElements) (rdf "li" ∷ not-properties) reserved-properties properties-reserved i
+
+    go : (l n d r : Bool) → (l ≡ true → n ≡ false) → (d || r) ≡ (l || n) → (l || not (r || d)) ≡ not n
+    go true n d r h k = sym (ap not (h refl))
+    go false n true true h k = ap not k
+    go false n true false h k = ap not k
+    go false n false true h k = ap not k
+    go false n false false h k = ap not k
 
 pub property-name : (i : Bytes) → propertyElementURIs i ≡ true → mayBeProperty i ≡ true
-unfolding propertyElementURIs mayBeProperty member
-property-name i h = go (same i (rdf "li")) refl
-  where
-    go : (b : Bool) → same i (rdf "li") ≡ b → (b || not (member i reservedElements || same i (rdf "Description"))) ≡ true
-    go true e = refl
-    go false e = ap not (property-others i (neither (same i (rdf "li")) (member i not-properties) e (not-true _ h)))
+property-name i h = property-element-names i ∙ h
 
 -- ---- attributes
 
@@ -153,3 +184,9 @@ passes-none test (x ∷ l) h i t = neither (same i x) (member i l) differs (pass
 pub all-allowed : (test : Bytes → Bool) → none-passes test noAttributes ≡ true → (as′ : List AttributeEvent) → All (λ a. test (a .0) ≡ true) as′ → All (λ a. member (a .0) noAttributes ≡ false) as′
 all-allowed test h [] k = tt
 all-allowed test h (a ∷ as′) k = (passes-none test noAttributes h (a .0) (k .0), all-allowed test h as′ (k .1))
+
+-- ---- white space
+
+pub space-blank : (t : Bytes) → isBlank t ≡ is-space t
+unfolding isBlank is-space ascii
+space-blank t = refl

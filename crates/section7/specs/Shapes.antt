@@ -13,12 +13,11 @@ use Rattle.spec.specs.Namespaces.{declared}
 use Rattle.spec.specs.Rdf.{rdf}
 use Rattle.theorems.specs.Roles.{or-none}
 use Rattle.spec.specs.NTriples.{Subject, Triple}
-use Rattle.spec.specs.RdfXml.{isBlank}
 use Rattle.spec.proofs.Booleans.{or-left, or-right, and-both}
 use Rattle.spec.proofs.Bytes.{same-refl}
 use Rattle.section7.specs.Events.{Content, end, characters, instruction, comment, element, before-text, text-of, Context, inside, AttributeEvent}
 use Rattle.section7.specs.Grammar as G
-use Rattle.section7.specs.Grammar.{value, propertyAttributeURIs, attrs, nodeElementList, Used, Matches, outermost, Misc, Accepts, RDF, alone, miscWs, miscInstruction, miscComment}
+use Rattle.section7.specs.Grammar.{value, propertyAttributeURIs, attrs, nodeElementList, is-space, Used, Matches, outermost, Misc, Accepts, RDF, alone, miscWs, miscInstruction, miscComment}
 use Rattle.section7.specs.Differences.{parseType, Place, document, nodes, properties, xml, by-parseType, place-in, element-uri}
 use Rattle.section7.specs.Differences as D
 use Rattle.section7.specs.Reading.{place-of}
@@ -47,7 +46,7 @@ elements-in (element n as′ children following) = suc (elements-in following)
 
 unfoldable pub is-spaced : Content → Bool
 is-spaced end = true
-is-spaced (characters s following) = isBlank s && is-spaced following
+is-spaced (characters s following) = is-space s && is-spaced following
 is-spaced (instruction s following) = is-spaced following
 is-spaced (comment s following) = is-spaced following
 is-spaced (element n as′ children following) = is-spaced following

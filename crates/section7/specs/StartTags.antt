@@ -27,7 +27,7 @@ use Rattle.spec.specs.RdfXml.{next, onEvent}
 use Rattle.theorems.specs.Always.{always-bind, always-any, always-after, always-self, always-good}
 use Rattle.theorems.specs.Roles.{or-none, nameIn}
 use Rattle.section7.specs.Events.{Context, written, target, language-in, inside, AttributeEvent, attributes, uri-of, is-reserved, is-named}
-use Rattle.section7.specs.Grammar.{value, values, is-rdf-id, all-resolved, typeTriple, typeTriples, Identifier, under, identifier, entered, iri-of, StartElement, Used, attrs, nodeID}
+use Rattle.section7.specs.Grammar.{value, values, is-rdf-id, all-resolved, typeTriple, typeTriples, Identifier, under, identifier, entered, fragment, iri-of, StartElement, Used, attrs, nodeID}
 use Rattle.section7.specs.Differences.{says, is-free-label, NoDifferenceInTag, OneIriEach}
 use Rattle.section7.specs.Reading.{Gives, Steps, doc, context}
 use Rattle.section7.specs.Giving.{gives-limit, gives-pass, gives-within, Produces}
@@ -76,10 +76,15 @@ none-resolved : (b i : Option Bytes) → resolved b none ≡ good i → i ≡ no
 unfolding resolved
 none-resolved b i h = let z : good none ≡ good i = h in cc
 
+hash-same : (o : Option Bytes) → withHash o ≡ fragment o
+unfolding withHash fragment
+hash-same none = refl
+hash-same (some v) = refl
+
 module _ (ids : List Identifier) where
   -- entered as an IRI and as a pair
-  entered-iri : (b v i : Option Bytes) → resolved b (withHash v) ≡ good i → enter i (map iri-of ids) ≡ map iri-of (entered (under b v) ids)
-  unfolding withHash entered under enter iri-of uri-of target
+  entered-iri : (b v i : Option Bytes) → resolved b (fragment v) ≡ good i → enter i (map iri-of ids) ≡ map iri-of (entered (under b v) ids)
+  unfolding fragment entered under enter iri-of uri-of target
   entered-iri b none i h = let g : i ≡ none = none-resolved b i h in rw g
   entered-iri b (some v) none h = absurd (false≢true (unfold isSome in resolved-some b (byte "#" ∷ v) none h))
   entered-iri b (some v) (some i) h = rw h
@@ -279,6 +284,7 @@ module _ (c : Context) (n : Bytes) (as′ : List Attribute) (u : Used) (e : Star
           ← r .base-same,
           ← r .language-same,
           first-value bs rdf-ID id-role as′ (r .fine),
+          hash-same (value (rdf "ID") (attrs c as′)),
           e .id-resolved,
           r .unused,
           first-value bs rdf-about about-role as′ (r .fine),
