@@ -131,6 +131,17 @@ table-attributes : within (names rdfRoles) (rdf "type" ∷ not-attributes) ≡ t
 unfolding names rdfRoles coreSyntaxTerms oldTerms within F.all
 table-attributes = refl
 
+-- 7.2.7: document 01 has the same names, but for rdf:Description, and rdf:type apart
+abbrev pub no-literals : List Bytes
+no-literals = rdf "type" ∷ (coreSyntaxTerms ++ (rdf "li" ∷ oldTerms))
+
+table-names : (within (names rdfRoles) no-literals ≡ true) × (within no-literals (names rdfRoles) ≡ true)
+unfolding names rdfRoles coreSyntaxTerms oldTerms within F.all
+table-names = (refl, refl)
+
+pub attribute-names : (i : Bytes) → member i (names rdfRoles) ≡ member i no-literals
+attribute-names i = same-members (names rdfRoles) no-literals (table-names .0) (table-names .1) i
+
 type-in-table : within (rdf "type" ∷ []) (names rdfRoles) ≡ true
 unfolding names rdfRoles within F.all
 type-in-table = refl
