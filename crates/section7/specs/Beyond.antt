@@ -1,4 +1,5 @@
--- Documents that are not in the grammar of section 7 and that the reader accepts, by name as in docs/DIFFERENCES.md: what it gives.
+-- Documents that are not in the grammar of section 7 and that the reader accepts, by name as in docs/DIFFERENCES.md: what
+-- it gives.
 -- In the comments `..` stands for the declarations of rdf and e.
 use mathlib.Core.Path.{_≡_, refl, sym, _∙_}
 use mathlib.Core.Bool.{false, false≢true}
@@ -38,17 +39,20 @@ abbrev is : Bytes → Triple
 is l = triple p q (node (blank l))
 
 -- <e:q><e:A/><e:B/></e:q>
-pub two-nodes : Beyond (q-with [] (child (ascii "e:A") (child (ascii "e:B") end))) (type-of-p ∷ type-of (label 2) (ascii "http://e/A") ∷ type-of (label 3) (ascii "http://e/B") ∷ is (label 3) ∷ [])
+pub two-nodes : Beyond (q-with [] (child (ascii "e:A") (child (ascii "e:B") end)))
+    (type-of-p ∷ type-of (label 2) (ascii "http://e/A") ∷ type-of (label 3) (ascii "http://e/B") ∷ is (label 3) ∷ [])
 unfolding S.all lines run
 two-nodes = beyond refl refl
 
 -- <e:q>a<e:A/></e:q>
-pub text-and-node : Beyond (q-with [] (characters (ascii "a") (child (ascii "e:A") end))) (type-of-p ∷ type-of (label 2) (ascii "http://e/A") ∷ is (label 2) ∷ [])
+pub text-and-node : Beyond (q-with [] (characters (ascii "a") (child (ascii "e:A") end)))
+    (type-of-p ∷ type-of (label 2) (ascii "http://e/A") ∷ is (label 2) ∷ [])
 unfolding S.all lines run
 text-and-node = beyond refl refl
 
 -- <e:q><e:A/>a</e:q>
-pub node-and-text : Beyond (q-with [] (child (ascii "e:A") (characters (ascii "a") end))) (type-of-p ∷ type-of (label 2) (ascii "http://e/A") ∷ triple p q (plain (ascii "a")) ∷ [])
+pub node-and-text : Beyond (q-with [] (child (ascii "e:A") (characters (ascii "a") end)))
+    (type-of-p ∷ type-of (label 2) (ascii "http://e/A") ∷ triple p q (plain (ascii "a")) ∷ [])
 unfolding S.all lines run
 node-and-text = beyond refl refl
 
@@ -63,7 +67,8 @@ unfolding S.all lines run
 bagID = beyond refl refl
 
 -- <e:P .. rdf:Description="v"/>
-pub Description-attribute : Beyond (node-with (attribute (ascii "rdf:Description") (ascii "v"))) (triple p (rdf "Description") (plain (ascii "v")) ∷ type-of-p ∷ [])
+pub Description-attribute : Beyond (node-with (attribute (ascii "rdf:Description") (ascii "v")))
+    (triple p (rdf "Description") (plain (ascii "v")) ∷ type-of-p ∷ [])
 unfolding S.all lines run
 Description-attribute = beyond refl refl
 
@@ -95,42 +100,50 @@ unfolding S.all lines run
 about-on-property = beyond refl refl
 
 -- <e:q rdf:parseType="Resource" e:a="1"/>
-pub attributes-and-parseType : Beyond (q-with (attribute (ascii "e:a") (ascii "1") ∷ only "rdf:parseType" "Resource") end) (type-of-p ∷ is (label 2) ∷ [])
+pub attributes-and-parseType : Beyond (q-with (attribute (ascii "e:a") (ascii "1") ∷ only "rdf:parseType" "Resource") end)
+    (type-of-p ∷ is (label 2) ∷ [])
 unfolding S.all lines run
 attributes-and-parseType = beyond refl refl
 
 -- <e:q rdf:parseType="Resource" rdf:nodeID="k" rdf:resource="http://e/r"/>
-pub objects-and-parseType : Beyond (q-with (attribute (ascii "rdf:parseType") (ascii "Resource") ∷ attribute (ascii "rdf:nodeID") (ascii "k") ∷ only "rdf:resource" "http://e/r") end) (type-of-p ∷ is (label 2) ∷ [])
+pub objects-and-parseType : Beyond (q-with (attribute (ascii "rdf:parseType") (ascii "Resource") ∷ attribute (ascii "rdf:nodeID") (ascii "k") ∷ only "rdf:resource" "http://e/r") end)
+    (type-of-p ∷ is (label 2) ∷ [])
 unfolding S.all lines run
 objects-and-parseType = beyond refl refl
 
 -- <e:q rdf:resource="http://e/r">t</e:q>
-pub resource-and-text : Beyond (q-with (only "rdf:resource" "http://e/r") (characters (ascii "t") end)) (type-of-p ∷ triple p q (plain (ascii "t")) ∷ [])
+pub resource-and-text : Beyond (q-with (only "rdf:resource" "http://e/r") (characters (ascii "t") end))
+    (type-of-p ∷ triple p q (plain (ascii "t")) ∷ [])
 unfolding S.all lines run
 resource-and-text = beyond refl refl
 
 -- <e:q rdf:resource="http://e/r"> </e:q>
-pub resource-and-white-space : Beyond (q-with (only "rdf:resource" "http://e/r") (characters (ascii " ") end)) (type-of-p ∷ triple p q (node (named (ascii "http://e/r"))) ∷ [])
+pub resource-and-white-space : Beyond (q-with (only "rdf:resource" "http://e/r") (characters (ascii " ") end))
+    (type-of-p ∷ triple p q (node (named (ascii "http://e/r"))) ∷ [])
 unfolding S.all lines run
 resource-and-white-space = beyond refl refl
 
 -- <e:q rdf:resource="http://e/r"><e:A/></e:q>
-pub resource-and-node : Beyond (q-with (only "rdf:resource" "http://e/r") (child (ascii "e:A") end)) (type-of-p ∷ type-of (label 2) (ascii "http://e/A") ∷ is (label 2) ∷ [])
+pub resource-and-node : Beyond (q-with (only "rdf:resource" "http://e/r") (child (ascii "e:A") end))
+    (type-of-p ∷ type-of (label 2) (ascii "http://e/A") ∷ is (label 2) ∷ [])
 unfolding S.all lines run
 resource-and-node = beyond refl refl
 
 -- <e:q rdf:nodeID="k">t</e:q>
-pub nodeID-and-text : Beyond (q-with (only "rdf:nodeID" "k") (characters (ascii "t") end)) (type-of-p ∷ triple p q (plain (ascii "t")) ∷ [])
+pub nodeID-and-text : Beyond (q-with (only "rdf:nodeID" "k") (characters (ascii "t") end))
+    (type-of-p ∷ triple p q (plain (ascii "t")) ∷ [])
 unfolding S.all lines run
 nodeID-and-text = beyond refl refl
 
 -- <e:q rdf:nodeID="k"><e:A/></e:q>
-pub nodeID-and-node : Beyond (q-with (only "rdf:nodeID" "k") (child (ascii "e:A") end)) (type-of-p ∷ type-of (label 2) (ascii "http://e/A") ∷ is (label 2) ∷ [])
+pub nodeID-and-node : Beyond (q-with (only "rdf:nodeID" "k") (child (ascii "e:A") end))
+    (type-of-p ∷ type-of (label 2) (ascii "http://e/A") ∷ is (label 2) ∷ [])
 unfolding S.all lines run
 nodeID-and-node = beyond refl refl
 
 -- <e:q e:a="1">t</e:q>
-pub attributes-and-text : Beyond (q-with (only "e:a" "1") (characters (ascii "t") end)) (type-of-p ∷ triple (blank (label 2)) (ascii "http://e/a") (plain (ascii "1")) ∷ triple p q (plain (ascii "t")) ∷ [])
+pub attributes-and-text : Beyond (q-with (only "e:a" "1") (characters (ascii "t") end))
+    (type-of-p ∷ triple (blank (label 2)) (ascii "http://e/a") (plain (ascii "1")) ∷ triple p q (plain (ascii "t")) ∷ [])
 unfolding S.all lines run
 attributes-and-text = beyond refl refl
 
@@ -141,17 +154,20 @@ unfolding S.all lines run
 attributes-and-node = beyond refl refl
 
 -- <e:q rdf:type="http://e/T">t</e:q>
-pub type-and-text : Beyond (q-with (only "rdf:type" "http://e/T") (characters (ascii "t") end)) (type-of-p ∷ triple p q (plain (ascii "t")) ∷ [])
+pub type-and-text : Beyond (q-with (only "rdf:type" "http://e/T") (characters (ascii "t") end))
+    (type-of-p ∷ triple p q (plain (ascii "t")) ∷ [])
 unfolding S.all lines run
 type-and-text = beyond refl refl
 
 -- <e:q rdf:datatype="http://e/d"><e:A/></e:q>
-pub datatype-and-node : Beyond (q-with (only "rdf:datatype" "http://e/d") (child (ascii "e:A") end)) (type-of-p ∷ type-of (label 2) (ascii "http://e/A") ∷ is (label 2) ∷ [])
+pub datatype-and-node : Beyond (q-with (only "rdf:datatype" "http://e/d") (child (ascii "e:A") end))
+    (type-of-p ∷ type-of (label 2) (ascii "http://e/A") ∷ is (label 2) ∷ [])
 unfolding S.all lines run
 datatype-and-node = beyond refl refl
 
 -- <e:q rdf:datatype="http://e/d" rdf:resource="http://e/r"/>
-pub datatype-and-resource : Beyond (q-with (attribute (ascii "rdf:datatype") (ascii "http://e/d") ∷ only "rdf:resource" "http://e/r") end) (type-of-p ∷ triple p q (node (named (ascii "http://e/r"))) ∷ [])
+pub datatype-and-resource : Beyond (q-with (attribute (ascii "rdf:datatype") (ascii "http://e/d") ∷ only "rdf:resource" "http://e/r") end)
+    (type-of-p ∷ triple p q (node (named (ascii "http://e/r"))) ∷ [])
 unfolding S.all lines run
 datatype-and-resource = beyond refl refl
 

@@ -1,4 +1,5 @@
--- An input for each clause of Differences, under its name: section 7 accepts the document with its triples, and the reader gives another answer.
+-- An input for each clause of Differences, under its name: section 7 accepts the document with its triples, and the reader
+-- gives another answer.
 -- In the comments `..` stands for the declarations of rdf and e.
 use mathlib.Core.Path.{_≡_, refl}
 use mathlib.Core.Bool.{Bool, false}
@@ -92,14 +93,24 @@ pub blank-text : Differs none (q-with [] (characters (ascii " ") end))
     (type-of-p ∷ triple p q (plain (ascii " ")) ∷ [])
     (good (type-of-p ∷ triple p q (plain []) ∷ []))
 unfolding D.all lines run gives q-tag
-blank-text = record { used = behind-root; accepted = accepted-in-node (literalPropertyElt q-tag refl tt refl refl noProperty); read = refl; others = refl }
+blank-text = record {
+  used = behind-root;
+  accepted = accepted-in-node (literalPropertyElt q-tag refl tt refl refl noProperty);
+  read = refl;
+  others = refl;
+}
 
 -- <e:q>a<?i?>b</e:q>
 pub divided-text : Differs none (q-with [] (characters (ascii "a") (instruction (ascii "i") (characters (ascii "b") end))))
     (type-of-p ∷ triple p q (plain (ascii "ab")) ∷ [])
     (good (type-of-p ∷ triple p q (plain (ascii "b")) ∷ []))
 unfolding D.all lines run gives q-tag
-divided-text = record { used = behind-root; accepted = accepted-in-node (literalPropertyElt q-tag refl tt refl refl noProperty); read = refl; others = refl }
+divided-text = record {
+  used = behind-root;
+  accepted = accepted-in-node (literalPropertyElt q-tag refl tt refl refl noProperty);
+  read = refl;
+  others = refl;
+}
 
 -- <e:q rdf:type="http://e/T"/>
 type-tag : StartElement in-p (ascii "e:q") (only "rdf:type" "http://e/T") []
@@ -126,7 +137,12 @@ pub other-parseType : Differs none (q-with (only "rdf:parseType" "x") (character
     (type-of-p ∷ triple p q (typed (ascii "t") (rdf "XMLLiteral")) ∷ [])
     (good (type-of-p ∷ []))
 unfolding D.all lines run gives other-tag
-other-parseType = record { used = behind-root; accepted = accepted-in-node (parseTypeOtherPropertyElt other-tag refl (refl, tt) refl refl tt noProperty); read = refl; others = refl }
+other-parseType = record {
+  used = behind-root;
+  accepted = accepted-in-node (parseTypeOtherPropertyElt other-tag refl (refl, tt) refl refl tt noProperty);
+  read = refl;
+  others = refl;
+}
 
 literal-tag : StartElement in-p (ascii "e:q") (only "rdf:parseType" "Literal") []
 unfolding D.all
@@ -137,14 +153,24 @@ pub empty-literal : Differs none (q-with (only "rdf:parseType" "Literal") end)
     (type-of-p ∷ triple p q (typed [] (rdf "XMLLiteral")) ∷ [])
     (refuse EmptyLiteral)
 unfolding D.all lines run gives literal-tag
-empty-literal = record { used = behind-root; accepted = accepted-in-node (parseTypeLiteralPropertyElt literal-tag refl (refl, tt) refl tt noProperty); read = refl; others = refl }
+empty-literal = record {
+  used = behind-root;
+  accepted = accepted-in-node (parseTypeLiteralPropertyElt literal-tag refl (refl, tt) refl tt noProperty);
+  read = refl;
+  others = refl;
+}
 
 -- <e:q rdf:parseType="Literal">'</e:q>
 pub xml-literal : Differs none (q-with (only "rdf:parseType" "Literal") (characters (ascii "'") end))
     (type-of-p ∷ triple p q (typed (ascii "'") (rdf "XMLLiteral")) ∷ [])
     (good (type-of-p ∷ triple p q (typed (ascii "&apos;") (rdf "XMLLiteral")) ∷ []))
 unfolding D.all lines run gives literal-tag
-xml-literal = record { used = behind-root; accepted = accepted-in-node (parseTypeLiteralPropertyElt literal-tag refl (refl, tt) refl tt noProperty); read = refl; others = refl }
+xml-literal = record {
+  used = behind-root;
+  accepted = accepted-in-node (parseTypeLiteralPropertyElt literal-tag refl (refl, tt) refl tt noProperty);
+  read = refl;
+  others = refl;
+}
 
 -- <e:q rdf:parseType="Literal"><e:b z="1" a="2"/></e:q>
 abbrev b-content : Content
@@ -167,7 +193,12 @@ pub xml-literal-comments : Differs none (q-with (only "rdf:parseType" "Literal")
     (type-of-p ∷ triple p q (typed (ascii "a<!--c--><?i?>") (rdf "XMLLiteral")) ∷ [])
     (good (type-of-p ∷ triple p q (typed (ascii "a") (rdf "XMLLiteral")) ∷ []))
 unfolding D.all lines run gives literal-tag
-xml-literal-comments = record { used = behind-root; accepted = accepted-in-node (parseTypeLiteralPropertyElt literal-tag refl (refl, tt) refl tt noProperty); read = refl; others = refl }
+xml-literal-comments = record {
+  used = behind-root;
+  accepted = accepted-in-node (parseTypeLiteralPropertyElt literal-tag refl (refl, tt) refl tt noProperty);
+  read = refl;
+  others = refl;
+}
 
 -- ---- of a start tag
 
@@ -179,9 +210,16 @@ about-tag : StartElement top (ascii "e:P") about-attributes []
 unfolding D.all
 about-tag = start _ _ _ _ (ascii "http://e/P") none none (some (ascii "http://e/p")) none none [] refl
 
-pub names-without-prefix : Differs none (element (ascii "e:P") about-attributes end end) (type-of-p ∷ []) (refuse NoNamespace)
+pub names-without-prefix : Differs none (element (ascii "e:P") about-attributes end end)
+    (type-of-p ∷ [])
+    (refuse NoNamespace)
 unfolding D.all lines run gives about-tag
-names-without-prefix = record { used = behind-root; accepted = alone (nodeElement about-tag refl (refl, tt) (refl, refl, refl) refl noProperty noNode) tt; read = refl; others = refl }
+names-without-prefix = record {
+  used = behind-root;
+  accepted = alone (nodeElement about-tag refl (refl, tt) (refl, refl, refl) refl noProperty noNode) tt;
+  read = refl;
+  others = refl;
+}
 
 -- <e:P .. xmlns:XMLx="http://x/" XMLx:a="1" rdf:about="http://e/p"/>
 abbrev capital-attributes : List Attribute
@@ -191,9 +229,16 @@ capital-tag : StartElement top (ascii "e:P") capital-attributes []
 unfolding D.all
 capital-tag = start _ _ _ _ (ascii "http://e/P") none none (some (ascii "http://e/p")) none none [] refl
 
-pub names-in-capitals : Differs none (element (ascii "e:P") capital-attributes end end) (type-of-p ∷ []) (good (triple p (ascii "http://x/a") (plain (ascii "1")) ∷ type-of-p ∷ []))
+pub names-in-capitals : Differs none (element (ascii "e:P") capital-attributes end end)
+    (type-of-p ∷ [])
+    (good (triple p (ascii "http://x/a") (plain (ascii "1")) ∷ type-of-p ∷ []))
 unfolding D.all lines run gives capital-tag
-names-in-capitals = record { used = behind-root; accepted = alone (nodeElement capital-tag refl (refl, tt) (refl, refl, refl) refl noProperty noNode) tt; read = refl; others = refl }
+names-in-capitals = record {
+  used = behind-root;
+  accepted = alone (nodeElement capital-tag refl (refl, tt) (refl, refl, refl) refl noProperty noNode) tt;
+  read = refl;
+  others = refl;
+}
 
 -- <e:P .. xmlns:f="http://e/b" e:bc="1" f:c="2" rdf:about="http://e/p"/>
 abbrev joined-attributes : List Attribute
@@ -207,25 +252,44 @@ pub joined-names : Differs none (element (ascii "e:P") joined-attributes end end
     (triple p (ascii "http://e/bc") (plain (ascii "1")) ∷ triple p (ascii "http://e/bc") (plain (ascii "2")) ∷ type-of-p ∷ [])
     (refuse NotWellFormed)
 unfolding D.all lines run gives joined-tag
-joined-names = record { used = behind-root; accepted = alone (nodeElement joined-tag refl (refl, (refl, (refl, tt))) (refl, refl, refl) refl noProperty noNode) tt; read = refl; others = refl }
+joined-names = record {
+  used = behind-root;
+  accepted = alone (nodeElement joined-tag refl (refl, (refl, (refl, tt))) (refl, refl, refl) refl noProperty noNode) tt;
+  read = refl;
+  others = refl;
+}
 
 -- <e:q xml:lang="">t</e:q>
 cleared-tag : StartElement in-p (ascii "e:q") (only "xml:lang" "") []
 unfolding D.all
 cleared-tag = start _ _ _ _ q none none none none none [] refl
 
-pub cleared-language : Differs none (q-with (only "xml:lang" "") (characters (ascii "t") end)) (type-of-p ∷ triple p q (plain (ascii "t")) ∷ []) (refuse BadLanguage)
+pub cleared-language : Differs none (q-with (only "xml:lang" "") (characters (ascii "t") end))
+    (type-of-p ∷ triple p q (plain (ascii "t")) ∷ [])
+    (refuse BadLanguage)
 unfolding D.all lines run gives cleared-tag
-cleared-language = record { used = behind-root; accepted = accepted-in-node (literalPropertyElt cleared-tag refl tt refl refl noProperty); read = refl; others = refl }
+cleared-language = record {
+  used = behind-root;
+  accepted = accepted-in-node (literalPropertyElt cleared-tag refl tt refl refl noProperty);
+  read = refl;
+  others = refl;
+}
 
 -- <e:q xml:lang="e">t</e:q>
 short-tag : StartElement in-p (ascii "e:q") (only "xml:lang" "e") []
 unfolding D.all
 short-tag = start _ _ _ _ q none none none none none [] refl
 
-pub other-language : Differs none (q-with (only "xml:lang" "e") (characters (ascii "t") end)) (type-of-p ∷ triple p q (tagged (ascii "t") (ascii "e")) ∷ []) (refuse BadLanguage)
+pub other-language : Differs none (q-with (only "xml:lang" "e") (characters (ascii "t") end))
+    (type-of-p ∷ triple p q (tagged (ascii "t") (ascii "e")) ∷ [])
+    (refuse BadLanguage)
 unfolding D.all lines run gives short-tag
-other-language = record { used = behind-root; accepted = accepted-in-node (literalPropertyElt short-tag refl tt refl refl noProperty); read = refl; others = refl }
+other-language = record {
+  used = behind-root;
+  accepted = accepted-in-node (literalPropertyElt short-tag refl tt refl refl noProperty);
+  read = refl;
+  others = refl;
+}
 
 -- a base at start
 abbrev h : Option Bytes
@@ -239,9 +303,16 @@ relative-tag : StartElement (outermost h) (ascii "e:P") relative-attributes []
 unfolding D.all
 relative-tag = start _ _ _ _ (ascii "http://e/P") (some (ascii "http://h/x")) none (some (ascii "http://h/x")) none none [] refl
 
-pub relative-base : Differs h (element (ascii "e:P") relative-attributes end end) (triple (named (ascii "http://h/x")) (rdf "type") (node (named (ascii "http://e/P"))) ∷ []) (refuse BadIri)
+pub relative-base : Differs h (element (ascii "e:P") relative-attributes end end)
+    (triple (named (ascii "http://h/x")) (rdf "type") (node (named (ascii "http://e/P"))) ∷ [])
+    (refuse BadIri)
 unfolding D.all lines run gives relative-tag
-relative-base = record { used = behind-root; accepted = alone (nodeElement relative-tag refl (refl, tt) (refl, refl, refl) refl noProperty noNode) tt; read = refl; others = refl }
+relative-base = record {
+  used = behind-root;
+  accepted = alone (nodeElement relative-tag refl (refl, tt) (refl, refl, refl) refl noProperty noNode) tt;
+  read = refl;
+  others = refl;
+}
 
 -- <e:P .. xml:base="http://h/a/../b" rdf:about=""/>
 abbrev dots-attributes : List Attribute
@@ -255,7 +326,12 @@ pub dots-in-base : Differs h (element (ascii "e:P") dots-attributes end end)
     (triple (named (ascii "http://h/b")) (rdf "type") (node (named (ascii "http://e/P"))) ∷ [])
     (good (triple (named (ascii "http://h/a/../b")) (rdf "type") (node (named (ascii "http://e/P"))) ∷ []))
 unfolding D.all lines run gives dots-tag
-dots-in-base = record { used = behind-root; accepted = alone (nodeElement dots-tag refl (refl, tt) (refl, refl, refl) refl noProperty noNode) tt; read = refl; others = refl }
+dots-in-base = record {
+  used = behind-root;
+  accepted = alone (nodeElement dots-tag refl (refl, tt) (refl, refl, refl) refl noProperty noNode) tt;
+  read = refl;
+  others = refl;
+}
 
 -- <e:P .. rdf:nodeID="a."/>
 abbrev label-attributes : Bytes → List Attribute
@@ -265,9 +341,16 @@ stop-tag : StartElement top (ascii "e:P") (label-attributes (ascii "a.")) []
 unfolding D.all
 stop-tag = start _ _ _ _ (ascii "http://e/P") none none none none none [] refl
 
-pub refused-label : Differs none (element (ascii "e:P") (label-attributes (ascii "a.")) end end) (triple (blank (ascii "a.")) (rdf "type") (node (named (ascii "http://e/P"))) ∷ []) (refuse BadLabel)
+pub refused-label : Differs none (element (ascii "e:P") (label-attributes (ascii "a.")) end end)
+    (triple (blank (ascii "a.")) (rdf "type") (node (named (ascii "http://e/P"))) ∷ [])
+    (refuse BadLabel)
 unfolding D.all lines run gives stop-tag
-refused-label = record { used = behind-root; accepted = alone (nodeElement stop-tag refl (refl, tt) (refl, refl, refl) refl noProperty noNode) tt; read = refl; others = refl }
+refused-label = record {
+  used = behind-root;
+  accepted = alone (nodeElement stop-tag refl (refl, tt) (refl, refl, refl) refl noProperty noNode) tt;
+  read = refl;
+  others = refl;
+}
 
 -- <e:P .. rdf:nodeID="riog00000001"/>
 riog-tag : StartElement top (ascii "e:P") (label-attributes (ascii "riog00000001")) []
@@ -278,7 +361,12 @@ pub refused-label-generated : Differs none (element (ascii "e:P") (label-attribu
     (triple (blank (ascii "riog00000001")) (rdf "type") (node (named (ascii "http://e/P"))) ∷ [])
     (refuse BadLabel)
 unfolding D.all lines run gives riog-tag
-refused-label-generated = record { used = behind-root; accepted = alone (nodeElement riog-tag refl (refl, tt) (refl, refl, refl) refl noProperty noNode) tt; read = refl; others = refl }
+refused-label-generated = record {
+  used = behind-root;
+  accepted = alone (nodeElement riog-tag refl (refl, tt) (refl, refl, refl) refl noProperty noNode) tt;
+  read = refl;
+  others = refl;
+}
 
 -- ---- of all rdf:IDs: <rdf:RDF ..><e:P xml:base="http://h/a" rdf:ID="x"/><e:P xml:base="http://h/a#f" rdf:ID="x"/></rdf:RDF>
 
