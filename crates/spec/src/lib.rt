@@ -1,4 +1,4 @@
-// Document 01 as definitions (specs/) and the theorems about them (proofs/); here, the refusals, which code and definitions share.
+// Document 01 as definitions (specs/), with a few laws of bytes and Booleans (proofs/); here, the refusals, which code and definitions share.
 
 // Why a call was refused: document 01, "Numbers returned", 1 to 18 in this order.
 pub enum Refusal {
