@@ -1,4 +1,4 @@
--- Document 01, "Events": a host's run of steps over its input, all at hand or in pieces (theorem: proofs/Division).
+-- Document 01, "Events": a host's run of steps over its input, all at hand or in pieces (theorem: Division of `theorems`).
 use mathlib.Core.Path.{_≡_}
 use mathlib.Core.Logic.{_⊎_}
 use mathlib.Core.Bool.{true}

@@ -1,4 +1,4 @@
--- Regular grammars: what they describe, and a test that computes. That the two agree is proved in proofs/Grammar.
+-- Regular grammars: what they describe, and a test that computes. That the two agree is proved in Grammar of `theorems`.
 use mathlib.Core.Path.{_≡_}
 use mathlib.Core.Logic.{_⊎_}
 use mathlib.Core.Bool.{Bool, true, false, _&&_, _||_}

@@ -1,4 +1,4 @@
--- How open elements stand in each other, behind each accepted event (theorem: proofs/Nesting).
+-- How open elements stand in each other, behind each accepted event (theorem: Nesting of `theorems`).
 use mathlib.Core.Path.{_≡_}
 use mathlib.Core.Bool.{false}
 use mathlib.Core.List.{List, [], _∷_}

@@ -1,4 +1,4 @@
--- Document 01, "Sizes": all limits, as they hold of what is kept of a document behind each accepted event (theorem: proofs/Limits).
+-- Document 01, "Sizes": all limits, as they hold of what is kept of a document behind each accepted event (theorem: Limits of `theorems`).
 use mathlib.Core.Option.{Option, none, some}
 use mathlib.Core.List.{List, [], _∷_}
 use Prim.Native.Nat.{_≤_}
