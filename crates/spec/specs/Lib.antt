@@ -18,6 +18,7 @@ pub mod Namespaces
 -- ---- triples and lines
 pub mod NTriples
 pub mod NTriplesGrammar
+pub mod NTriplesReading
 -- ---- from events to triples
 pub mod Rdf
 pub mod Document
