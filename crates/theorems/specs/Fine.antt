@@ -7,7 +7,7 @@ use mathlib.Core.Option.{Option}
 use mathlib.Core.List.{List, [], _∷_, map}
 use Prim.Native.Nat.{ℕ, _+_}
 use native.Mathlib.Omega.{arith}
-use lib.Dec.{leb}
+use lib.Dec.{eqb, leb}
 use borrow.Author.Tests.{ne-eqb, not-true, leb-true}
 use Rattle.spec.specs.Bytes.{Bytes, byte, every, between}
 use Rattle.spec.specs.Bytes as B
@@ -30,10 +30,17 @@ use Rattle.theorems.specs.Subjects.{Rule, OfLines, no-line, with-line}
 use Rattle.theorems.specs.Lists.{Family, kept}
 use Rattle.theorems.specs.Written.{notSpace, FineSubject, FineTerm, FineTriples, write-injective}
 
--- a test that fails at the space, and passes at c, tells that c is no space
+-- a byte other than b
+abbrev pub other : ℕ → ℕ → Bool
+other b c = not (eqb c b)
+
+-- a test that fails at b, and passes at c, tells that c is another
+pub tells-other : (b : ℕ) (p : ℕ → Bool) → p b ≡ false → (c : ℕ) → p c ≡ true → other b c ≡ true
+tells-other b p h c k = rw (ne-eqb c b λ e. true≢false (sym k ∙ (ap p e ∙ h)))
+
 not-space : (p : ℕ → Bool) → p 32 ≡ false → (c : ℕ) → p c ≡ true → notSpace c ≡ true
 unfolding notSpace
-not-space p h c k = rw (ne-eqb c 32 λ e. true≢false (sym k ∙ (ap p e ∙ h)))
+not-space p h c k = tells-other 32 p h c k
 
 -- ---- names: a space byte is a character by itself, and no name has it
 
@@ -74,20 +81,20 @@ avoids b (g or h) = avoids b g && avoids b h
 avoids b (g then h) = avoids b g && avoids b h
 avoids b (many g) = avoids b g
 
-without : (g : Grammar ℕ) (s : List ℕ) → avoids 32 g ≡ true → Describes g s → every notSpace s ≡ true
+pub without : (b : ℕ) (g : Grammar ℕ) (s : List ℕ) → avoids b g ≡ true → Describes g s → every (other b) s ≡ true
 unfolding every avoids
-without nothing s w d = absurd d
-without empty s w d = rw d
-without (one q) s w d = rw (d .1) (and-both (notSpace (d .0)) true (not-space q (not-true (q 32) w) (d .0) (d .2)) refl)
-without (g or h) s w (inl d) = without g s (and-left (avoids 32 g) (avoids 32 h) w) d
-without (g or h) s w (inr d) = without h s (and-right (avoids 32 g) (avoids 32 h) w) d
-without (g then h) s w d =
-    rw (d .2) (every-append notSpace (d .0) (d .1) (without g (d .0) (and-left (avoids 32 g) (avoids 32 h) w) (d .3)) (without h (d .1) (and-right (avoids 32 g) (avoids 32 h) w) (d .4)))
-without (many g) s w d = go s d (λ u x. without g u w x)
+without b nothing s w d = absurd d
+without b empty s w d = rw d
+without b (one q) s w d = rw (d .1) (and-both (other b (d .0)) true (tells-other b q (not-true (q b) w) (d .0) (d .2)) refl)
+without b (g or h) s w (inl d) = without b g s (and-left (avoids b g) (avoids b h) w) d
+without b (g or h) s w (inr d) = without b h s (and-right (avoids b g) (avoids b h) w) d
+without b (g then h) s w d =
+    rw (d .2) (every-append (other b) (d .0) (d .1) (without b g (d .0) (and-left (avoids b g) (avoids b h) w) (d .3)) (without b h (d .1) (and-right (avoids b g) (avoids b h) w) (d .4)))
+without b (many g) s w d = go s d (λ u x. without b g u w x)
   where
-    go : (s : List ℕ) → Many (Describes g) s → ((u : List ℕ) → Describes g u → every notSpace u ≡ true) → every notSpace s ≡ true
+    go : (s : List ℕ) → Many (Describes g) s → ((u : List ℕ) → Describes g u → every (other b) u ≡ true) → every (other b) s ≡ true
     go s (stop e) f = rw e
-    go s (more u v e x y) f = rw e (every-append notSpace u v (f u x) (go v y f))
+    go s (more u v e x y) f = rw e (every-append (other b) u v (f u x) (go v y f))
 
 no-space-in-tags : avoids 32 language-tag ≡ true
 unfolding avoids L.all
@@ -107,8 +114,8 @@ map-lower-fine [] h = refl
 map-lower-fine (c ∷ s) h = and-both (notSpace (lower c)) (every notSpace (map lower s)) (lower-fine c (and-left (notSpace c) (every notSpace s) h)) (map-lower-fine s (and-right (notSpace c) (every notSpace s) h))
 
 tag-fine : (v : Bytes) → isLanguageTag v ≡ true → every notSpace (map lower v) ≡ true
-unfolding isLanguageTag
-tag-fine v h = map-lower-fine v (without language-tag v no-space-in-tags (accepts-sound language-tag v h))
+unfolding isLanguageTag notSpace
+tag-fine v h = map-lower-fine v (without 32 language-tag v no-space-in-tags (accepts-sound language-tag v h))
 
 -- ---- the reader's triples
 

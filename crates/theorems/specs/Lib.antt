@@ -43,3 +43,5 @@ pub mod EventTexts
 pub mod Texts
 pub mod NTriplesLines
 pub mod NTriplesGrammar
+-- ---- what is written reads back
+pub mod NTriplesReading

@@ -28,10 +28,10 @@ in-word g s h e = in-ascii s h (accepts-sound g s e)
 -- ---- IRIs
 
 -- a character of an IRI, as it is
-abbrev isIriChar : ℕ → Bool
+abbrev pub isIriChar : ℕ → Bool
 isIriChar c = not (between 0 0x20 c || among (ascii "<>\"{}|^`\\") c)
 
-allowed : (c : ℕ) → forbidden c ≡ false → isIriChar c ≡ true
+pub allowed : (c : ℕ) → forbidden c ≡ false → isIriChar c ≡ true
 unfolding forbidden between
 allowed c h = rw (le-leb 0 c (omega arith), h)
 
@@ -86,24 +86,24 @@ in-iri i t =
 -- ---- literals
 
 -- a character of a literal, as it is
-abbrev isLiteralChar : ℕ → Bool
+abbrev pub isLiteralChar : ℕ → Bool
 isLiteralChar c = not (among (ascii "\"\\\n\r") c)
 
 abbrev literalPiece : Grammar ℕ
 literalPiece = one isLiteralChar or ECHAR or UCHAR
 
 -- none of the four that are escaped
-abbrev Plain : ℕ → Type 0
+abbrev pub Plain : ℕ → Type 0
 Plain c = (eqb c 34 ≡ false) × (eqb c 92 ≡ false) × (eqb c 10 ≡ false) × (eqb c 13 ≡ false)
 
-plain-char : (c : ℕ) → Plain c → isLiteralChar c ≡ true
+pub plain-char : (c : ℕ) → Plain c → isLiteralChar c ≡ true
 unfolding among ascii
 plain-char c (p, q, r, s) = rw (flip c 34 p, flip c 92 q, flip c 10 r, flip c 13 s) refl
   where
     flip : (a b : ℕ) → eqb a b ≡ false → eqb b a ≡ false
     flip a b h = ne-eqb b a λ e. eqb-false a b h (sym e)
 
-plain-byte : (c : ℕ) → Plain c → literalByte c ≡ c ∷ []
+pub plain-byte : (c : ℕ) → Plain c → literalByte c ≡ c ∷ []
 unfolding literalByte B.all
 plain-byte c (p, q, r, s) = simp (p, q, r, s)
 

@@ -241,7 +241,7 @@ abbrev pub FineTriples : List Triple → Type 0
 FineTriples [] = Unit {0}
 FineTriples (triple s p o ∷ ts) = FineSubject s × FineTerm o × FineTriples ts
 
-line-shape : (x : Subject) (p : Bytes) (o : Term) (w : Bytes)
+pub line-shape : (x : Subject) (p : Bytes) (o : Term) (w : Bytes)
     → line (triple x p o) ++ w ≡ writeSubject x ++ (32 ∷ (writeIri p ++ (32 ∷ (writeTerm o ++ (32 ∷ 46 ∷ 10 ∷ w)))))
 unfolding line ascii
 line-shape x p o w = simp append-assoc
