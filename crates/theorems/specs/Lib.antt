@@ -44,4 +44,5 @@ pub mod Texts
 pub mod NTriplesLines
 pub mod NTriplesGrammar
 -- ---- what is written reads back
+pub mod Utf8Bytes
 pub mod NTriplesReading
