@@ -39,5 +39,6 @@ pub mod Feeding
 pub mod Examples
 -- ---- demand 3
 pub mod Lists
+pub mod ReadingBack
 pub mod Inside
 pub mod Languages

@@ -22,6 +22,7 @@ pub mod Decimal
 pub mod Subjects
 pub mod Lists
 pub mod NewLabels
+pub mod Cells
 -- ---- inside an element
 pub mod Frames
 pub mod Inside
@@ -35,8 +36,6 @@ pub mod Changes
 pub mod Limits
 pub mod Nesting
 -- ---- lines
-pub mod Written
-pub mod Fine
 pub mod NodeLabels
 -- ---- all that is written is N-Triples
 pub mod EventTexts
@@ -46,3 +45,4 @@ pub mod NTriplesGrammar
 -- ---- what is written reads back
 pub mod Utf8Bytes
 pub mod NTriplesReading
+pub mod SameBytes

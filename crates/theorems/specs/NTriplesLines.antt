@@ -1,12 +1,12 @@
 -- The lines of triples whose IRIs and values are texts, and whose labels and tags are of its grammar, are a document of N-Triples.
 use mathlib.Core.Path.{_≡_, refl, sym, _∙_, ap, subst}
-use mathlib.Core.Logic.{inl}
-use mathlib.Core.Bool.{Bool, true, false, _&&_, _||_, not}
+use mathlib.Core.Logic.{inl, inr}
+use mathlib.Core.Bool.{Bool, true, false, _&&_, _||_, not, false≢true}
 use mathlib.Core.List.{List, [], _∷_, _++_, append-assoc, append-nil}
 use Prim.Native.Nat.{ℕ, _+_, _/_, _%_, _≤_, _<_}
 use native.Mathlib.Omega.{arith}
 use lib.Dec.{eqb, leb, ltb}
-use borrow.Author.Tests.{eqb-true, eqb-false, ne-eqb, le-leb, ltb-true, ltb-false, lt-ltb}
+use borrow.Author.Tests.{eqb-true, eqb-false, ne-eqb, le-leb, leb-true, ltb-true, ltb-false, lt-ltb}
 use Rattle.spec.specs.Bytes.{Bytes, ascii, byte, if_then_else_, between, among, every}
 use Rattle.spec.specs.Bytes as B
 use Rattle.spec.specs.Grammar.{Grammar, one, _or_, _then_, many, more, accepts}
@@ -15,17 +15,31 @@ use Rattle.spec.specs.NTriples.{Subject, named, blank, Term, node, plain, tagge
 use Rattle.spec.specs.NTriples as N
 use Rattle.spec.specs.NTriplesGrammar.{HEX, UCHAR, ECHAR, IRIREF, BLANK_NODE_LABEL, LANGTAG, STRING_LITERAL_QUOTE, literal, subject, object, WS, triple, EOL, ntriplesDoc, isNTriples, text}
 use Rattle.spec.specs.NTriplesGrammar as G
-use Rattle.spec.proofs.Booleans.{and-both, or-left, or-right}
+use Rattle.spec.proofs.Booleans.{and-left, and-right, and-both, or-left, or-right, or-cases}
 use Rattle.theorems.specs.Grammar.{accepts-sound}
 use Rattle.theorems.specs.Utf8.{isAscii, Text, characters-append}
 use Rattle.theorems.specs.Spelled.{In, accepted, in-ascii, in-left, in-right, _before_, in-none, in-one, in-text, in-coded}
-use Rattle.theorems.specs.Written.{forbidden-below}
 
 -- what the test accepts, of bytes below 128
 in-word : (g : Grammar ℕ) (s : Bytes) → every isAscii s ≡ true → accepts g s ≡ true → In g s
 in-word g s h e = in-ascii s h (accepts-sound g s e)
 
 -- ---- IRIs
+
+among-below : (n : ℕ) (l : Bytes) (c : ℕ) → every (λ x. ltb x n) l ≡ true → among l c ≡ true → c < n
+unfolding every among
+among-below n [] c h k = absurd (false≢true k)
+among-below n (a ∷ l) c h k = elim (or-cases (eqb a c) (among l c) k) [
+  | inl e ↦ omega (arith, eqb-true a c e, ltb-true a n (and-left (ltb a n) (every (λ x. ltb x n) l) h))
+  | inr e ↦ among-below n l c (and-right (ltb a n) (every (λ x. ltb x n) l) h) e
+]
+
+pub forbidden-below : (c : ℕ) → forbidden c ≡ true → c < 128
+unfolding forbidden B.all
+forbidden-below c h = elim (or-cases (leb c 32) (among (ascii "<>\"{}|^`\\") c) h) [
+  | inl e ↦ omega (arith, leb-true c 32 e)
+  | inr e ↦ among-below 128 (ascii "<>\"{}|^`\\") c refl e
+]
 
 -- a character of an IRI, as it is
 abbrev pub isIriChar : ℕ → Bool

@@ -22,14 +22,10 @@ use Rattle.spec.specs.Lists.{After}
 use Rattle.spec.specs.Calls.{State, isOpen, isClosed, unlawful}
 use Rattle.spec.specs.NTriplesReading.{Reader, _or_, upTo, many, one, longest, terminal, HEX, UCHAR, ECHAR, IRIREF, BLANK_NODE_LABEL, LANGTAG, STRING_LITERAL_QUOTE, WS, ntriplesDoc}
 use Rattle.spec.specs.NTriplesReading as R
-use Rattle.spec.proofs.Booleans.{and-left, and-right, and-both, no-true}
-use Rattle.theorems.specs.Utf8.{Text, decoded-text, Row, end, small, large, row}
-use Rattle.theorems.specs.Labels.{every-append, every-map}
-use Rattle.theorems.specs.Spelled.{In, accepted, in-grammar}
-use Rattle.theorems.specs.Written.{forbidden-below, line-shape}
-use Rattle.theorems.specs.Fine.{other, tells-other, avoids, without}
+use Rattle.theorems.specs.Utf8.{Text, decoded-text}
+use Rattle.theorems.specs.Spelled.{In, accepted, avoids, left-out}
 use Rattle.theorems.specs.Calls.{Steps, Holds}
-use Rattle.theorems.specs.NTriplesLines.{isIriChar, allowed, isLiteralChar, plain-char, plain-byte, SpelledSubject, SpelledTerm, SpelledLines, lines-in-grammar}
+use Rattle.theorems.specs.NTriplesLines.{forbidden-below, isIriChar, allowed, isLiteralChar, plain-char, plain-byte, SpelledSubject, SpelledTerm, SpelledLines, lines-in-grammar}
 use Rattle.theorems.specs.NTriplesGrammar.{LabelSubject, LabelTerm, LabelTriple, GoodBase, all-spelled}
 
 -- ---- reading from the front
@@ -169,29 +165,6 @@ unfolding longest if_then_else_
 longest-back p [] b s h k = rw (longest-none (λ u. p (b ∷ u)) s k, h, longest)
 longest-back p (c ∷ u) b s h k = rw (longest-back (λ u. p (c ∷ u)) u b s h k, longest)
 
--- a byte below 128 is a character by itself: where no character of a text is it, no byte is
-row-other : (b : ℕ) → b < 128 → {s : Bytes} {cs : List ℕ} → Row s cs → every (other b) cs ≡ true → every (other b) s ≡ true
-unfolding every
-row-other b lt end h = refl
-row-other b lt (small {s = s} {cs = cs} c a r) h = and-both (other b c) (every (other b) s) (and-left (other b c) (every (other b) cs) h) (row-other b lt r (and-right (other b c) (every (other b) cs) h))
-row-other b lt (large {s = s} {cs = cs} l c e a le r) h =
-    every-append (other b) l s (every-map (λ x. leb 128 x) (other b) (tells-other b (λ x. leb 128 x) (lt-leb 128 b lt)) l a) (row-other b lt r (and-right (other b c) (every (other b) cs) h))
-
-never-at : (b : ℕ) (u v : Bytes) → every (other b) (u ++ (b ∷ v)) ≡ false
-unfolding every
-never-at b [] v = rw (eq-eqb b b refl)
-never-at b (c ∷ u) v = rw (never-at b u v) (go (other b c))
-  where
-    go : (x : Bool) → (x && false) ≡ false
-    go true = refl
-    go false = refl
-
--- no text of a grammar has a byte that its classes leave out
-left-out : (g : Grammar ℕ) (b : ℕ) → b < 128 → avoids b g ≡ true → (u v : Bytes) → asCharacters (accepts g) (u ++ (b ∷ v)) ≡ false
-left-out g b lt a u v = no-true _ λ h.
-    let x : In g (u ++ (b ∷ v)) = in-grammar g (u ++ (b ∷ v)) h in
-    true≢false (sym (row-other b lt (row _ (x .chars) (x .are)) (without b g (x .chars) a (x .described))) ∙ never-at b u v)
-
 after-mark : (m l : Bytes) → B.after m (m ++ l) ≡ l
 unfolding B.after
 after-mark [] l = refl
@@ -302,6 +275,11 @@ triple-read x p o s h k =
     a-space (writeIri p ++ (32 ∷ (writeTerm o ++ (32 ∷ 46 ∷ s)))) (before-iri p _), iri-read p (32 ∷ (writeTerm o ++ (32 ∷ 46 ∷ s))),
     a-space (writeTerm o ++ (32 ∷ 46 ∷ s)) (before-term o _), object-read o s k, a-space (46 ∷ s) (no-space 46 s refl))
 
+line-shape : (x : Subject) (p : Bytes) (o : Term) (w : Bytes)
+    → line (triple x p o) ++ w ≡ writeSubject x ++ (32 ∷ (writeIri p ++ (32 ∷ (writeTerm o ++ (32 ∷ 46 ∷ 10 ∷ w)))))
+unfolding line ascii
+line-shape x p o w = simp append-assoc
+
 -- A written line says its triple, whatever follows it.
 pub line-reads-back : (t : Triple) (s : Bytes) → LabelTriple t → R.line (line t ++ s) ≡ some (some t, s)
 unfolding R.line R.optional R.says R._then_ R._followedBy_ R._>>=_ R._or_ R.EOL R.comment R.text B.all
@@ -318,7 +296,7 @@ not-empty (b ∷ u) v a = refl
 line-not-empty : (t : Triple) (s : Bytes) → B.isEmpty (line t ++ s) ≡ false
 line-not-empty (triple x p o) s = rw (line-shape x p o s) (not-empty (writeSubject x) (writeIri p ++ (32 ∷ (writeTerm o ++ (32 ∷ 46 ∷ 10 ∷ s)))) 32)
 
-lines-back : (n : ℕ) (ts : List Triple) → length ts ≤ n → All LabelTriple ts → R.lines n (write ts) ≡ some ts
+pub lines-back : (n : ℕ) (ts : List Triple) → length ts ≤ n → All LabelTriple ts → R.lines n (write ts) ≡ some ts
 unfolding R.lines R._>>=_ R.inFront write B.isEmpty if_then_else_
 lines-back zero [] le h = refl
 lines-back (suc n) [] le h = refl
