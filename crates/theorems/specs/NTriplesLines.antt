@@ -159,6 +159,14 @@ abbrev pub SpelledLines : List Triple → Type 0
 SpelledLines [] = Unit {0}
 SpelledLines (N.triple s p o ∷ ts) = SpelledSubject s × Text p × SpelledTerm o × SpelledLines ts
 
+pub spelled-append : (ts us : List Triple) → SpelledLines ts → SpelledLines us → SpelledLines (ts ++ us)
+spelled-append [] us h k = k
+spelled-append (N.triple s p o ∷ ts) us h k = (h .0, h .1, h .2, spelled-append ts us (h .3) k)
+
+pub spelled-behind : (ts us : List Triple) → SpelledLines (ts ++ us) → SpelledLines us
+spelled-behind [] us h = h
+spelled-behind (N.triple s p o ∷ ts) us h = spelled-behind ts us (h .3)
+
 in-subject : (s : Subject) → SpelledSubject s → In subject (writeSubject s)
 unfolding subject writeSubject
 in-subject (named i) h = in-left (in-iri i h)
