@@ -1,5 +1,5 @@
--- W3C N-Triples 1.1, section 7, by value: what a line says. The productions stand in the order of the grammar and under its names.
--- A text is its bytes in UTF-8: a character that stands for itself says its own bytes, an escape says those of the character that it names.
+-- W3C N-Triples 1.1, section 7, by value: what a line says. The productions stand under the grammar's names and in its order.
+-- A text is its bytes in UTF-8: a character that stands for itself says its own bytes, an escape those of the character it names.
 use mathlib.Core.Bool.{Bool, true, false, _||_, not}
 use mathlib.Core.Option.{Option, none, some}
 use mathlib.Core.List.{List, [], _∷_, _++_}
@@ -65,7 +65,11 @@ text w s = if begins (ascii w) s then some (tt, after (ascii w) s) else none
 -- the longest beginning that passes a test
 unfoldable pub longest : (Bytes → Bool) → Reader Bytes
 longest p [] = if p [] then some ([], []) else none
-longest p (c ∷ s) = elim (longest (λ u. p (c ∷ u)) s) [ none ↦ (if p [] then some ([], c ∷ s) else none) | some r ↦ some (c ∷ r .0, r .1) ]
+longest p (c ∷ s) =
+    elim (longest (λ u. p (c ∷ u)) s) [
+      | none ↦ if p [] then some ([], c ∷ s) else none
+      | some r ↦ some (c ∷ r .0, r .1)
+    ]
 
 -- a terminal without escapes says what follows its mark
 unfoldable pub terminal : Grammar ℕ → String → Reader Bytes
@@ -110,7 +114,8 @@ UCHAR = character (text "\\u" then digits 4 0) or character (text "\\U" then dig
 -- [153s] ECHAR: what stands behind the backslash, and the character that it says
 unfoldable pub ECHARS : List (ℕ × ℕ)
 ECHARS =
-    (byte "t", 0x09) ∷ (byte "b", 0x08) ∷ (byte "n", 0x0A) ∷ (byte "r", 0x0D) ∷ (byte "f", 0x0C) ∷ (byte "\"", 0x22) ∷ (byte "'", 0x27) ∷ (byte "\\", 0x5C) ∷ []
+    (byte "t", 0x09) ∷ (byte "b", 0x08) ∷ (byte "n", 0x0A) ∷ (byte "r", 0x0D) ∷ (byte "f", 0x0C) ∷
+    (byte "\"", 0x22) ∷ (byte "'", 0x27) ∷ (byte "\\", 0x5C) ∷ []
 
 unfoldable pub oneOf : List (ℕ × ℕ) → Reader Bytes
 oneOf l [] = none
@@ -122,7 +127,8 @@ ECHAR = text "\\" then oneOf ECHARS
 
 -- [8] IRIREF
 unfoldable pub IRIREF : Reader Bytes
-IRIREF = text "<" then many (one (λ c. not (between 0 0x20 c || among (ascii "<>\"{}|^`\\") c)) or UCHAR) followedBy text ">"
+IRIREF =
+    text "<" then many (one (λ c. not (between 0 0x20 c || among (ascii "<>\"{}|^`\\") c)) or UCHAR) followedBy text ">"
 
 -- [141s] BLANK_NODE_LABEL
 unfoldable pub BLANK_NODE_LABEL : Reader Bytes
@@ -134,7 +140,8 @@ LANGTAG = terminal G.LANGTAG "@"
 
 -- [9] STRING_LITERAL_QUOTE
 unfoldable pub STRING_LITERAL_QUOTE : Reader Bytes
-STRING_LITERAL_QUOTE = text "\"" then many (one (λ c. not (among (ascii "\"\\\n\r") c)) or ECHAR or UCHAR) followedBy text "\""
+STRING_LITERAL_QUOTE =
+    text "\"" then many (one (λ c. not (among (ascii "\"\\\n\r") c)) or ECHAR or UCHAR) followedBy text "\""
 
 -- ---- the productions
 
@@ -146,7 +153,9 @@ WS = many (one (among (ascii " \t")))
 unfoldable pub literal : Reader Term
 literal s =
     STRING_LITERAL_QUOTE s >>= λ v.
-    (says (typed (v .0)) (WS then text "^^" then WS then IRIREF) or says (tagged (v .0)) (WS then LANGTAG) or λ rest. some (plain (v .0), rest)) (v .1)
+    (says (typed (v .0)) (WS then text "^^" then WS then IRIREF)
+    or says (tagged (v .0)) (WS then LANGTAG)
+    or λ rest. some (plain (v .0), rest)) (v .1)
 
 -- [3], [4], [5]
 unfoldable pub subject : Reader Subject

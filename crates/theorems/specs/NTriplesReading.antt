@@ -271,9 +271,15 @@ triple-read : (x : Subject) (p : Bytes) (o : Term) (s : Bytes) → LabelSubject 
     → R.triple (writeSubject x ++ (32 ∷ (writeIri p ++ (32 ∷ (writeTerm o ++ (32 ∷ 46 ∷ s)))))) ≡ some (triple x p o, s)
 unfolding R.triple R.predicate R._then_ R._followedBy_ R._>>=_ R.text B.all
 triple-read x p o s h k =
-    rw (before-subject x (32 ∷ (writeIri p ++ (32 ∷ (writeTerm o ++ (32 ∷ 46 ∷ s))))), subject-read x (writeIri p ++ (32 ∷ (writeTerm o ++ (32 ∷ 46 ∷ s)))) h,
-    a-space (writeIri p ++ (32 ∷ (writeTerm o ++ (32 ∷ 46 ∷ s)))) (before-iri p _), iri-read p (32 ∷ (writeTerm o ++ (32 ∷ 46 ∷ s))),
-    a-space (writeTerm o ++ (32 ∷ 46 ∷ s)) (before-term o _), object-read o s k, a-space (46 ∷ s) (no-space 46 s refl))
+    rw (
+      before-subject x (32 ∷ (writeIri p ++ (32 ∷ (writeTerm o ++ (32 ∷ 46 ∷ s))))),
+      subject-read x (writeIri p ++ (32 ∷ (writeTerm o ++ (32 ∷ 46 ∷ s)))) h,
+      a-space (writeIri p ++ (32 ∷ (writeTerm o ++ (32 ∷ 46 ∷ s)))) (before-iri p _),
+      iri-read p (32 ∷ (writeTerm o ++ (32 ∷ 46 ∷ s))),
+      a-space (writeTerm o ++ (32 ∷ 46 ∷ s)) (before-term o _),
+      object-read o s k,
+      a-space (46 ∷ s) (no-space 46 s refl),
+    )
 
 line-shape : (x : Subject) (p : Bytes) (o : Term) (w : Bytes)
     → line (triple x p o) ++ w ≡ writeSubject x ++ (32 ∷ (writeIri p ++ (32 ∷ (writeTerm o ++ (32 ∷ 46 ∷ 10 ∷ w)))))

@@ -1,4 +1,4 @@
--- Demand 3: two different sequences of this reader's triples never have the same bytes, since reading gives back what was written.
+-- Demand 3: two different sequences of this reader's triples never have the same bytes, since reading gives back the triples.
 use mathlib.Core.Path.{_≡_, sym, _∙_, ap}
 use mathlib.Core.Option.{Option, some, Option·some-injective}
 use mathlib.Core.List.{List, [], _∷_, _++_}
@@ -31,15 +31,17 @@ given-labels (and-then {ts = ts} {us = us} g h) = all-append LabelTriple ts us (
 
 pub same-bytes-same-triples : (ts us : List Triple) → Given ts → Given us → write ts ≡ write us → ts ≡ us
 same-bytes-same-triples ts us g h e =
+    let n = length ts + length us in
     Option·some-injective ts us
-    (sym (lines-back (length ts + length us) ts (omega arith) (given-labels g)) ∙ (ap (lines (length ts + length us)) e ∙ lines-back (length ts + length us) us (omega arith) (given-labels h)))
+    (sym (lines-back n ts (omega arith) (given-labels g)) ∙ (ap (lines n) e ∙ lines-back n us (omega arith) (given-labels h)))
 
 -- ---- what is given
 
 -- by a part of a document
 pub part-given : (b : Option Bytes) (d d′ : Doc) (ts us : List Triple) → After (fresh b) d ts → After d d′ us → Given us
 part-given b d d′ ts us before here = none-given
-part-given b d d″ ts us before (event {d = d₁} {ts = vs} a e d′ ws q) = and-then (part-given b d d₁ ts vs before a) (by-event b (after-append before a) e d′ ws q)
+part-given b d d″ ts us before (event {d = d₁} {ts = vs} a e d′ ws q) =
+    and-then (part-given b d d₁ ts vs before a) (by-event b (after-append before a) e d′ ws q)
 
 -- by a document from its start
 pub whole-given : (b : Option Bytes) (d : Doc) (ts : List Triple) → After (fresh b) d ts → Given ts

@@ -33,14 +33,23 @@ two b p q =
 three : (b : ℕ) → 0xE0 ≤ b → b < 0xF0 → leadingOnes b ≡ 3
 unfolding leadingOnes U.leadingOnesOf if_then_else_
 three b p q =
-    rw (le-leb 128 b (omega arith), le-leb 128 (2 * b % 256) (omega arith), le-leb 128 (2 * (2 * b % 256) % 256) (omega arith),
-    lt-leb 128 (2 * (2 * (2 * b % 256) % 256) % 256) (omega arith)) refl
+    rw (
+      le-leb 128 b (omega arith),
+      le-leb 128 (2 * b % 256) (omega arith),
+      le-leb 128 (2 * (2 * b % 256) % 256) (omega arith),
+      lt-leb 128 (2 * (2 * (2 * b % 256) % 256) % 256) (omega arith),
+    ) refl
 
 four : (b : ℕ) → 0xF0 ≤ b → b < 0xF8 → leadingOnes b ≡ 4
 unfolding leadingOnes U.leadingOnesOf if_then_else_
 four b p q =
-    rw (le-leb 128 b (omega arith), le-leb 128 (2 * b % 256) (omega arith), le-leb 128 (2 * (2 * b % 256) % 256) (omega arith),
-    le-leb 128 (2 * (2 * (2 * b % 256) % 256) % 256) (omega arith), lt-leb 128 (2 * (2 * (2 * (2 * b % 256) % 256) % 256) % 256) (omega arith)) refl
+    rw (
+      le-leb 128 b (omega arith),
+      le-leb 128 (2 * b % 256) (omega arith),
+      le-leb 128 (2 * (2 * b % 256) % 256) (omega arith),
+      le-leb 128 (2 * (2 * (2 * b % 256) % 256) % 256) (omega arith),
+      lt-leb 128 (2 * (2 * (2 * (2 * b % 256) % 256) % 256) % 256) (omega arith),
+    ) refl
 
 -- ---- by length
 

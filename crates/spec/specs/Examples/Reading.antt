@@ -19,9 +19,15 @@ that o = some (triple (named (ascii "a")) (ascii "b") o ∷ [])
 unfoldable pub objects : List (Bytes × Option (List Triple))
 objects =
     -- the eight of ECHAR
-    (about (ascii "\"\\t\\b\\n\\r\\f\\\"\\'\\\\\""), that (plain (0x09 ∷ 0x08 ∷ 0x0A ∷ 0x0D ∷ 0x0C ∷ 0x22 ∷ 0x27 ∷ 0x5C ∷ []))) ∷
+    (
+      about (ascii "\"\\t\\b\\n\\r\\f\\\"\\'\\\\\""),
+      that (plain (0x09 ∷ 0x08 ∷ 0x0A ∷ 0x0D ∷ 0x0C ∷ 0x22 ∷ 0x27 ∷ 0x5C ∷ [])),
+    ) ∷
     -- both of UCHAR, hex digits in either case; characters of one to four bytes
-    (about (ascii "\"\\u0041\\u00e9\\u20AC\\U0001F600\""), that (plain (0x41 ∷ 0xC3 ∷ 0xA9 ∷ 0xE2 ∷ 0x82 ∷ 0xAC ∷ 0xF0 ∷ 0x9F ∷ 0x98 ∷ 0x80 ∷ []))) ∷
+    (
+      about (ascii "\"\\u0041\\u00e9\\u20AC\\U0001F600\""),
+      that (plain (0x41 ∷ 0xC3 ∷ 0xA9 ∷ 0xE2 ∷ 0x82 ∷ 0xAC ∷ 0xF0 ∷ 0x9F ∷ 0x98 ∷ 0x80 ∷ [])),
+    ) ∷
     -- bytes that stand for themselves
     (about (0x22 ∷ 0xC3 ∷ 0xA9 ∷ 0x00 ∷ 0x09 ∷ 0x22 ∷ []), that (plain (0xC3 ∷ 0xA9 ∷ 0x00 ∷ 0x09 ∷ []))) ∷
     -- in an IRI, UCHAR alone
@@ -47,19 +53,25 @@ unfoldable pub documents : List (Bytes × Option (List Triple))
 documents =
     ([], some []) ∷
     (ascii "\n # a comment\r\t\n", some []) ∷
-    (ascii "<a><b>_:c.", some (triple (named (ascii "a")) (ascii "b") (node (blank (ascii "c"))) ∷ [])) ∷
-    (ascii "_:x<b>\"\".#\r\n\n<a>\t<b> <c>\t. # end", some (triple (blank (ascii "x")) (ascii "b") (plain []) ∷ triple (named (ascii "a")) (ascii "b") (node (named (ascii "c"))) ∷ [])) ∷
+    (ascii "<a><b>_:c.", some (triple (named (ascii "a")) (ascii "b") (node (blank (ascii "c"))) ∷ [])) ∷ (
+      ascii "_:x<b>\"\".#\r\n\n<a>\t<b> <c>\t. # end",
+      some (triple (blank (ascii "x")) (ascii "b") (plain []) ∷ triple (named (ascii "a")) (ascii "b") (node (named (ascii "c"))) ∷ []),
+    ) ∷
     (ascii "<a><b><c>.<a><b><c>.", none) ∷
     (ascii "<a><b><c>", none) ∷
     (ascii "<a><b>\n<c>.", none) ∷
     (ascii "\"s\" <b> <c> .", none) ∷
     []
 
-pub objects-read : map (λ (r : Bytes × Option (List Triple)). ntriplesDoc (r .0)) objects ≡ map (λ (r : Bytes × Option (List Triple)). r .1) objects
+-- what each of them says is what it should say
+abbrev pub Read : List (Bytes × Option (List Triple)) → Type 0
+Read l = map (λ (r : Bytes × Option (List Triple)). ntriplesDoc (r .0)) l ≡ map (λ (r : Bytes × Option (List Triple)). r .1) l
+
+pub objects-read : Read objects
 unfolding R.all about that objects
 objects-read = refl
 
-pub documents-read : map (λ (r : Bytes × Option (List Triple)). ntriplesDoc (r .0)) documents ≡ map (λ (r : Bytes × Option (List Triple)). r .1) documents
+pub documents-read : Read documents
 unfolding R.all documents
 documents-read = refl
 
