@@ -1,5 +1,5 @@
--- Document 01, "The strength of the contracts": a step that meets its contract is none of the five that are to be shut out. Each falls at
--- a small input, or at a second one; what is proved there is that whatever meets `Steps` does otherwise.
+-- Document 01, "The strength of the contracts": a step that meets its contract is none of the five that are to be shut out.
+-- Four fall at a small input, the first of a document or the second: whatever meets `Steps` does otherwise there.
 use Prim.Native.Nat.{ℕ, zero, suc, _+_}
 use Prim.Native.String.{String}
 use mathlib.Core.Path.{_≡_, refl, sym, ap, _∙_}
@@ -11,7 +11,7 @@ use native.Mathlib.Omega.{arith}
 use lib.Dec.{leb}
 use lib.ListN.{length, take, replicate, length-replicate}
 use Rattle.spec.specs.Limits.{mostIds}
-use Rattle.spec.specs.Bytes.{Bytes, ascii, _>>=_, _>>_, require_or_}
+use Rattle.spec.specs.Bytes.{Bytes, ascii, every, _>>=_, _>>_, require_or_}
 use Rattle.spec.specs.Numbers.{good}
 use Rattle.spec.specs.declared.Refusal.{Refusal}
 use Rattle.spec.specs.Pyx.{Event, readEvent}
@@ -52,45 +52,51 @@ pub record Back : Type 0 where
 abbrev pub Call : Type 0
 Call = Handed → Back
 
--- it meets the contract, whatever it is handed
-abbrev pub Obeys : Call → Type 0
-Obeys f = (a : Handed) → Steps (a .last) (a .input) (a .state) (a .work) (a .ids) (a .out) (f a .report) (f a .work) (f a .ids) (f a .out)
-
 -- the next call: the state and the stores as this one left them
 abbrev pub again : Back → Bool → Bytes → List ℕ → Handed
-again b last input out = record { last = last; input = input; state = b .report .state; work = b .work; ids = b .ids; out = out }
+again b last input out =
+    record { last = last; input = input; state = b .report .state; work = b .work; ids = b .ids; out = out }
+
+-- It meets the contract at every call of a set D. That can be all calls, or those that the types of a program let it make.
+abbrev pub Obeys : (Handed → Type 0) → Call → Type 0
+Obeys D f = (a : Handed) → D a
+    → Steps (a .last) (a .input) (a .state) (a .work) (a .ids) (a .out) (f a .report) (f a .work) (f a .ids) (f a .out)
 
 -- ---- the five
 
 -- "refusing always"
-abbrev pub RefusesAlways : Call → Type 0
-RefusesAlways f = (a : Handed) → f a .report .answer ≡ Done → ⊥
+abbrev pub RefusesAlways : (Handed → Type 0) → Call → Type 0
+RefusesAlways D f = (a : Handed) → D a → f a .report .answer ≡ Done → ⊥
 
 -- "one fixed answer"
-abbrev pub OneAnswer : Call → Type 0
-OneAnswer f = (n : Answer) × ((a : Handed) → f a .report .answer ≡ n)
+abbrev pub OneAnswer : (Handed → Type 0) → Call → Type 0
+OneAnswer D f = (n : Answer) × ((a : Handed) → D a → f a .report .answer ≡ n)
 
 -- a call wrote nothing, by its count or in fact
 abbrev pub Silent : Handed → Back → Type 0
 Silent a b = (b .report .written ≡ 0) ⊎ (b .out ≡ a .out)
 
 -- "consuming events but writing nothing"
-abbrev pub WritesNothing : Call → Type 0
-WritesNothing f = (a : Handed) → Silent a (f a)
+abbrev pub WritesNothing : (Handed → Type 0) → Call → Type 0
+WritesNothing D f = (a : Handed) → D a → Silent a (f a)
 
 -- "working on the first event and then only advancing": behind a call that is done, the next writes nothing
-abbrev pub OnlyAdvances : Call → Type 0
-OnlyAdvances f = (a : Handed) → f a .report .answer ≡ Done → (last : Bool) (input : Bytes) (out : List ℕ) → Silent (again (f a) last input out) (f (again (f a) last input out))
+abbrev pub OnlyAdvances : (Handed → Type 0) → Call → Type 0
+OnlyAdvances D f = (a : Handed) → D a → f a .report .answer ≡ Done → (last : Bool) (input : Bytes) (out : List ℕ)
+    → D (again (f a) last input out) → Silent (again (f a) last input out) (f (again (f a) last input out))
 
--- "inventing counts": those of an event that is accepted are not its bytes and the bytes of its lines, or those of a refusal are not 0
+-- of an accepted event the counts are not its bytes and the bytes of its lines, or of a refusal they are not 0
 pub data Invents (a : Handed) (b : Back) : Type 0 where
-  of-event : (d : Doc) (bytes : Bytes) (e : Event) (us : List Triple) (d′ : Doc) → meaningOf (a .state) (a .work) (a .ids) ≡ isOpen d → cut (a .last) (a .input) ≡ whole bytes
+  of-event : (d : Doc) (bytes : Bytes) (e : Event) (us : List Triple) (d′ : Doc)
+      → meaningOf (a .state) (a .work) (a .ids) ≡ isOpen d → cut (a .last) (a .input) ≡ whole bytes
       → readEvent bytes ≡ good e → next e d ≡ good (us, d′) → leb (length (write us)) (length (a .out)) ≡ true
       → ((b .report .consumed ≡ length bytes) × (b .report .written ≡ length (write us)) → ⊥) → Invents a b
-  of-refusal : (n : Refusal) → b .report .answer ≡ Refused n → ((b .report .consumed ≡ 0) × (b .report .written ≡ 0) → ⊥) → Invents a b
+  of-refusal : (n : Refusal) → b .report .answer ≡ Refused n
+      → ((b .report .consumed ≡ 0) × (b .report .written ≡ 0) → ⊥) → Invents a b
 
-abbrev pub InventsCounts : Call → Type 0
-InventsCounts f = (a : Handed) × Invents a (f a)
+-- "inventing counts"
+abbrev pub InventsCounts : (Handed → Type 0) → Call → Type 0
+InventsCounts D f = (a : Handed) × D a × Invents a (f a)
 
 -- ---- a document that begins
 
@@ -128,6 +134,15 @@ begun-means = fresh-means (zeros 65_536) (zeros 32_768) begun-fresh (zeros-lengt
 -- its first call, with this input, and room for a line or two
 abbrev pub first : Bytes → Handed
 first input = record { last = true; input = input; state = begun; work = zeros 65_536; ids = zeros 32_768; out = zeros 128 }
+
+-- of bytes
+abbrev pub AreBytes : List ℕ → Type 0
+AreBytes s = every (λ b. leb b 255) s ≡ true
+
+-- The set has the first calls of that document, and behind a call that is done the next.
+pub record Made (D : Handed → Type 0) (f : Call) : Type 0 where
+  pub firsts : (input : Bytes) → AreBytes input → D (first input)
+  pub nexts : (a : Handed) → D a → f a .report .answer ≡ Done → (input : Bytes) → AreBytes input → D (again (f a) true input (zeros 128))
 
 -- what the definitions report of it
 abbrev told : Bytes → calls.Report
@@ -190,56 +205,73 @@ module _ (n : ℕ) {last : Bool} {input : Bytes} {s : State} {w i : List ℕ} {r
 
 -- ---- the theorems
 
-module _ (f : Call) (obeys : Obeys f) where
-  first-done : (input : Bytes) → told input .answer ≡ 0 → f (first input) .report .answer ≡ Done
-  first-done input e = done _ (obeys (first input) .meets .answer ∙ (ap (λ (q : calls.Report). q .answer) (told-first input) ∙ e))
+module _ (D : Handed → Type 0) (f : Call) (made : Made D f) (obeys : Obeys D f) where
+  module _ (input : Bytes) (are : AreBytes input) where
+    first-obeys : Steps true input begun (zeros 65_536) (zeros 32_768) (zeros 128)
+        (f (first input) .report) (f (first input) .work) (f (first input) .ids) (f (first input) .out)
+    first-obeys = obeys (first input) (made .firsts input are)
+
+    first-answer : (n : ℕ) → told input .answer ≡ n → numberOf (f (first input) .report .answer) ≡ n
+    first-answer n e = first-obeys .meets .answer ∙ (ap (λ (q : calls.Report). q .answer) (told-first input) ∙ e)
+
+    first-done : told input .answer ≡ 0 → f (first input) .report .answer ≡ Done
+    first-done e = done _ (first-answer 0 e)
 
   -- an instruction is accepted
-  pub not-refusing-always : RefusesAlways f → ⊥
-  not-refusing-always h = h (first instruction) (first-done instruction instruction-done)
+  pub not-refusing-always : RefusesAlways D f → ⊥
+  unfolding ascii every
+  not-refusing-always h = h (first instruction) (made .firsts instruction refl) (first-done instruction refl instruction-done)
 
   -- an instruction is accepted, and without any input there is no event yet
-  pub not-one-answer : OneAnswer f → ⊥
+  pub not-one-answer : OneAnswer D f → ⊥
+  unfolding ascii every
   not-one-answer (n, h) =
-      let one : numberOf n ≡ 1 = ap numberOf (sym (h (first []))) ∙ (obeys (first []) .meets .answer ∙ (ap (λ (q : calls.Report). q .answer) (told-first []) ∙ nothing-waits)) in
-      let zero′ : n ≡ Done = sym (h (first instruction)) ∙ first-done instruction instruction-done in
-      omega (arith, one, ap numberOf zero′)
+      let zero′ : numberOf n ≡ 0 = ap numberOf (sym (h (first instruction) (made .firsts instruction refl))) ∙ first-answer instruction refl 0 instruction-done in
+      let one : numberOf n ≡ 1 = ap numberOf (sym (h (first []) (made .firsts [] refl))) ∙ first-answer [] refl 1 nothing-waits in
+      omega (arith, zero′, one)
 
   -- a node element writes its type
-  pub not-writing-nothing : WritesNothing f → ⊥
-  unfolding ascii
+  pub not-writing-nothing : WritesNothing D f → ⊥
+  unfolding ascii every
   not-writing-nothing h =
-      speaks 128 (obeys (first node)) _ _ (λ e. omega (arith, e)) (ap (λ (q : calls.Report). q .output) (told-first node) ∙ node-writes) (h (first node))
+      speaks 128 (first-obeys node refl) _ _ (λ e. omega (arith, e)) (ap (λ (q : calls.Report). q .output) (told-first node) ∙ node-writes)
+      (h (first node) (made .firsts node refl))
 
   -- behind a node element, which is done, a property writes its attribute
-  pub not-only-advancing : OnlyAdvances f → ⊥
-  unfolding ascii
+  pub not-only-advancing : OnlyAdvances D f → ⊥
+  unfolding ascii every
   not-only-advancing h =
       let b : Back = f (first node) in
-      let means : meaningOf (b .report .state) (b .work) (b .ids) ≡ told node .behind = obeys (first node) .meets .behind ∙ ap (λ (q : calls.Report). q .behind) (told-first node) in
+      let in-set : D (first node) = made .firsts node refl in
+      let is-done : b .report .answer ≡ Done = first-done node refl node-done in
+      let second : D (again b true property (zeros 128)) = made .nexts (first node) in-set is-done property refl in
+      let means : meaningOf (b .report .state) (b .work) (b .ids) ≡ told node .behind =
+      first-obeys node refl .meets .behind ∙ ap (λ (q : calls.Report). q .behind) (told-first node) in
       let lines : callStep true property (length (zeros 128)) (meaningOf (b .report .state) (b .work) (b .ids)) .output ≡ ascii "_:riog00000002 <ce> \"f\" .\n" =
       rw (zeros-length 128, means) property-writes in
-      speaks 128 (obeys (again b true property (zeros 128))) _ _ (λ e. omega (arith, e)) lines (h (first node) (first-done node node-done) true property (zeros 128))
+      speaks 128 (obeys (again b true property (zeros 128)) second) _ _ (λ e. omega (arith, e)) lines
+      (h (first node) in-set is-done true property (zeros 128) second)
 
-  -- the counts are the definitions', whatever it is handed
-  counts : (a : Handed) (c : ℕ) (o : Bytes) → callStep (a .last) (a .input) (length (a .out)) (meaningOf (a .state) (a .work) (a .ids)) .consumed ≡ c
+  -- the counts are the definitions'
+  counts : (a : Handed) → D a → (c : ℕ) (o : Bytes)
+      → callStep (a .last) (a .input) (length (a .out)) (meaningOf (a .state) (a .work) (a .ids)) .consumed ≡ c
       → callStep (a .last) (a .input) (length (a .out)) (meaningOf (a .state) (a .work) (a .ids)) .output ≡ o
       → (f a .report .consumed ≡ c) × (f a .report .written ≡ length o)
-  counts a c o p q =
-      let up : f a .report .written ≡ 0 + length o = obeys a .meets .wrote .up ∙ ap (λ (u : Bytes). 0 + length u) q in
-      (obeys a .meets .consumed ∙ p, omega (arith, up))
+  counts a in-set c o p q =
+      let up : f a .report .written ≡ 0 + length o = obeys a in-set .meets .wrote .up ∙ ap (λ (u : Bytes). 0 + length u) q in
+      (obeys a in-set .meets .consumed ∙ p, omega (arith, up))
 
-  refused-none : (a : Handed) (n : Refusal) → f a .report .answer ≡ Refused n → (f a .report .consumed ≡ 0) × (f a .report .written ≡ 0)
-  refused-none a n is =
+  refused-none : (a : Handed) → D a → (n : Refusal) → f a .report .answer ≡ Refused n → (f a .report .consumed ≡ 0) × (f a .report .written ≡ 0)
+  refused-none a in-set n is =
       let t : calls.State = meaningOf (a .state) (a .work) (a .ids) in
       let z : (callStep (a .last) (a .input) (length (a .out)) t .consumed ≡ 0) × (callStep (a .last) (a .input) (length (a .out)) t .output ≡ []) =
       zero-counts t (callStep (a .last) (a .input) (length (a .out)) t) (step-by-table (a .last) (a .input) (length (a .out)) t)
-      (λ e. number-positive n (ap numberOf (sym is) ∙ (obeys a .meets .answer ∙ e))) in
-      counts a 0 [] (z .0) (z .1)
+      (λ e. number-positive n (ap numberOf (sym is) ∙ (obeys a in-set .meets .answer ∙ e))) in
+      counts a in-set 0 [] (z .0) (z .1)
 
-  -- of an event that is accepted they are its bytes and the bytes of its lines, of a refusal 0
-  pub not-inventing-counts : InventsCounts f → ⊥
+  -- of an accepted event they are its bytes and the bytes of its lines, of a refusal 0
+  pub not-inventing-counts : InventsCounts D f → ⊥
   unfolding callStep calls.firstEvent calls.accept calls.stepped _>>=_ _>>_ require_or_
-  not-inventing-counts (a, of-event d bytes e us d′ means cuts reads does fits n) =
-      n (counts a (length bytes) (write us) (rw (means, cuts, reads, does, fits) refl) (rw (means, cuts, reads, does, fits) refl))
-  not-inventing-counts (a, of-refusal r is n) = n (refused-none a r is)
+  not-inventing-counts (a, in-set, of-event d bytes e us d′ means cuts reads does fits n) =
+      n (counts a in-set (length bytes) (write us) (rw (means, cuts, reads, does, fits) refl) (rw (means, cuts, reads, does, fits) refl))
+  not-inventing-counts (a, in-set, of-refusal r is n) = n (refused-none a in-set r is)

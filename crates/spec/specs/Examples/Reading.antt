@@ -34,8 +34,9 @@ objects =
     (about (ascii "<x\\u0020\\U0000003E>"), that (node (named (ascii "x >")))) ∷
     (about (ascii "<\\n>"), none) ∷
     (about (ascii "<x y>"), none) ∷
-    -- escapes that name no character
-    (about (ascii "\"\\uD800\""), none) ∷
+    -- a noncharacter is a character; a surrogate is none, not even two of them
+    (about (ascii "\"\\uFFFF\""), that (plain (0xEF ∷ 0xBF ∷ 0xBF ∷ []))) ∷
+    (about (ascii "\"\\uD83D\\uDE00\""), none) ∷
     (about (ascii "\"\\U00110000\""), none) ∷
     (about (ascii "\"\\u004\""), none) ∷
     (about (ascii "\"\\a\""), none) ∷
@@ -57,6 +58,15 @@ documents =
       ascii "_:x<b>\"\".#\r\n\n<a>\t<b> <c>\t. # end",
       some (triple (blank (ascii "x")) (ascii "b") (plain []) ∷ triple (named (ascii "a")) (ascii "b") (node (named (ascii "c"))) ∷ []),
     ) ∷
+    -- the empty IRI; colons and full stops in labels, but none that ends one
+    (ascii "<><>_:a:b..c.", some (triple (named []) [] (node (blank (ascii "a:b..c"))) ∷ [])) ∷
+    (ascii "<><>_:c..", none) ∷
+    (ascii "_:.a<b><c>.", none) ∷
+    (ascii "_:-a<b><c>.", none) ∷
+    (ascii "_:\\u0041<b><c>.", none) ∷
+    -- a byte order mark, and a comment that is not UTF-8
+    (0xEF ∷ 0xBB ∷ 0xBF ∷ ascii "<a><b><c>.", none) ∷
+    (ascii "#" ++ (0xFF ∷ []), none) ∷
     (ascii "<a><b><c>.<a><b><c>.", none) ∷
     (ascii "<a><b><c>", none) ∷
     (ascii "<a><b>\n<c>.", none) ∷
