@@ -1,7 +1,6 @@
 -- Document 01, "The strength of the contracts": a step that meets its contract is none of the five that are to be shut out.
 -- Four fall at a small input, the first of a document or the second: whatever meets `Steps` does otherwise there.
 use Prim.Native.Nat.{ℕ, zero, suc, _+_}
-use Prim.Native.String.{String}
 use mathlib.Core.Path.{_≡_, refl, sym, ap, _∙_}
 use mathlib.Core.Logic.{_⊎_, inl, inr}
 use mathlib.Core.Bool.{Bool, true, false}
@@ -23,7 +22,6 @@ use Rattle.spec.specs.Calls.{isOpen, callStep}
 use Rattle.spec.specs.Calls as calls
 use Rattle.theorems.specs.Calls.{number-positive, step-by-table, zero-counts}
 use Rattle.copy.specs.Copy.{wrote-front}
-use Rattle.ids.specs.declared.IdTable.{IdTable}
 use Rattle.state.specs.Live.{startedWith}
 use Rattle.report.specs.declared.State.{State}
 use Rattle.report.specs.declared.Answer.{Answer}

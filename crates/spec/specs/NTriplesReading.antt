@@ -1,6 +1,6 @@
 -- W3C N-Triples 1.1, section 7, by value: what a line says. The productions stand under the grammar's names and in its order.
 -- A text is its bytes in UTF-8: a character that stands for itself says its own bytes, an escape those of the character it names.
-use mathlib.Core.Bool.{Bool, true, false, _||_, not}
+use mathlib.Core.Bool.{Bool, true, _||_, not}
 use mathlib.Core.Option.{Option, none, some}
 use mathlib.Core.List.{List, [], _∷_, _++_}
 use Prim.Native.Nat.{ℕ, zero, suc, _+_, _-_, _*_, _/_, _%_}
@@ -16,7 +16,7 @@ use Rattle.spec.specs.NTriplesGrammar as G
 
 -- ---- reading from the front
 
--- what stands at the front of a text says, and the rest; or nothing, where it does not stand there
+-- what a piece at the front of a text says, and the rest of the text; or nothing, where it does not stand there
 abbrev pub Reader : Type 0 → Type 0
 Reader A = Bytes → Option (A × Bytes)
 
@@ -25,7 +25,7 @@ unfoldable pub _>>=_ : {A B : Type 0} → Option A → (A → Option B) → Opti
 _>>=_ none f = none
 _>>=_ (some a) f = f a
 
--- in other words
+-- what it says, made into another thing
 unfoldable pub says : {A B : Type 0} → (A → B) → Reader A → Reader B
 says f p s = p s >>= λ r. some (f (r .0), r .1)
 
@@ -50,7 +50,7 @@ unfoldable pub upTo : ℕ → Reader Bytes → Reader Bytes
 upTo zero p s = some ([], s)
 upTo (suc n) p s = elim (p s) [ none ↦ some ([], s) | some r ↦ says (λ v. r .0 ++ v) (upTo n p) (r .1) ]
 
--- as many as stand there: no more than there are bytes
+-- as many as stand there; a piece has a byte at least
 unfoldable pub many : Reader Bytes → Reader Bytes
 many p s = upTo (length s) p s
 
@@ -85,8 +85,8 @@ unfoldable pub utf8 : ℕ → Bytes
 utf8 c =
     if ltb c 0x80 then c ∷ [] else
     if ltb c 0x800 then (0xC0 + c / 64) ∷ lastBits c ∷ [] else
-    if ltb c 0x10000 then (0xE0 + c / 4096) ∷ lastBits (c / 64) ∷ lastBits c ∷ [] else
-    (0xF0 + c / 262144) ∷ lastBits (c / 4096) ∷ lastBits (c / 64) ∷ lastBits c ∷ []
+    if ltb c 0x10000 then (0xE0 + c / 64 / 64) ∷ lastBits (c / 64) ∷ lastBits c ∷ [] else
+    (0xF0 + c / 64 / 64 / 64) ∷ lastBits (c / 64 / 64) ∷ lastBits (c / 64) ∷ lastBits c ∷ []
 
 -- ---- the terminals
 

@@ -9,7 +9,7 @@ use Rattle.spec.specs.Numbers.{good}
 use Rattle.spec.specs.Grammar.{accepts}
 use Rattle.spec.specs.Rfc3987.{IRI, isIri}
 use Rattle.spec.specs.Pyx.{Event, readEvent}
-use Rattle.spec.specs.NTriples.{Subject, named, blank, Term, node, plain, tagged, typed, Triple, triple, write}
+use Rattle.spec.specs.NTriples.{Subject, named, blank, Term, node, plain, tagged, typed, Triple, triple}
 use Rattle.spec.specs.NTriplesGrammar.{BLANK_NODE_LABEL, LANGTAG, isNTriples}
 use Rattle.spec.specs.Document.{Doc, fresh}
 use Rattle.spec.specs.RdfXml.{next}

@@ -1,20 +1,19 @@
 -- Reading what is written gives back the triples.
-use mathlib.Core.Path.{_≡_, refl, sym, _∙_, ap}
-use mathlib.Core.Bool.{Bool, true, false, _&&_, _||_, not, true≢false}
+use mathlib.Core.Path.{_≡_, refl, _∙_, ap}
+use mathlib.Core.Bool.{Bool, true, false, true≢false}
 use mathlib.Core.Option.{Option, none, some}
 use mathlib.Core.List.{List, [], _∷_, _++_, append-assoc}
-use Prim.Native.Nat.{ℕ, zero, suc, _+_, _-_, _*_, _/_, _%_, _≤_, _<_}
+use Prim.Native.Nat.{ℕ, zero, suc, _+_, _*_, _/_, _%_, _≤_, _<_}
 use Prim.Native.String.{String}
 use native.Mathlib.Omega.{arith}
-use lib.Dec.{eqb, leb, ltb}
+use lib.Dec.{eqb, ltb}
 use lib.ListN.{length, length-append}
-use borrow.Author.Tests.{eqb-true, eqb-false, ne-eqb, eq-eqb, le-leb, lt-leb, leb-true, ltb-true, ltb-false, lt-ltb, not-true}
-use Rattle.spec.specs.Bytes.{Bytes, ascii, byte, if_then_else_, between, among, every, All}
+use borrow.Author.Tests.{eqb-true, le-leb, lt-leb, ltb-true, ltb-false, lt-ltb}
+use Rattle.spec.specs.Bytes.{Bytes, ascii, byte, if_then_else_, among, All}
 use Rattle.spec.specs.Bytes as B
 use Rattle.spec.specs.Grammar.{Grammar, accepts}
 use Rattle.spec.specs.Utf8.{isScalar, holdsOf, asCharacters}
 use Rattle.spec.specs.NTriples.{Subject, named, blank, Term, node, plain, tagged, typed, Triple, triple, coded, literalByte, hexDigit, forbidden, iriByte, writeIri, writeSubject, quoted, writeTerm, line, write}
-use Rattle.spec.specs.NTriples as N
 use Rattle.spec.specs.NTriplesGrammar.{isNTriples}
 use Rattle.spec.specs.NTriplesGrammar as G
 use Rattle.spec.specs.Document.{fresh}

@@ -1,6 +1,6 @@
 -- Demand 3: two different sequences of this reader's triples never have the same bytes, since reading gives back the triples.
 use mathlib.Core.Path.{_≡_, sym, _∙_, ap}
-use mathlib.Core.Option.{Option, some, Option·some-injective}
+use mathlib.Core.Option.{Option, Option·some-injective}
 use mathlib.Core.List.{List, [], _∷_, _++_}
 use Prim.Native.Nat.{_+_}
 use native.Mathlib.Omega.{arith}

@@ -54,14 +54,14 @@ four b p q =
 -- ---- by length
 
 -- six bits behind the others
-six-bits : (c m : ℕ) → m ≡ c / 64 → 64 * m + (0x80 + c % 64) % 64 ≡ c
-six-bits c m e = omega (arith, e)
+six-bits : (c : ℕ) → 64 * (c / 64) + (0x80 + c % 64) % 64 ≡ c
+six-bits c = omega arith
 
-by-six : (c : ℕ) → c / 262144 ≡ c / 4096 / 64
-by-six c = omega arith
+third : (c : ℕ) → c < 0x10000 → (0xE0 + c / 64 / 64) % 16 ≡ c / 64 / 64
+third c lt = omega (arith, lt)
 
-highest : (c : ℕ) → c ≤ 0x10FFFF → (0xF0 + c / 262144) % 8 ≡ c / 262144
-highest c le = omega (arith, le)
+fourth : (c : ℕ) → c ≤ 0x10FFFF → (0xF0 + c / 64 / 64 / 64) % 8 ≡ c / 64 / 64 / 64
+fourth c le = omega (arith, le)
 
 -- a sequence of the right length, whose value is a character of that length
 read-as : (b : ℕ) (s : Bytes) (c : ℕ) → fits b (suc (length s)) ≡ true → value b s ≡ c → least (suc (length s)) ≤ c → isScalar c ≡ true → character (b ∷ s) ≡ some c
@@ -76,20 +76,21 @@ module _ (c : ℕ) (scalar : isScalar c ≡ true) where
       let v : 64 * (b % 32) + (0x80 + c % 64) % 64 ≡ c = omega arith in
       read-as b (lastBits c ∷ []) c (rw (two b (omega arith) (omega arith)) refl) (rw (le-ltb b 128 (omega arith)) v) (omega arith) scalar
 
-  of-three : 0x800 ≤ c → c < 0x10000 → character ((0xE0 + c / 4096) ∷ lastBits (c / 64) ∷ lastBits c ∷ []) ≡ some c
+  of-three : 0x800 ≤ c → c < 0x10000 → character ((0xE0 + c / 64 / 64) ∷ lastBits (c / 64) ∷ lastBits c ∷ []) ≡ some c
   unfolding fits value joined least lastBits B.all
   of-three p q =
-      let b : ℕ = 0xE0 + c / 4096 in
-      let v : 64 * (64 * (b % 16) + (0x80 + c / 64 % 64) % 64) + (0x80 + c % 64) % 64 ≡ c = omega arith in
+      let b : ℕ = 0xE0 + c / 64 / 64 in
+      let v : 64 * (64 * (b % 16) + (0x80 + c / 64 % 64) % 64) + (0x80 + c % 64) % 64 ≡ c =
+      rw (third c q, six-bits (c / 64)) (six-bits c) in
       read-as b (lastBits (c / 64) ∷ lastBits c ∷ []) c (rw (three b (omega arith) (omega arith)) refl) (rw (le-ltb b 128 (omega arith)) v) (omega arith) scalar
 
-  of-four : 0x10000 ≤ c → c ≤ 0x10FFFF → character ((0xF0 + c / 262144) ∷ lastBits (c / 4096) ∷ lastBits (c / 64) ∷ lastBits c ∷ []) ≡ some c
+  of-four : 0x10000 ≤ c → c ≤ 0x10FFFF → character ((0xF0 + c / 64 / 64 / 64) ∷ lastBits (c / 64 / 64) ∷ lastBits (c / 64) ∷ lastBits c ∷ []) ≡ some c
   unfolding fits value joined least lastBits B.all
   of-four p q =
-      let b : ℕ = 0xF0 + c / 262144 in
-      let v : 64 * (64 * (64 * (b % 8) + (0x80 + c / 4096 % 64) % 64) + (0x80 + c / 64 % 64) % 64) + (0x80 + c % 64) % 64 ≡ c =
-      rw (highest c q, six-bits (c / 4096) (c / 262144) (by-six c), six-bits (c / 64) (c / 4096) (omega arith)) (six-bits c (c / 64) refl) in
-      read-as b (lastBits (c / 4096) ∷ lastBits (c / 64) ∷ lastBits c ∷ []) c (rw (four b (omega arith) (omega arith)) refl) (rw (le-ltb b 128 (omega arith)) v) (omega arith) scalar
+      let b : ℕ = 0xF0 + c / 64 / 64 / 64 in
+      let v : 64 * (64 * (64 * (b % 8) + (0x80 + c / 64 / 64 % 64) % 64) + (0x80 + c / 64 % 64) % 64) + (0x80 + c % 64) % 64 ≡ c =
+      rw (fourth c q, six-bits (c / 64 / 64), six-bits (c / 64)) (six-bits c) in
+      read-as b (lastBits (c / 64 / 64) ∷ lastBits (c / 64) ∷ lastBits c ∷ []) c (rw (four b (omega arith) (omega arith)) refl) (rw (le-ltb b 128 (omega arith)) v) (omega arith) scalar
 
   most : c ≤ 0x10FFFF
   unfolding isScalar between
@@ -107,4 +108,4 @@ module _ (c : ℕ) (scalar : isScalar c ≡ true) where
       go false false true e f g =
           simp (e, f, g) (one-character _ _ c (and-both _ _ (further (c / 64)) (and-both _ _ (further c) refl)) (of-three (ltb-false c 0x800 f) (ltb-true c 0x10000 g)))
       go false false false e f g =
-          simp (e, f, g) (one-character _ _ c (and-both _ _ (further (c / 4096)) (and-both _ _ (further (c / 64)) (and-both _ _ (further c) refl))) (of-four (ltb-false c 0x10000 g) most))
+          simp (e, f, g) (one-character _ _ c (and-both _ _ (further (c / 64 / 64)) (and-both _ _ (further (c / 64)) (and-both _ _ (further c) refl))) (of-four (ltb-false c 0x10000 g) most))

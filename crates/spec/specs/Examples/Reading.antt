@@ -1,7 +1,6 @@
 use mathlib.Core.Path.{_≡_, refl}
 use mathlib.Core.Option.{Option, none, some}
 use mathlib.Core.List.{List, [], _∷_, _++_, map}
-use Prim.Native.String.{String}
 use Rattle.spec.specs.Bytes.{Bytes, ascii}
 use Rattle.spec.specs.NTriples.{named, blank, Term, node, plain, tagged, typed, Triple, triple, write}
 use Rattle.spec.specs.NTriplesReading.{ntriplesDoc}
