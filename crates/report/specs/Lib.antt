@@ -5,5 +5,6 @@ pub mod Meaning
 pub mod Meets
 -- ---- what the contracts determine
 pub mod Unique
+pub mod Strength
 -- ---- many events
 pub mod Fed

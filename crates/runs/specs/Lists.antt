@@ -13,14 +13,16 @@ use Rattle.spec.specs.Document.{collection, Property, propertyElement}
 use Rattle.spec.specs.Productions.{reification, statement}
 use Rattle.spec.specs.RdfXml.{next}
 use Rattle.spec.specs.Lists.{Cell, Reads}
+use Rattle.spec.specs.ReadingBack.{CellOf}
 use Rattle.spec.specs.Inside.{innermost, children}
+use Rattle.theorems.specs.Cells.{no-cell-shared}
 use Rattle.theorems.specs.Children.{collections-read-back, no-cell-in-two-collections}
 use Rattle.report.specs.declared.State.{State}
 use Rattle.report.specs.declared.Answer.the-variants.{Done}
 use Rattle.report.specs.declared.Report.{Report}
 use Rattle.report.specs.Meaning.{baseOf}
 use Rattle.report.specs.Meets.{Steps}
-use Rattle.runs.specs.Runs.{Ran, stepped, now, Later}
+use Rattle.runs.specs.Runs.{Ran, stepped, now, and-stepped, Later, later-still}
 use Rattle.runs.specs.Events.{firstOf, taken, runEvents, last-same}
 use Rattle.runs.specs.Whole.{run-lines, more-lines, more-bytes, run-further}
 use Rattle.runs.specs.Elements.{Closed, closed}
@@ -118,7 +120,7 @@ module _ {based : Bool} {base : Bytes} {s : State} {w i : List ℕ} {o : Bytes} 
             reads = λ k l. let y′ = reads-at c is k l in rw (← same, one-object p (y .0) (y′ .0) (y .1) (y′ .1) (sym (y .2) ∙ y′ .2)) (y′ .3);
           }
 
-  -- No cell is in the lists of two Collections that steps of one run close: the labels that can be cells of the one can't be of the other.
+  -- The labels that can be cells of one Collection that a step of a run closes can't be of another.
   pub run-no-cell-shared : ClosesCollection h x p
       → {s″ : State} {w″ i″ : List ℕ} {o″ : Bytes} {k : Ran based base s″ w″ i″ o″} {last′ : Bool} {input′ : Bytes} {out″ : List ℕ} {r′ : Report} {w‴ i‴ out‴ : List ℕ}
       {y : Steps last′ input′ s″ w″ i″ out″ r′ w‴ i‴ out‴} {q : Property} → ClosesCollection k y q → Later (stepped h x) k
@@ -130,3 +132,15 @@ module _ {based : Bool} {base : Bytes} {s : State} {w i : List ℕ} {o : Bytes} 
       rw (← e .1, ← e′ .1)
       (no-cell-in-two-collections (baseOf based base) (e .0 .before) (run-lines (stepped h x) .doc) (e′ .0 .before) (run-lines (stepped k y) .doc) (e .0 .earlier) (f .0)
       (e .0 .element) (e′ .0 .element) c (e .0 .prior) (rw (e′ .1) (f .1)))
+
+module _ {based : Bool} {base : Bytes} {s : State} {w i : List ℕ} {o : Bytes} {h : Ran based base s w i o}
+    {last : Bool} {input : Bytes} {out : List ℕ} {r : Report} {w₁ i₁ out₁ : List ℕ} {x : Steps last input s w i out r w₁ i₁ out₁} {p : Property}
+    {s′ : State} {w′ i′ : List ℕ} {o′ : Bytes} {k : Ran based base s′ w′ i′ o′}
+    {last′ : Bool} {input′ : Bytes} {out′ : List ℕ} {r′ : Report} {w₂ i₂ out₂ : List ℕ} {y : Steps last′ input′ s′ w′ i′ out′ r′ w₂ i₂ out₂} {q : Property} where
+  -- No cell is in two lists: those of two Collections that steps of one run closed, in all lines then or at any later state of the run.
+  pub run-no-cell-in-two-lists : (z : ClosesCollection h x p) (z′ : ClosesCollection k y q) → Later (stepped h x) k
+      → {s″ : State} {w″ i″ : List ℕ} {o″ : Bytes} (m : Ran based base s″ w″ i″ o″) → Later (stepped k y) m
+      → (c : Subject) → CellOf (run-lines m .lines) (run-reads-back z .list) c → CellOf (run-lines m .lines) (run-reads-back z′ .list) c → ⊥
+  run-no-cell-in-two-lists z z′ l m j c =
+      no-cell-shared _ _ _ _ (run-lines m .lines) _ _ (children (run-reads-back z .closes .element .begun)) (children (run-reads-back z′ .closes .element .begun))
+      (run-reads-back z .reads m (later-still (later-still l (and-stepped now y)) j)) (run-reads-back z′ .reads m j) (run-no-cell-shared z z′ l) c

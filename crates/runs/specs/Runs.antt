@@ -165,6 +165,13 @@ abbrev pub Later : {based : Bool} {base : Bytes} {s : State} {w i : List ℕ} {o
     → Ran based base s w i o → Ran based base s′ w′ i′ o′ → Type 0
 Later {s′} {w′} {i′} {o′} h k = Onward h s′ w′ i′ o′ k
 
+pub later-still : {based : Bool} {base : Bytes} {s : State} {w i : List ℕ} {o : Bytes} {s′ : State} {w′ i′ : List ℕ} {o′ : Bytes} {s″ : State} {w″ i″ : List ℕ} {o″ : Bytes}
+    {h : Ran based base s w i o} {k : Ran based base s′ w′ i′ o′} {m : Ran based base s″ w″ i″ o″} → Later h k → Later k m → Later h m
+later-still l now = l
+later-still l (and-stepped j x) = and-stepped (later-still l j) x
+later-still l (and-ended j x) = and-ended (later-still l j) x
+later-still l (and-declined n j x q) = and-declined n (later-still l j) x q
+
 -- the steps of `spec`, up to the mark that finish sets
 pub record Follows (b : Option Bytes) (m : calls.State) (o : Bytes) : Type 0 where
   pub before : calls.State

@@ -1,9 +1,9 @@
 -- What is proved of the definitions, for documents that are run through the calls.
 use Prim.Native.Nat.{ℕ, _<_, _≤_}
-use mathlib.Core.Path.{_≡_, refl, sym, ap, _∙_}
+use mathlib.Core.Path.{_≡_, refl, sym, ap, _∙_, subst}
 use mathlib.Core.Logic.{_⊎_, inl, inr}
 use mathlib.Core.Bool.{Bool, true}
-use mathlib.Core.Option.{Option}
+use mathlib.Core.Option.{Option, some, Option·some-injective}
 use mathlib.Core.List.{List, [], _∷_, _++_, append-nil, append-assoc, append-cancel-left}
 use lib.ListN.{take}
 use Rattle.spec.specs.Bytes.{Bytes}
@@ -13,19 +13,23 @@ use Rattle.spec.specs.declared.Refusal.the-variants.{Closed}
 use Rattle.spec.specs.Pyx.{Event}
 use Rattle.spec.specs.NTriples.{blank, Triple, line, write, label}
 use Rattle.spec.specs.NTriplesGrammar.{isNTriples}
+use Rattle.spec.specs.NTriplesReading.{ntriplesDoc}
 use Rattle.spec.specs.Document.{Doc, fresh}
 use Rattle.spec.specs.StartTag.{rdf-nodeID, judge}
 use Rattle.spec.specs.RdfXml.{next}
 use Rattle.spec.specs.Within.{Within}
-use Rattle.spec.specs.Calls.{isOpen, isClosed, markClosed, markedBy, refused, refusedIn, mayStart, callStart, callStep}
+use Rattle.spec.specs.Calls.{isOpen, isClosed, unlawful, markClosed, markedBy, refused, refusedIn, mayStart, callStart, callStep}
 use Rattle.spec.specs.Calls as calls
 use Rattle.spec.specs.Lists.{After, here, event, Unnamed}
+use Rattle.spec.specs.ReadingBack.{Given, none-given, and-then}
 use Rattle.theorems.specs.Always.{always-good}
-use Rattle.theorems.specs.Calls.{number-positive}
+use Rattle.theorems.specs.Calls.{Holds, number-positive}
 use Rattle.theorems.specs.Limits.{always-within, start-short}
 use Rattle.theorems.specs.NewLabels as labels
-use Rattle.theorems.specs.Fine as fine
-use Rattle.theorems.specs.NTriplesGrammar.{GoodBase, started-base, all-n-triples}
+use Rattle.theorems.specs.NTriplesLines.{SpelledLines, spelled-append, spelled-behind, lines-in-grammar}
+use Rattle.theorems.specs.NTriplesGrammar.{GoodBase, started-base, all-spelled}
+use Rattle.theorems.specs.NTriplesReading.{lines-read-back}
+use Rattle.theorems.specs.SameBytes.{part-given, whole-given, same-bytes-same-triples}
 use Rattle.copy.specs.Copy.{wrote-front}
 use Rattle.report.specs.declared.State.{State}
 use Rattle.report.specs.declared.Report.{Report}
@@ -183,11 +187,30 @@ ran-begun (ended h x) = ran-begun h
 ran-begun (declined n h x q) = ran-begun h
 
 module _ {based : Bool} {base : Bytes} {s : State} {w i : List ℕ} {o : Bytes} (h : Ran based base s w i o) where
+  -- its lines can be written
+  pub run-spelled : SpelledLines (run-lines h .lines)
+  run-spelled =
+      let b = baseOf based base in
+      let g : GoodBase b = always-good (λ u. GoodBase b) (started-base (ran-begun h .lengths) b) (ran-begun h .allowed) in
+      go (follows h .before) (all-spelled b (follows h .before) o g (follows h .steps))
+    where
+      same : (d : Doc) → (ts : List Triple) × (After (fresh (baseOf based base)) d ts × SpelledLines ts) × (o ≡ write ts) → SpelledLines (run-lines h .lines)
+      same d (ts, k, e) =
+          rw (← same-bytes-same-triples ts (run-lines h .lines) (whole-given (baseOf based base) d ts (k .0)) (whole-given (baseOf based base) (run-lines h .doc) (run-lines h .lines) (run-lines h .after))
+          (sym e ∙ run-lines h .bytes)) (k .1)
+
+      go : (t : calls.State) → Holds (λ d ts. After (fresh (baseOf based base)) d ts × SpelledLines ts) t o → SpelledLines (run-lines h .lines)
+      go (isOpen d) k = same d k
+      go (isClosed d) k = same d k
+      go unlawful k = absurd k
+
   -- all that was written is a document of the N-Triples grammar
   pub run-n-triples : isNTriples o ≡ true
-  run-n-triples =
-      let g : GoodBase (baseOf based base) = always-good (λ u. GoodBase (baseOf based base)) (started-base (ran-begun h .lengths) (baseOf based base)) (ran-begun h .allowed) in
-      all-n-triples (baseOf based base) (follows h .before) o g (follows h .steps)
+  run-n-triples = rw (run-lines h .bytes) (lines-in-grammar (run-lines h .lines) run-spelled)
+
+  -- reading it gives back the triples of the events that its steps took
+  pub run-lines-read-back : ntriplesDoc o ≡ some (run-lines h .lines)
+  run-lines-read-back = ap ntriplesDoc (run-lines h .bytes) ∙ lines-read-back (run-lines h .lines) run-spelled
 
   -- the labels that a next event generates are new
   pub run-labels-new : (d′ : Doc) (us : List Triple) (e : Event) → next e (run-lines h .doc) ≡ good (us, d′)
@@ -201,9 +224,53 @@ module _ {based : Bool} {base : Bytes} {s : State} {w i : List ℕ} {o : Bytes} 
   pub run-within : Within (run-lines h .doc)
   run-within = always-within (baseOf based base) (run-lines h .doc) (run-lines h .lines) (start-short (ran-begun h .lengths) (baseOf based base) (ran-begun h .before) (ran-begun h .answer)) (run-lines h .after)
 
+-- ---- parts of documents, and documents one after the other
+
+-- Bytes that calls wrote, and the triples of the events that they took: from one state of a document to a later one; then again so, in
+-- the same document or in another. So of a step, of a part of a document, of a whole one, of several.
+pub data Output : Bytes → List Triple → Type 0 where
+  no-output : Output [] []
+  more-output : {u : Bytes} {ts : List Triple} {based : Bool} {base : Bytes} {s : State} {w i : List ℕ} {o : Bytes} {s′ : State} {w′ i′ : List ℕ} {o′ : Bytes}
+      {h : Ran based base s w i o} {k : Ran based base s′ w′ i′ o′} → Output u ts → (l : Later h k) (v : Bytes) → o′ ≡ o ++ v → Output (u ++ v) (ts ++ run-further l .0)
+
+record Stands (u : Bytes) (ts : List Triple) : Type 0 where
+  pub bytes : u ≡ write ts
+  pub given : Given ts
+  pub spelled : SpelledLines ts
+
+-- of a part
+stands-part : {based : Bool} {base : Bytes} {s : State} {w i : List ℕ} {o : Bytes} {s′ : State} {w′ i′ : List ℕ} {o′ : Bytes} {h : Ran based base s w i o} {k : Ran based base s′ w′ i′ o′}
+    (l : Later h k) (v : Bytes) → o′ ≡ o ++ v → Stands v (run-further l .0)
+stands-part {based} {base} {h = h} {k = k} l v e =
+    let f = run-further l in
+    record {
+      bytes = more-bytes (run-lines h) (run-lines k) (f .0) v e (f .2);
+      given = part-given (baseOf based base) (run-lines h .doc) (run-lines k .doc) (run-lines h .lines) (f .0) (run-lines h .after) (f .1);
+      spelled = spelled-behind (run-lines h .lines) (f .0) (subst SpelledLines (f .2) (run-spelled k));
+    }
+
+stands : {u : Bytes} {ts : List Triple} → Output u ts → Stands u ts
+unfolding write
+stands no-output = record { bytes = refl; given = none-given; spelled = tt }
+stands (more-output {u = u} {ts = ts} x l v e) =
+    let a = stands x in
+    let b = stands-part l v e in
+    let vs = run-further l .0 in
+    record {
+      bytes = rw (a .bytes, b .bytes) (sym (write-append ts vs));
+      given = and-then (a .given) (b .given);
+      spelled = spelled-append ts vs (a .spelled) (b .spelled);
+    }
+
+-- reading gives back the triples
+pub output-reads-back : {u : Bytes} {ts : List Triple} → Output u ts → ntriplesDoc u ≡ some ts
+output-reads-back {ts = ts} x = ap ntriplesDoc (stands x .bytes) ∙ lines-read-back ts (stands x .spelled)
+
+-- two different sequences of triples never have the same bytes
+pub same-output : {u v : Bytes} {ts us : List Triple} → Output u ts → Output v us → u ≡ v → ts ≡ us
+same-output {ts = ts} {us = us} x y e = same-bytes-same-triples ts us (stands x .given) (stands y .given) (sym (stands x .bytes) ∙ (e ∙ stands y .bytes))
+
 -- two documents that wrote the same bytes wrote the same triples
 pub same-bytes : {a : Bool} {b : Bytes} {s : State} {w i : List ℕ} {o : Bytes} {a′ : Bool} {b′ : Bytes} {s′ : State} {w′ i′ : List ℕ} {o′ : Bytes}
     (h : Ran a b s w i o) (k : Ran a′ b′ s′ w′ i′ o′) → o ≡ o′ → run-lines h .lines ≡ run-lines k .lines
-same-bytes {a} {b} {a′ = a′} {b′ = b′} h k e =
-    fine.same-bytes-same-triples (baseOf a b) (baseOf a′ b′) (run-lines h .doc) (run-lines k .doc) (run-lines h .lines) (run-lines k .lines) (run-lines h .after) (run-lines k .after)
-    (sym (run-lines h .bytes) ∙ (e ∙ run-lines k .bytes))
+same-bytes h k e = Option·some-injective _ _ (sym (run-lines-read-back h) ∙ (ap ntriplesDoc e ∙ run-lines-read-back k))

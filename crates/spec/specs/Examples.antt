@@ -18,6 +18,7 @@ pub mod Refusals
 pub mod Calls
 pub mod Order
 pub mod Rfc3986
+pub mod Reading
 
 -- the lines of a text
 unfoldable pub page : List String → Bytes

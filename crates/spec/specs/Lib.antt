@@ -18,6 +18,7 @@ pub mod Namespaces
 -- ---- triples and lines
 pub mod NTriples
 pub mod NTriplesGrammar
+pub mod NTriplesReading
 -- ---- from events to triples
 pub mod Rdf
 pub mod Document
@@ -38,5 +39,6 @@ pub mod Feeding
 pub mod Examples
 -- ---- demand 3
 pub mod Lists
+pub mod ReadingBack
 pub mod Inside
 pub mod Languages

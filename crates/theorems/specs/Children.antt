@@ -21,7 +21,7 @@ use Rattle.theorems.specs.Frames.{Moved, moves}
 use Rattle.theorems.specs.Inside.{a-collection, Open, grown, holds, end-open}
 use Rattle.theorems.specs.Lists.{inCollection, Closed, closes, lists-read-back, grows-after, bound-after, no-cell-in-two-lists}
 
-after-append : {d₀ d d′ : Doc} {ts us : List Triple} → After d₀ d ts → After d d′ us → After d₀ d′ (ts ++ us)
+pub after-append : {d₀ d d′ : Doc} {ts us : List Triple} → After d₀ d ts → After d d′ us → After d₀ d′ (ts ++ us)
 after-append {d₀} {d} {ts = ts} a here = rw append-nil a
 after-append {d₀} {ts = ts} a (event {ts = vs} b e d′ us q) = rw (← append-assoc ts vs us) (event (after-append a b) e d′ us q)
 

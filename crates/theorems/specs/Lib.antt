@@ -26,6 +26,7 @@ pub mod Decimal
 pub mod Subjects
 pub mod Lists
 pub mod NewLabels
+pub mod Cells
 -- ---- inside an element
 pub mod Frames
 pub mod Inside
@@ -39,11 +40,13 @@ pub mod Changes
 pub mod Limits
 pub mod Nesting
 -- ---- lines
-pub mod Written
-pub mod Fine
 pub mod NodeLabels
 -- ---- all that is written is N-Triples
 pub mod EventTexts
 pub mod Texts
 pub mod NTriplesLines
 pub mod NTriplesGrammar
+-- ---- what is written reads back
+pub mod Utf8Bytes
+pub mod NTriplesReading
+pub mod SameBytes

@@ -1,15 +1,15 @@
 -- All that a document's steps write is a document of the W3C N-Triples 1.1 grammar.
-use mathlib.Core.Path.{_≡_, sym, subst}
+use mathlib.Core.Path.{_≡_}
 use mathlib.Core.Bool.{Bool, true}
 use mathlib.Core.Option.{Option, none, some}
-use mathlib.Core.List.{List, [], _++_}
+use mathlib.Core.List.{List, [], _∷_, _++_}
 use native.Mathlib.Omega.{arith}
 use Rattle.spec.specs.Bytes.{Bytes, ascii, All}
 use Rattle.spec.specs.Numbers.{good}
 use Rattle.spec.specs.Grammar.{accepts}
 use Rattle.spec.specs.Rfc3987.{IRI, isIri}
 use Rattle.spec.specs.Pyx.{Event, readEvent}
-use Rattle.spec.specs.NTriples.{Subject, named, blank, Term, node, plain, tagged, typed, Triple, write}
+use Rattle.spec.specs.NTriples.{Subject, named, blank, Term, node, plain, tagged, typed, Triple, triple}
 use Rattle.spec.specs.NTriplesGrammar.{BLANK_NODE_LABEL, LANGTAG, isNTriples}
 use Rattle.spec.specs.Document.{Doc, fresh}
 use Rattle.spec.specs.RdfXml.{next}
@@ -30,11 +30,11 @@ use Rattle.theorems.specs.Calls.{AtFront, Steps, Holds, carried}
 
 -- ---- labels and tags are of the grammar
 
-abbrev LabelSubject : Subject → Type 0
+abbrev pub LabelSubject : Subject → Type 0
 LabelSubject (named i) = Unit {0}
 LabelSubject (blank l) = In BLANK_NODE_LABEL (ascii "_:" ++ l)
 
-abbrev LabelTerm : Term → Type 0
+abbrev pub LabelTerm : Term → Type 0
 LabelTerm (node s) = LabelSubject s
 LabelTerm (plain v) = Unit {0}
 LabelTerm (tagged v l) = In LANGTAG (ascii "@" ++ l)
@@ -65,6 +65,19 @@ labels = record {
   fresh = λ n n′ lo le k p q. generated-in k;
 }
 
+abbrev pub LabelTriple : Triple → Type 0
+LabelTriple (triple s p o) = LabelSubject s × LabelTerm o
+
+labelled : {ts : List Triple} → OfLines LabelRule ts → All LabelTriple ts
+unfolding LabelRule
+labelled no-line = tt
+labelled (with-line h g t) = ((h, g), labelled t)
+
+-- so of all lines of accepted events
+pub labels-after : (b : Option Bytes) (d : Doc) (ts : List Triple) → After (fresh b) d ts → All LabelTriple ts
+unfolding labels fresh
+labels-after b d ts h = labelled (kept labels (fresh b) d ts (omega arith) (omega arith) tt h .lines)
+
 -- ---- together with texts
 
 spelled-subject : (s : Subject) → LabelSubject s → TextSubject s → SpelledSubject s
@@ -77,10 +90,9 @@ spelled-term (plain v) h t = t
 spelled-term (tagged v l) h t = (t, h)
 spelled-term (typed v d) h t = t
 
-spelled : {ts : List Triple} → OfLines LabelRule ts → All TextTriple ts → SpelledLines ts
-unfolding LabelRule
-spelled no-line k = tt
-spelled (with-line {s = s} {o = o} h g t) k = (spelled-subject s h (k .0 .0), k .0 .1, spelled-term o g (k .0 .2), spelled t (k .1))
+spelled : (ts : List Triple) → All LabelTriple ts → All TextTriple ts → SpelledLines ts
+spelled [] h k = tt
+spelled (triple s p o ∷ ts) h k = (spelled-subject s (h .0 .0) (k .0 .0), k .0 .1, spelled-term o (h .0 .1) (k .0 .2), spelled ts (h .1) (k .1))
 
 -- ---- the theorem
 
@@ -115,17 +127,21 @@ onward b d d′ ts us bytes e (last, s, c) p q h =
     let r : TextStep (us, d′) = always-good TextStep (step-text e d t (h .2)) q in
     (event (h .0) e d′ us q, all-append TextTriple ts us (h .1) (r .0), r .1)
 
-written-good : (b : Option Bytes) (d : Doc) (w : Bytes) → (ts : List Triple) × Good b d ts × (w ≡ write ts) → isNTriples w ≡ true
-unfolding labels fresh
-written-good b d w (ts, h, e) =
-    subst (λ (x : Bytes). isNTriples x ≡ true) (sym e) (lines-in-grammar ts (spelled (kept labels (fresh b) d ts (omega arith) (omega arith) tt (h .0) .lines) (h .1)))
-
 -- Whatever bytes the steps of a document are given, in whatever pieces and with whatever output room, and whether or not one of them
--- is refused: all that they have written is a document of the N-Triples 1.1 grammar, in UTF-8.
-pub all-n-triples : (b : Option Bytes) (t : State) (w : Bytes) → GoodBase b → Steps b t w → isNTriples w ≡ true
-all-n-triples b t w g h = go t (carried b (Good b) (start b g) (onward b) t w h)
+-- is refused: all that they have written are the lines of its accepted events, and those can be written.
+pub all-spelled : (b : Option Bytes) (t : State) (w : Bytes) → GoodBase b → Steps b t w → Holds (λ d ts. After (fresh b) d ts × SpelledLines ts) t w
+all-spelled b t w g h = go t (carried b (Good b) (start b g) (onward b) t w h)
   where
-    go : (t : State) → Holds (Good b) t w → isNTriples w ≡ true
-    go (isOpen d) k = written-good b d w k
-    go (isClosed d) k = written-good b d w k
+    go : (t : State) → Holds (Good b) t w → Holds (λ d ts. After (fresh b) d ts × SpelledLines ts) t w
+    go (isOpen d) (ts, k, e) = (ts, (k .0, spelled ts (labels-after b d ts (k .0)) (k .1)), e)
+    go (isClosed d) (ts, k, e) = (ts, (k .0, spelled ts (labels-after b d ts (k .0)) (k .1)), e)
+    go unlawful k = absurd k
+
+-- So all that they have written is a document of the N-Triples 1.1 grammar, in UTF-8.
+pub all-n-triples : (b : Option Bytes) (t : State) (w : Bytes) → GoodBase b → Steps b t w → isNTriples w ≡ true
+all-n-triples b t w g h = go t (all-spelled b t w g h)
+  where
+    go : (t : State) → Holds (λ d ts. After (fresh b) d ts × SpelledLines ts) t w → isNTriples w ≡ true
+    go (isOpen d) (ts, k, e) = rw e (lines-in-grammar ts (k .1))
+    go (isClosed d) (ts, k, e) = rw e (lines-in-grammar ts (k .1))
     go unlawful k = absurd k

@@ -1,12 +1,12 @@
 -- The lines of triples whose IRIs and values are texts, and whose labels and tags are of its grammar, are a document of N-Triples.
 use mathlib.Core.Path.{_≡_, refl, sym, _∙_, ap, subst}
-use mathlib.Core.Logic.{inl}
-use mathlib.Core.Bool.{Bool, true, false, _&&_, _||_, not}
+use mathlib.Core.Logic.{inl, inr}
+use mathlib.Core.Bool.{Bool, true, false, _&&_, _||_, not, false≢true}
 use mathlib.Core.List.{List, [], _∷_, _++_, append-assoc, append-nil}
 use Prim.Native.Nat.{ℕ, _+_, _/_, _%_, _≤_, _<_}
 use native.Mathlib.Omega.{arith}
 use lib.Dec.{eqb, leb, ltb}
-use borrow.Author.Tests.{eqb-true, eqb-false, ne-eqb, le-leb, ltb-true, ltb-false, lt-ltb}
+use borrow.Author.Tests.{eqb-true, eqb-false, ne-eqb, le-leb, leb-true, ltb-true, ltb-false, lt-ltb}
 use Rattle.spec.specs.Bytes.{Bytes, ascii, byte, if_then_else_, between, among, every}
 use Rattle.spec.specs.Bytes as B
 use Rattle.spec.specs.Grammar.{Grammar, one, _or_, _then_, many, more, accepts}
@@ -15,11 +15,10 @@ use Rattle.spec.specs.NTriples.{Subject, named, blank, Term, node, plain, tagge
 use Rattle.spec.specs.NTriples as N
 use Rattle.spec.specs.NTriplesGrammar.{HEX, UCHAR, ECHAR, IRIREF, BLANK_NODE_LABEL, LANGTAG, STRING_LITERAL_QUOTE, literal, subject, object, WS, triple, EOL, ntriplesDoc, isNTriples, text}
 use Rattle.spec.specs.NTriplesGrammar as G
-use Rattle.spec.proofs.Booleans.{and-both, or-left, or-right}
+use Rattle.spec.proofs.Booleans.{and-left, and-right, and-both, or-left, or-right, or-cases}
 use Rattle.theorems.specs.Grammar.{accepts-sound}
 use Rattle.theorems.specs.Utf8.{isAscii, Text, characters-append}
 use Rattle.theorems.specs.Spelled.{In, accepted, in-ascii, in-left, in-right, _before_, in-none, in-one, in-text, in-coded}
-use Rattle.theorems.specs.Written.{forbidden-below}
 
 -- what the test accepts, of bytes below 128
 in-word : (g : Grammar ℕ) (s : Bytes) → every isAscii s ≡ true → accepts g s ≡ true → In g s
@@ -27,11 +26,26 @@ in-word g s h e = in-ascii s h (accepts-sound g s e)
 
 -- ---- IRIs
 
+among-below : (n : ℕ) (l : Bytes) (c : ℕ) → every (λ x. ltb x n) l ≡ true → among l c ≡ true → c < n
+unfolding every among
+among-below n [] c h k = absurd (false≢true k)
+among-below n (a ∷ l) c h k = elim (or-cases (eqb a c) (among l c) k) [
+  | inl e ↦ omega (arith, eqb-true a c e, ltb-true a n (and-left (ltb a n) (every (λ x. ltb x n) l) h))
+  | inr e ↦ among-below n l c (and-right (ltb a n) (every (λ x. ltb x n) l) h) e
+]
+
+pub forbidden-below : (c : ℕ) → forbidden c ≡ true → c < 128
+unfolding forbidden B.all
+forbidden-below c h = elim (or-cases (leb c 32) (among (ascii "<>\"{}|^`\\") c) h) [
+  | inl e ↦ omega (arith, leb-true c 32 e)
+  | inr e ↦ among-below 128 (ascii "<>\"{}|^`\\") c refl e
+]
+
 -- a character of an IRI, as it is
-abbrev isIriChar : ℕ → Bool
+abbrev pub isIriChar : ℕ → Bool
 isIriChar c = not (between 0 0x20 c || among (ascii "<>\"{}|^`\\") c)
 
-allowed : (c : ℕ) → forbidden c ≡ false → isIriChar c ≡ true
+pub allowed : (c : ℕ) → forbidden c ≡ false → isIriChar c ≡ true
 unfolding forbidden between
 allowed c h = rw (le-leb 0 c (omega arith), h)
 
@@ -86,24 +100,24 @@ in-iri i t =
 -- ---- literals
 
 -- a character of a literal, as it is
-abbrev isLiteralChar : ℕ → Bool
+abbrev pub isLiteralChar : ℕ → Bool
 isLiteralChar c = not (among (ascii "\"\\\n\r") c)
 
 abbrev literalPiece : Grammar ℕ
 literalPiece = one isLiteralChar or ECHAR or UCHAR
 
 -- none of the four that are escaped
-abbrev Plain : ℕ → Type 0
+abbrev pub Plain : ℕ → Type 0
 Plain c = (eqb c 34 ≡ false) × (eqb c 92 ≡ false) × (eqb c 10 ≡ false) × (eqb c 13 ≡ false)
 
-plain-char : (c : ℕ) → Plain c → isLiteralChar c ≡ true
+pub plain-char : (c : ℕ) → Plain c → isLiteralChar c ≡ true
 unfolding among ascii
 plain-char c (p, q, r, s) = rw (flip c 34 p, flip c 92 q, flip c 10 r, flip c 13 s) refl
   where
     flip : (a b : ℕ) → eqb a b ≡ false → eqb b a ≡ false
     flip a b h = ne-eqb b a λ e. eqb-false a b h (sym e)
 
-plain-byte : (c : ℕ) → Plain c → literalByte c ≡ c ∷ []
+pub plain-byte : (c : ℕ) → Plain c → literalByte c ≡ c ∷ []
 unfolding literalByte B.all
 plain-byte c (p, q, r, s) = simp (p, q, r, s)
 
@@ -144,6 +158,14 @@ SpelledTerm (typed v d) = Text v × Text d
 abbrev pub SpelledLines : List Triple → Type 0
 SpelledLines [] = Unit {0}
 SpelledLines (N.triple s p o ∷ ts) = SpelledSubject s × Text p × SpelledTerm o × SpelledLines ts
+
+pub spelled-append : (ts us : List Triple) → SpelledLines ts → SpelledLines us → SpelledLines (ts ++ us)
+spelled-append [] us h k = k
+spelled-append (N.triple s p o ∷ ts) us h k = (h .0, h .1, h .2, spelled-append ts us (h .3) k)
+
+pub spelled-behind : (ts us : List Triple) → SpelledLines (ts ++ us) → SpelledLines us
+spelled-behind [] us h = h
+spelled-behind (N.triple s p o ∷ ts) us h = spelled-behind ts us (h .3)
 
 in-subject : (s : Subject) → SpelledSubject s → In subject (writeSubject s)
 unfolding subject writeSubject

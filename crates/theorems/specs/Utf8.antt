@@ -339,7 +339,7 @@ high-all : (b x : ℕ) (l : Bytes) → fits b (suc (suc (length l))) ≡ true �
 unfolding every
 high-all b x l f g = and-both (leb 128 b) (every (λ b. leb 128 b) (x ∷ l)) (le-leb 128 b (high-first b (length l) f)) (high-rest (x ∷ l) g)
 
-one-character : (b : ℕ) (s : Bytes) (c : ℕ) → every goesOn s ≡ true → character (b ∷ s) ≡ some c → characters (b ∷ s) ≡ some (c ∷ [])
+pub one-character : (b : ℕ) (s : Bytes) (c : ℕ) → every goesOn s ≡ true → character (b ∷ s) ≡ some c → characters (b ∷ s) ≡ some (c ∷ [])
 unfolding characters charactersOf inFront
 one-character b s c g e = rw (one-sequence b s g, e) refl
 
