@@ -13,6 +13,7 @@ use Rattle.spec.specs.NTriples.{Subject, named, blank, node, Triple, write}
 use Rattle.spec.specs.Document.{Doc}
 use Rattle.spec.specs.Productions.{attributeLines, typeLine, statement}
 use Rattle.copy.specs.Copy.{part}
+use Rattle.frames.specs.Parts.{MAIN, ID, BLANK, FRAME}
 use Rattle.frames.specs.declared.Frame.{Frame}
 use Rattle.frames.specs.Words.{pick, load-frame, noFrame}
 use Rattle.state.specs.declared.Registers.{Registers}
@@ -155,13 +156,13 @@ span-lent w a b e p q = e ∙ rw (p, q)
 
 -- r is the frame of the node around
 pub resource-told : {on : Bool} {d f : List ℕ} {from to : ℕ} (x : Start) (r : Frame) (w e a : List ℕ) {h : Bool} {i s p o : Bytes} {n : Node} {t : Term}
-    → NodeFor (not (eqb (has r 2) 0)) n → s ≡ span w (at r 4) (at r 5) → h ≡ isThere (x .id) → i ≡ textOf (x .id) e a → p ≡ textOf (x .property) e a
+    → NodeFor (not (eqb (has r BLANK) 0)) n → s ≡ span w (at r MAIN) (at r ID) → h ≡ isThere (x .id) → i ≡ textOf (x .id) e a → p ≡ textOf (x .property) e a
     → TermFor (x .plan .parts .blank) t → o ≡ textOf (x .plan .parts .main) e a
     → Put on d f from to (write (statement (T.propertyOf h i (T.subjectOf n s) p) (T.termOf t o [])))
     → Put on d f from to (write (resourceLines x (subjectOf r w) e a))
 unfolding T.propertyOf subjectOf
 resource-told x r w e a {s = s} {o = o} b c j q u t m y =
-    put-as y (rw (b .says s, marked (has r 2) s, c, part-is (x .id) e a j q, u, t .says o [], m))
+    put-as y (rw (b .says s, marked (has r BLANK) s, c, part-is (x .id) e a j q, u, t .says o [], m))
 
 -- ---- by the plan
 
@@ -193,7 +194,7 @@ top-none : (w : List ℕ) → subjectOf noFrame w ≡ named []
 unfolding subjectOf nodeOf span part
 top-none w = refl
 
-below-top : (r : Registers) (fs w : List ℕ) → r .depth * 18 ≤ length fs → subjectOf (topFrame r fs) w ≡ subjectBelow fs w (r .depth)
+below-top : (r : Registers) (fs w : List ℕ) → r .depth * FRAME ≤ length fs → subjectOf (topFrame r fs) w ≡ subjectBelow fs w (r .depth)
 unfolding topFrame subjectBelow
 below-top r fs w h = go (r .depth) refl
   where
@@ -205,7 +206,7 @@ pub lines-are : {x : Start} {d : Doc} {r : Registers} {fs bs is w e v : List ℕ
     → (g : Goes x d r fs bs w e v m k a cs rs count used) → linesOf x (topFrame r fs) (languageIn r fs) w e v k a cs rs ≡ g .what .lines
 unfolding linesOf
 lines-are {x} {d} {r} {fs} {bs} {is} {w} {e} {v} {m} {k} {a} {cs} {rs} y f g =
-    let deep : r .depth * 18 ≤ length fs = omega (arith, y .frameWords, y .deep) in
+    let deep : r .depth * FRAME ≤ length fs = omega (arith, y .frameWords, y .deep) in
     let l : orElse (maybe (x .plan .parts .tag) e a) (found (languageIn r fs) w) ≡ g .tag .language =
     rw (language-read y, ← f, g .ownTag) (sym (g .language)) in
     rw (below-top r fs w deep, l, ← g .attributes, g .kind, g .type) (sym (g .lines))

@@ -17,6 +17,7 @@ ghost use Rattle.plan.specs.Plan.{isThere};
 ghost use Rattle.plan.specs.Goes.{Goes};
 ghost use Rattle.acting.specs.Told.{NodeFor, TermFor, LanguageFor, linesOf, nodeLines, objectLines, resourceLines};
 ghost use Rattle.acting.specs.Entered.{Enters};
+ghost use Rattle.frames.specs.Parts.{MAIN, ID};
 use element::Source;
 use event::Advance;
 use event::Progress;
@@ -339,7 +340,7 @@ fn tell_resource<'a>(
     let id = x.id;
     let property = x.property;
     let marks = around.has;
-    let node = node_of(marks[2] != 0);
+    let node = node_of(marks[Frame::BLANK] != 0);
     let subject = main_of(around, work);
     let has = plan::is_there(id);
     let stated = element::text(id, scratch, area);
@@ -392,11 +393,11 @@ fn language_of<'a>(
 
 // The subject of the node of frame `f`.
 fn main_of(f: Frame, work: &[u8]) -> &[u8]
-    ensures { λ s. ⌜ now s ≡ span (now (work .entry)) (at f 4) (at f 5) ⌝ }
+    ensures { λ s. ⌜ now s ≡ span (now (work .entry)) (at f MAIN) (at f ID) ⌝ }
 {
     let at = f.at;
-    let from = wide(at[4]);
-    let to = wide(at[5]);
+    let from = wide(at[Frame::MAIN]);
+    let to = wide(at[Frame::ID]);
     if to < from {
         return names::piece(work, from, 0);
     }

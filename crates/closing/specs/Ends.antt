@@ -20,6 +20,7 @@ use Rattle.spec.specs.EndTag.{endKind, closeElement}
 use Rattle.spec.specs.RdfXml.{onEvent}
 use Rattle.spec.proofs.Bytes.{same-refl}
 use Rattle.copy.specs.Copy.{Wrote, wrote-same, wrote-none}
+use Rattle.frames.specs.Parts.{NAME, BINDINGS}
 use Rattle.frames.specs.declared.Kind.{Kind}
 use Rattle.frames.specs.declared.Frame.{Frame}
 use Rattle.state.specs.declared.Registers.{Registers}
@@ -40,7 +41,7 @@ use Rattle.event.specs.Result.{IdsFit, Handles, handled, handled-by, concluded,
 
 -- its name as written
 abbrev pub topName : Registers → List ℕ → List ℕ → Bytes
-topName r fs w = span w (at (topFrame r fs) 0) (at (topFrame r fs) 1)
+topName r fs w = span w (at (topFrame r fs) NAME) (at (topFrame r fs) BINDINGS)
 
 -- it is of kind q, in a state of an open document, with nothing open inside Literal content
 pub record Closing (q : Kind) (r : Registers) (fs bs is w : List ℕ) : Type 0 where

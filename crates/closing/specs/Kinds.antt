@@ -16,6 +16,7 @@ use Rattle.spec.specs.NTriples.{Subject, node}
 use Rattle.spec.specs.Document.{collection, Property, Doc, withFrames, withLabels, languageInForce}
 use Rattle.spec.specs.Productions.{statement}
 use Rattle.spec.specs.EndTag.{cells, headCell, endValue, endKind}
+use Rattle.frames.specs.Parts.{TAIL, END}
 use Rattle.frames.specs.declared.Kind.{Kind}
 use Rattle.frames.specs.declared.Kind.the-variants.{Rdf, PropertyElt, ParseTypeCollectionPropertyElt, ParseTypeLiteralPropertyElt, ParseTypeOtherPropertyElt}
 use Rattle.frames.specs.declared.Frame.{Frame}
@@ -154,7 +155,7 @@ module _ {r : Registers} {fs w : List ℕ} {p : Changed} (o : Pops r fs p) where
 
   -- ---- a Literal property
 
-  pub literal-tells : {n f : Frame} → f ≡ topFrame r fs → n ≡ topFrame (p .registers) fs → isEmpty (span w (at f 7) (at f 8)) ≡ false
+  pub literal-tells : {n f : Frame} → f ≡ topFrame r fs → n ≡ topFrame (p .registers) fs → isEmpty (span w (at f TAIL) (at f END)) ≡ false
       → Tells ParseTypeLiteralPropertyElt r (p .registers) fs w (literalLines n f w)
   unfolding whatOf endKind endValue stands _>>_ require_or_
   literal-tells x y z =
@@ -173,28 +174,28 @@ module _ {r : Registers} {fs w : List ℕ} {p : Changed} (o : Pops r fs p) where
 
   pub collection-tells : {n f : Frame} {u : Registers} → f ≡ topFrame r fs → u ≡ labelledTo (p .registers) (r .labels + count f) → n ≡ topFrame u fs → r .labels + count f ≤ 99_999_999
       → Tells ParseTypeCollectionPropertyElt r u fs w
-      (cells (r .labels) nil (childrenOf w (count f) (at f 8)) ++ statement (propertyOf f w (subjectOf n w)) (node (headCell (r .labels) nil (childrenOf w (count f) (at f 8)))))
+      (cells (r .labels) nil (childrenOf w (count f) (at f END)) ++ statement (propertyOf f w (subjectOf n w)) (node (headCell (r .labels) nil (childrenOf w (count f) (at f END)))))
   unfolding whatOf endKind stands
   collection-tells {n} {f} {u} x y z h =
       record {
         tells =
             λ bs is c.
             let e = o .moved (pops c) in
-            let cs : List Subject = childrenOf w (count f) (at f 8) in
+            let cs : List Subject = childrenOf w (count f) (at f END) in
             let m : n ≡ topFrame (p .registers) fs = z ∙ (ap (λ (v : Registers). topFrame v fs) y ∙ same-top (p .registers) (r .labels + count f) fs) in
             record {
               answer =
                   λ ids.
                   rw (m, y, ← x, around c e (stood c e))
                   (collection-ends (propertyOf f w (subjectBelow fs w (r .depth - 1))) cs (languageInForce (elementsOf r fs bs is w)) (without r fs bs is w ids) (r .labels) (count f)
-                  (sym (labels-of r fs bs is w ids)) (sym (length-children w (count f) (at f 8))) h
+                  (sym (labels-of r fs bs is w ids)) (sym (length-children w (count f) (at f END))) h
                   ∙ ap (λ (d : Doc). good (cells (r .labels) nil cs ++ statement (propertyOf f w (subjectBelow fs w (r .depth - 1))) (node (headCell (r .labels) nil cs)), d)) (pop-labelled c e (r .labels + count f) h ids));
               valid = rw y (labelled-holds (pop-is c e) h .valid);
               mark = ap (λ (v : Registers). v .closed) y ∙ pop-mark c e;
             };
       }
 
-pub literal-empty : {r : Registers} {fs w out : List ℕ} {f : Frame} → f ≡ topFrame r fs → isEmpty (span w (at f 7) (at f 8)) ≡ true
+pub literal-empty : {r : Registers} {fs w out : List ℕ} {f : Frame} → f ≡ topFrame r fs → isEmpty (span w (at f TAIL) (at f END)) ≡ true
     → Ends ParseTypeLiteralPropertyElt r (Stop EmptyLiteral) fs w out fs w out
 unfolding whatOf endKind endValue _>>_ require_or_
 literal-empty x z = record { handles = λ bs is c. refused c EmptyLiteral (λ ids. rw (rw x at z)) }
@@ -209,8 +210,8 @@ labels-spent {r} {fs} {w} {out} {f} x h =
           refused c LabelsSpent
           (λ ids.
           rw (← x)
-          (collection-spent (propertyOf f w (subjectBelow fs w (r .depth - 1))) (childrenOf w (count f) (at f 8)) (languageInForce (elementsOf r fs bs is w)) (without r fs bs is w ids) (r .labels) (count f)
-          (sym (labels-of r fs bs is w ids)) (sym (length-children w (count f) (at f 8))) h));
+          (collection-spent (propertyOf f w (subjectBelow fs w (r .depth - 1))) (childrenOf w (count f) (at f END)) (languageInForce (elementsOf r fs bs is w)) (without r fs bs is w ids) (r .labels) (count f)
+          (sym (labels-of r fs bs is w ids)) (sym (length-children w (count f) (at f END))) h));
     }
 
 -- ---- what the lines of a Collection ask
@@ -218,7 +219,7 @@ labels-spent {r} {fs} {w} {out} {f} x h =
 -- the frame on top is whole, and so is the count of labels
 pub record Whole (r : Registers) (fs w : List ℕ) : Type 0 where
   pub kind : kindOk (topFrame r fs .kind) (topFrame r fs) w ≡ true
-  pub ends : at (topFrame r fs) 8 ≤ length w
+  pub ends : at (topFrame r fs) END ≤ length w
   pub labels : r .labels ≤ 99_999_999
 
 pub whole : {q : Kind} {r : Registers} {fs bs is w : List ℕ} → Closing q r fs bs is w → Whole r fs w

@@ -16,6 +16,7 @@ use Rattle.spec.specs.NTriples.{Subject, named, blank, write}
 use Rattle.spec.specs.Document.{noObject, nodeObject, textObject, Value, Kind as What, Frame as Element, Doc, withFrames, withKind, onValue, isXmlElement, changeValue, subjectBytes, objectBytes, valueBytes, kindBytes, frameBytes, heldBytes, fits}
 use Rattle.spec.specs.EndTag.{takesNode, endKind}
 use Rattle.copy.specs.Copy.{part, length-part, wrote-none}
+use Rattle.frames.specs.Parts.{NAME, MAIN, ID, TAIL, END, BLANK, PENDING, FRAME}
 use Rattle.frames.specs.declared.Kind.{Kind}
 use Rattle.frames.specs.declared.Kind.the-variants.{Rdf, NodeElt, PropertyElt, ParseTypeCollectionPropertyElt, ParseTypeLiteralPropertyElt, ParseTypeOtherPropertyElt}
 use Rattle.frames.specs.declared.Frame.{Frame}
@@ -49,9 +50,9 @@ size-node h s = go (eqb h 0)
     go true = refl
     go false = refl
 
-size-subject : (f : Frame) (w : List ℕ) → at f 4 ≤ at f 5 → at f 5 ≤ length w → subjectBytes (subjectOf f w) ≡ mainSize f
+size-subject : (f : Frame) (w : List ℕ) → at f MAIN ≤ at f ID → at f ID ≤ length w → subjectBytes (subjectOf f w) ≡ mainSize f
 unfolding subjectOf span
-size-subject f w a b = size-node (has f 2) (part w (at f 4) (mainSize f)) ∙ length-part w (at f 4) (mainSize f) (omega arith)
+size-subject f w a b = size-node (has f BLANK) (part w (at f MAIN) (mainSize f)) ∙ length-part w (at f MAIN) (mainSize f) (omega arith)
 
 size-object : (w : List ℕ) (h a b : ℕ) → emptyOr h a b ≡ true → a ≤ b → b ≤ length w → a + objectBytes (objectOf h (span w a b)) ≡ b
 unfolding objectOf emptyOr objectBytes subjectBytes span
@@ -122,9 +123,9 @@ module _ {r : Registers} {fs bs is w : List ℕ} (c : Closing NodeElt r fs bs is
 
   -- the node's own places
   record Placed : Type 0 where
-    start : at (topFrame r fs) 0 ≤ at (topFrame r fs) 4
-    main : at (topFrame r fs) 4 ≤ at (topFrame r fs) 5
-    end : at (topFrame r fs) 5 ≤ r .top
+    start : at (topFrame r fs) NAME ≤ at (topFrame r fs) MAIN
+    main : at (topFrame r fs) MAIN ≤ at (topFrame r fs) ID
+    end : at (topFrame r fs) ID ≤ r .top
     store : r .top ≤ 65_536
 
   placed : Placed
@@ -140,11 +141,11 @@ module _ {r : Registers} {fs bs is w : List ℕ} (c : Closing NodeElt r fs bs is
       }
 
   module _ {u : Registers} (e : u ≡ N.without r fs) where
-    popped-top : (u .top ≡ at (topFrame r fs) 0) × (u .outer ≡ first (topFrame r fs))
+    popped-top : (u .top ≡ at (topFrame r fs) NAME) × (u .outer ≡ first (topFrame r fs))
     popped-top =
         let k = topmost (c .valid) (c .deep) in
         let f : loadFrame fs (r .depth - 1) ≡ topFrame r fs = load-frame fs (r .depth - 1) (k .room) ∙ sym (k .frame) in
-        (ap (λ (x : Registers). x .top) e ∙ ap (λ (g : Frame). at g 0) f, ap (λ (x : Registers). x .outer) e ∙ ap (λ (g : Frame). first g) f)
+        (ap (λ (x : Registers). x .top) e ∙ ap (λ (g : Frame). at g NAME) f, ap (λ (x : Registers). x .outer) e ∙ ap (λ (g : Frame). first g) f)
 
     popped-flat : u .low ≡ 65_536
     popped-flat = flat (pop-is c e .valid) (ap (λ (y : Registers). y .inner) e ∙ c .flat) .low
@@ -158,7 +159,7 @@ module _ {r : Registers} {fs bs is w : List ℕ} (c : Closing NodeElt r fs bs is
 
     -- the element around it
     record Around : Type 0 where
-      ends : at (topFrame u fs) 8 ≡ u .top
+      ends : at (topFrame u fs) END ≡ u .top
       up : Rising (topFrame u fs)
       kind : kindOk (topFrame u fs .kind) (topFrame u fs) w ≡ true
 
@@ -191,7 +192,7 @@ module _ {r : Registers} {fs bs is w : List ℕ} (c : Closing NodeElt r fs bs is
       in-property : 0 < u .depth
       in-property = top-deep u fs (λ i. false≢true (ap (λ (g : Kind). sameKind g PropertyElt) (sym i) ∙ o))
 
-      held-object : (ids : List Bytes) → heldBytes (withFrames (closedNode (elementsOf r fs bs is w)) (docOf r fs bs is w ids)) ≡ at (topFrame u fs) 7 + mainSize (topFrame r fs)
+      held-object : (ids : List Bytes) → heldBytes (withFrames (closedNode (elementsOf r fs bs is w)) (docOf r fs bs is w ids)) ≡ at (topFrame u fs) TAIL + mainSize (topFrame r fs)
       unfolding whatOf onValue takesNode kindBytes valueBytes objectBytes kindOk
       held-object ids =
           let k : topFrame u fs .kind ≡ PropertyElt = is-property (topFrame u fs .kind) o in
@@ -200,7 +201,7 @@ module _ {r : Registers} {fs bs is w : List ℕ} (c : Closing NodeElt r fs bs is
           let p = placed in
           let n = popped-top .0 in
           let h : kindOk PropertyElt (topFrame u fs) w ≡ true = sym (ap (λ (g : Kind). kindOk g (topFrame u fs) w) k) ∙ a .kind in
-          let b = size-object w (has (topFrame u fs) 5) (at (topFrame u fs) 7) (at (topFrame u fs) 8) h (v .tail) (omega (arith, a .ends, p .end, p .store, c .valid .store)) in
+          let b = size-object w (has (topFrame u fs) PENDING) (at (topFrame u fs) TAIL) (at (topFrame u fs) END) h (v .tail) (omega (arith, a .ends, p .end, p .store, c .valid .store)) in
           let q = rw k at (held-by in-property ids) in
           omega (arith, q, b, a .ends, subject-size, v .tail)
 
@@ -209,7 +210,7 @@ module _ {r : Registers} {fs bs is w : List ℕ} (c : Closing NodeElt r fs bs is
         in-collection : 0 < u .depth
         in-collection = top-deep u fs (λ i. false≢true (ap (λ (g : Kind). sameKind g ParseTypeCollectionPropertyElt) (sym i) ∙ o))
 
-        held-child : (ids : List Bytes) → heldBytes (withFrames (closedNode (elementsOf r fs bs is w)) (docOf r fs bs is w ids)) ≡ at (topFrame u fs) 8 + mainSize (topFrame r fs) + 4
+        held-child : (ids : List Bytes) → heldBytes (withFrames (closedNode (elementsOf r fs bs is w)) (docOf r fs bs is w ids)) ≡ at (topFrame u fs) END + mainSize (topFrame r fs) + 4
         unfolding whatOf onValue takesNode kindBytes valueBytes total
         held-child ids =
             let k : topFrame u fs .kind ≡ ParseTypeCollectionPropertyElt = is-collection (topFrame u fs .kind) o in
@@ -232,12 +233,12 @@ module _ {r : Registers} {fs bs is w : List ℕ} (c : Closing NodeElt r fs bs is
 -- ---- the law of `held_after`
 
 module _ {r : Registers} {fs : List ℕ} {p : Changed} {f n : Frame} {size : ℕ} (o : Pops r fs p) (x : n ≡ topFrame r fs) (s : size ≡ mainSize n) (y : f ≡ topFrame (p .registers) fs) where
-  pub after-object : {a : ℕ} → sameKind (f .kind) PropertyElt ≡ true → a ≡ at f 7 → HeldAfter r fs (a + size)
+  pub after-object : {a : ℕ} → sameKind (f .kind) PropertyElt ≡ true → a ≡ at f TAIL → HeldAfter r fs (a + size)
   after-object k z =
       record { holds = λ bs is w c ids. rw (z, s, x, y) (held-object c (o .moved (pops c)) (rw y at k) ids) }
 
   module _ (j : sameKind (f .kind) PropertyElt ≡ false) where
-    pub after-child : {a : ℕ} → sameKind (f .kind) ParseTypeCollectionPropertyElt ≡ true → a ≡ at f 8 → HeldAfter r fs (a + size + 4)
+    pub after-child : {a : ℕ} → sameKind (f .kind) ParseTypeCollectionPropertyElt ≡ true → a ≡ at f END → HeldAfter r fs (a + size + 4)
     after-child k z =
         record { holds = λ bs is w c ids. rw (z, s, x, y) (held-child c (o .moved (pops c)) (rw y at j) (rw y at k) ids) }
 
@@ -246,11 +247,11 @@ module _ {r : Registers} {fs : List ℕ} {p : Changed} {f n : Frame} {size : ℕ
 
 -- ---- nothing stands in its way
 
-may-take : (r : Registers) (words from to len end : ℕ) → to ≤ from → from + len ≤ 65_536 → end ≤ r .low → r .low ≤ 65_536 → 0 < r .depth → r .depth ≤ words / 18
+may-take : (r : Registers) (words from to len end : ℕ) → to ≤ from → from + len ≤ 65_536 → end ≤ r .low → r .low ≤ 65_536 → 0 < r .depth → r .depth ≤ words / FRAME
     → mayTake r words from to len end ≡ true
 unfolding L.all mayTake
 may-take r words from to len end a b d e f g =
-    rw (le-leb to from a, le-leb (from + len) 65_536 b, le-leb end (r .low) d, le-leb (r .low) 65_536 e, lt-ltb 0 (r .depth) f, le-leb (r .depth) (words / 18) g)
+    rw (le-leb to from a, le-leb (from + len) 65_536 b, le-leb end (r .low) d, le-leb (r .low) 65_536 e, lt-ltb 0 (r .depth) f, le-leb (r .depth) (words / FRAME) g)
 
 module _ {r : Registers} {fs bs is w : List ℕ} {n : ℕ} (c : Closing NodeElt r fs bs is w) (h : HeldAfter r fs n) (l : n ≤ 49_152) where
   takes : mayTakeNode (N.without r fs) (length fs) (topFrame (N.without r fs) fs) (topFrame r fs) ≡ true
@@ -260,7 +261,7 @@ module _ {r : Registers} {fs bs is w : List ℕ} {n : ℕ} (c : Closing NodeElt 
       let pl = placed c in
       let tp = popped-top c refl .0 in
       let fl = popped-flat c refl in
-      let dp : u .depth ≤ length fs / 18 = omega (arith, c .valid .deep, c .valid .frameWords) in
+      let dp : u .depth ≤ length fs / FRAME = omega (arith, c .valid .deep, c .valid .frameWords) in
       by (sameKind (topFrame u fs .kind) PropertyElt)
       (λ o.
       let d = in-property c refl o in
@@ -268,7 +269,7 @@ module _ {r : Registers} {fs bs is w : List ℕ} {n : ℕ} (c : Closing NodeElt 
       let v = a .up in
       rw (
         o,
-        may-take u (length fs) (at (topFrame r fs) 4) (at (topFrame u fs) 7) (mainSize (topFrame r fs)) (at (topFrame u fs) 7 + mainSize (topFrame r fs))
+        may-take u (length fs) (at (topFrame r fs) MAIN) (at (topFrame u fs) TAIL) (mainSize (topFrame r fs)) (at (topFrame u fs) TAIL + mainSize (topFrame r fs))
             (omega (arith, v .tail, a .ends, tp, pl .start)) (omega (arith, pl .main, pl .end, pl .store)) (omega (arith, fl, v .tail, a .ends, tp, pl .start, pl .main, pl .end, pl .store)) (omega (arith, fl)) d dp,
       ))
       (λ y.
@@ -279,12 +280,12 @@ module _ {r : Registers} {fs bs is w : List ℕ} {n : ℕ} (c : Closing NodeElt 
       let v = a .up in
       let k : topFrame u fs .kind ≡ ParseTypeCollectionPropertyElt = is-collection (topFrame u fs .kind) o in
       let kd : kindOk ParseTypeCollectionPropertyElt (topFrame u fs) w ≡ true = sym (ap (λ (g : Kind). kindOk g (topFrame u fs) w) k) ∙ a .kind in
-      let few = few-children w (at (topFrame u fs) 7) (count (topFrame u fs)) (at (topFrame u fs) 8) (collected (topFrame u fs) w kd .children) in
+      let few = few-children w (at (topFrame u fs) TAIL) (count (topFrame u fs)) (at (topFrame u fs) END) (collected (topFrame u fs) w kd .children) in
       let held = sym (held-child c refl y o []) ∙ h .holds bs is w c [] in
       rw (
         y,
         o,
-        may-take u (length fs) (at (topFrame r fs) 4) (at (topFrame u fs) 8) (mainSize (topFrame r fs)) (at (topFrame u fs) 8 + mainSize (topFrame r fs) + 4)
+        may-take u (length fs) (at (topFrame r fs) MAIN) (at (topFrame u fs) END) (mainSize (topFrame r fs)) (at (topFrame u fs) END + mainSize (topFrame r fs) + 4)
             (omega (arith, a .ends, tp, pl .start)) (omega (arith, pl .main, pl .end, pl .store)) (omega (arith, fl, held)) (omega (arith, fl)) d dp,
         lt-ltb (count (topFrame u fs)) 65_536 (omega (arith, few, a .ends, tp, pl .start, pl .main, pl .end, pl .store)),
       ))
@@ -307,7 +308,7 @@ closed-mark {r} {fs} {w} {gs} {v} {t} p m =
     let k = p .takes m in
     by (sameKind (f .kind) PropertyElt)
     (λ o.
-    by (mayTake u (length fs) (at n 4) (at f 7) (mainSize n) (at f 7 + mainSize n))
+    by (mayTake u (length fs) (at n MAIN) (at f TAIL) (mainSize n) (at f TAIL + mainSize n))
     (λ y. ap (λ (x : Registers). x .closed) (k .object o .takes y .moved))
     (λ y. absurd (false≢true (sym (k .object o .kept y .ok) ∙ ok))))
     (λ z.

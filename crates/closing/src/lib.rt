@@ -196,7 +196,7 @@ fn end_collection(r: Registers, frames: &[u32], work: &[u8], out: &mut [u8]) -> 
     let f = stack::top(r, frames);
     let has = f.has;
     let had = r.labels;
-    let labels = had + wide(has[6]) as u64;
+    let labels = had + wide(has[Frame::COUNT]) as u64;
     if labels > BlankNodeIdGenerator::MOST_LABELS {
         return Outcome::Stop(Refusal::LabelsSpent);
     }
@@ -228,10 +228,10 @@ fn held_after(r: Registers, frames: &[u32]) -> usize
     let at = f.at;
     let kind = f.kind;
     if stack::same_kind(kind, Kind::PropertyElt) {
-        return wide(at[7]) + size;
+        return wide(at[Frame::TAIL]) + size;
     }
     if stack::same_kind(kind, Kind::ParseTypeCollectionPropertyElt) {
-        return wide(at[8]) + size + 4;
+        return wide(at[Frame::END]) + size + 4;
     }
     behind.top
 }
@@ -241,8 +241,8 @@ fn main_size(n: Frame) -> usize
     ensures { λ r. ⌜ (r ≡ mainSize n) × (r < 4294967296) ⌝ }
 {
     let at = n.at;
-    let from = wide(at[4]);
-    let to = wide(at[5]);
+    let from = wide(at[Frame::MAIN]);
+    let to = wide(at[Frame::ID]);
     if to < from {
         return 0;
     }

@@ -14,6 +14,7 @@ use Rattle.spec.specs.Document.{Kind as What, rdfRDF, nodeElement, propertyElem
 use Rattle.spec.specs.Productions.{isLi}
 use Rattle.spec.specs.Opening.{counted, countLi}
 use Rattle.copy.specs.Copy.{part, Put, Wrote, put-fits, wrote-part}
+use Rattle.frames.specs.Parts.{NAME, BINDINGS, BASE, END, FRAME, TABLE}
 use Rattle.frames.specs.declared.Kind.{Kind}
 use Rattle.frames.specs.declared.Kind.the-variants.{Rdf, NodeElt, PropertyElt, ParseTypeCollectionPropertyElt, ParseTypeLiteralPropertyElt, ParseTypeOtherPropertyElt}
 use Rattle.frames.specs.Words.{frameAt, load-frame}
@@ -39,7 +40,7 @@ use Rattle.element.specs.Places.{Spread, Lays, marksOf, frameIs, lays-la
 
 -- what was judged: the element may be opened, and there is room for it
 pub record Ready (r : Registers) (fs bs w e s : List ℕ) (m k : ℕ) (a : List ℕ) (p : Parts) : Type 0 where
-  pub frameWords : length fs ≡ 1152
+  pub frameWords : length fs ≡ TABLE
   pub bindingWords : length bs ≡ 384
   pub store : length w ≡ 65_536
   pub inner : r .inner ≡ 0
@@ -62,9 +63,9 @@ pub record Opens (r : Registers) (fs bs w e s : List ℕ) (m k : ℕ) (a : List 
 abbrev pub behindName : Registers → Bytes → Next
 behindName r n = record { at = r .top + length n; row = r .outer }
 
-may-push : (r : Registers) (fs : List ℕ) → r .inner ≡ 0 → r .depth < 64 → length fs ≡ 1152 → mayPush r fs ≡ true
+may-push : (r : Registers) (fs : List ℕ) → r .inner ≡ 0 → r .depth < 64 → length fs ≡ TABLE → mayPush r fs ≡ true
 unfolding L.all mayPush
-may-push r fs z d l = rw (eq-eqb (r .inner) 0 z, lt-ltb (r .depth) 64 d, le-leb (r .depth * 18 + 18) (length fs) (omega arith))
+may-push r fs z d l = rw (eq-eqb (r .inner) 0 z, lt-ltb (r .depth) 64 d, le-leb (r .depth * FRAME + FRAME) (length fs) (omega arith))
 
 module _ {r : Registers} {fs bs w e s : List ℕ} {m k : ℕ} {a : List ℕ} {p : Parts} (y : Ready r fs bs w e s m k a p) where
   sum : r .top + (length (part e 0 m) + total bindingBytes (declared (attributesOf e s k)) + partsBytes p e a) ≤ 49_152
@@ -101,16 +102,16 @@ module _ {r : Registers} {fs bs w e s : List ℕ} {m k : ℕ} {a : List ℕ} {p 
           above : Kept x v 0 (q .at)
           above = rw (l .baseAt) at (kept-before (l .wrote))
 
-          name-is : span v (getD pl 0 0) (getD pl 1 0) ≡ take m e
+          name-is : span v (getD pl NAME 0) (getD pl BINDINGS 0) ≡ take m e
           unfolding span part
           name-is =
               let d : r .top + length n - r .top ≡ length n = omega arith in
               let j : part v (r .top) (length n) ≡ part x (r .top) (length n) = above .parts (r .top) (length n) (omega arith) (omega (arith, h .ends)) in
               let o : part x (r .top) (length n) ≡ part u (r .top) (length n) = h .before .parts (r .top) (length n) (omega arith) (omega arith) in
-              ap (λ (z : ℕ). span v z (getD pl 1 0)) (l .nameAt)
+              ap (λ (z : ℕ). span v z (getD pl BINDINGS 0)) (l .nameAt)
               ∙ (ap (span v (r .top)) (l .boundAt) ∙ (ap (part v (r .top)) d ∙ (j ∙ (o ∙ (wrote-part name-wrote ∙ i)))))
 
-          bound-is : Bound cs v (r .outer) (q .row - r .outer) (getD pl 1 0) (getD pl 2 0) (declared (attributesOf e s k))
+          bound-is : Bound cs v (r .outer) (q .row - r .outer) (getD pl BINDINGS 0) (getD pl BASE 0) (declared (attributesOf e s k))
           bound-is =
               let d : q .row - r .outer ≡ length (declared (attributesOf e s k)) = omega (arith, h .rows) in
               rw (d, l .boundAt, l .baseAt)
@@ -135,7 +136,7 @@ module _ {r : Registers} {fs bs w e s : List ℕ} {m k : ℕ} {a : List ℕ} {p 
                 lays-what l (r .outer) (p .kind) (y .fitting .lacks) t,
               )
 
-          ends-low : getD pl 8 0 ≤ 49_152
+          ends-low : getD pl END 0 ≤ 49_152
           ends-low =
               omega (arith, l .baseAt, l .tagAt, l .mainAt, l .idAt, l .typeAt, l .tailAt, l .endAt, h .ends, sum, ap length i)
 
@@ -190,7 +191,7 @@ module _ {r : Registers} {fs bs w e s : List ℕ} {m k : ℕ} {a : List ℕ} {p 
 
 -- ---- how a caller comes to be ready
 
-top-is : (r : Registers) (fs : List ℕ) → 0 < r .depth → (r .depth - 1) * 18 + 18 ≤ length fs → topFrame r fs ≡ frameAt fs (r .depth - 1)
+top-is : (r : Registers) (fs : List ℕ) → 0 < r .depth → (r .depth - 1) * FRAME + FRAME ≤ length fs → topFrame r fs ≡ frameAt fs (r .depth - 1)
 unfolding topFrame
 top-is r fs d h = rw (ne-eqb (r .depth) 0 (λ z. omega arith)) (load-frame fs (r .depth - 1) h)
 
@@ -212,7 +213,7 @@ ready-valid x z d b me ro f st =
     }
 
 -- any element may stand in a node
-pub stands-in : (r : Registers) (fs : List ℕ) → topFrame r fs .kind ≡ NodeElt → r .depth ≤ 64 → length fs ≡ 1152 → (q : Kind) → stands q fs (r .depth) ≡ true
+pub stands-in : (r : Registers) (fs : List ℕ) → topFrame r fs .kind ≡ NodeElt → r .depth ≤ 64 → length fs ≡ TABLE → (q : Kind) → stands q fs (r .depth) ≡ true
 unfolding stands nodeBelow isNode
 stands-in r fs h d l = go
   where

@@ -11,6 +11,7 @@ use Rattle.spec.specs.Bytes.{Bytes}
 use Rattle.spec.specs.Limits.{mostLabels}
 use Rattle.spec.specs.NTriples.{Subject, blank}
 use Rattle.copy.specs.Copy.{Put, Wrote, then, put-fits, wrote-none, wrote-same}
+use Rattle.frames.specs.Parts.{NAME, BINDINGS, BASE, TAG, MAIN, ID, DATATYPE, TAIL, END, PLACES}
 use Rattle.frames.specs.declared.Kind.{Kind}
 use Rattle.frames.specs.declared.Kind.the-variants.{Rdf, NodeElt, PropertyElt, ParseTypeCollectionPropertyElt, ParseTypeLiteralPropertyElt, ParseTypeOtherPropertyElt}
 use Rattle.frames.specs.declared.Frame.{Frame}
@@ -97,17 +98,17 @@ module _ {w e a : List ℕ} {p : Parts} {name bound from : ℕ} (s : Spread w e 
 
 -- all parts of p stand in v from `from` on; `at` has where each starts, behind the places of the name and of the bindings, and where the last one ends
 pub record Lays (w v e a : List ℕ) (p : Parts) (name bound from : ℕ) (at : List ℕ) : Type 0 where
-  pub size : length at ≡ 9
-  pub nameAt : getD at 0 0 ≡ name
-  pub boundAt : getD at 1 0 ≡ bound
-  pub baseAt : getD at 2 0 ≡ from
-  pub tagAt : getD at 3 0 ≡ getD at 2 0 + length (textOf (p .base) e a)
-  pub mainAt : getD at 4 0 ≡ getD at 3 0 + length (textOf (p .tag) e a)
-  pub idAt : getD at 5 0 ≡ getD at 4 0 + length (textOf (p .main) e a)
-  pub typeAt : getD at 6 0 ≡ getD at 5 0 + length (textOf (p .id) e a)
-  pub tailAt : getD at 7 0 ≡ getD at 6 0 + length (textOf (p .datatype) e a)
-  pub endAt : getD at 8 0 ≡ getD at 7 0 + length (textOf (p .object) e a)
-  pub wrote : Wrote w v (getD at 2 0) (getD at 8 0)
+  pub size : length at ≡ PLACES
+  pub nameAt : getD at NAME 0 ≡ name
+  pub boundAt : getD at BINDINGS 0 ≡ bound
+  pub baseAt : getD at BASE 0 ≡ from
+  pub tagAt : getD at TAG 0 ≡ getD at BASE 0 + length (textOf (p .base) e a)
+  pub mainAt : getD at MAIN 0 ≡ getD at TAG 0 + length (textOf (p .tag) e a)
+  pub idAt : getD at ID 0 ≡ getD at MAIN 0 + length (textOf (p .main) e a)
+  pub typeAt : getD at DATATYPE 0 ≡ getD at ID 0 + length (textOf (p .id) e a)
+  pub tailAt : getD at TAIL 0 ≡ getD at DATATYPE 0 + length (textOf (p .datatype) e a)
+  pub endAt : getD at END 0 ≡ getD at TAIL 0 + length (textOf (p .object) e a)
+  pub wrote : Wrote w v (getD at BASE 0) (getD at END 0)
       (textOf (p .base) e a ++ (textOf (p .tag) e a ++ (textOf (p .main) e a ++ (textOf (p .id) e a ++ (textOf (p .datatype) e a ++ textOf (p .object) e a)))))
   pub same : length v ≡ length w
 
@@ -190,36 +191,36 @@ module _ {w v e a : List ℕ} {p : Parts} {name bound from : ℕ} {at′ : List 
   unfolding partsOk
   lays-parts =
       rw (
-        empty-or e a (p .base) (getD at′ 2 0) (getD at′ 3 0) (l .tagAt),
-        empty-or e a (p .tag) (getD at′ 3 0) (getD at′ 4 0) (l .mainAt),
-        empty-or e a (p .id) (getD at′ 5 0) (getD at′ 6 0) (l .typeAt),
-        empty-or e a (p .datatype) (getD at′ 6 0) (getD at′ 7 0) (l .tailAt),
+        empty-or e a (p .base) (getD at′ BASE 0) (getD at′ TAG 0) (l .tagAt),
+        empty-or e a (p .tag) (getD at′ TAG 0) (getD at′ MAIN 0) (l .mainAt),
+        empty-or e a (p .id) (getD at′ ID 0) (getD at′ DATATYPE 0) (l .typeAt),
+        empty-or e a (p .datatype) (getD at′ DATATYPE 0) (getD at′ TAIL 0) (l .tailAt),
       )
 
-  object-or : (h : ℕ) → (h ≡ 0 → p .object ≡ Missing) → emptyOr h (getD at′ 7 0) (getD at′ 8 0) ≡ true
+  object-or : (h : ℕ) → (h ≡ 0 → p .object ≡ Missing) → emptyOr h (getD at′ TAIL 0) (getD at′ END 0) ≡ true
   unfolding emptyOr
   object-or h z = go (eqb h 0) refl
     where
-      go : (t : Bool) → eqb h 0 ≡ t → pick t (eqb (getD at′ 7 0) (getD at′ 8 0)) true ≡ true
-      go true i = eq-eqb (getD at′ 7 0) (getD at′ 8 0) (omega (arith, l .endAt, missing-size e a (z (eqb-true h 0 i))))
+      go : (t : Bool) → eqb h 0 ≡ t → pick t (eqb (getD at′ TAIL 0) (getD at′ END 0)) true ≡ true
+      go true i = eq-eqb (getD at′ TAIL 0) (getD at′ END 0) (omega (arith, l .endAt, missing-size e a (z (eqb-true h 0 i))))
       go false i = refl
 
   pub lays-kind : (q : Kind) → Lacks q p → kindOk q (frameIs p at′ b) v ≡ true
   unfolding kindOk childrenOk mostLabels
   lays-kind Rdf z =
-      eq-eqb (getD at′ 4 0) (getD at′ 8 0)
+      eq-eqb (getD at′ MAIN 0) (getD at′ END 0)
       (omega (arith, l .idAt, l .typeAt, l .tailAt, l .endAt, missing-size e a (z .0), missing-size e a (z .1), missing-size e a (z .2), missing-size e a (z .3)))
   lays-kind NodeElt z =
-      rw (eq-eqb (getD at′ 5 0) (getD at′ 8 0) (omega (arith, l .typeAt, l .tailAt, l .endAt, missing-size e a (z .0), missing-size e a (z .1), missing-size e a (z .2))))
+      rw (eq-eqb (getD at′ ID 0) (getD at′ END 0) (omega (arith, l .typeAt, l .tailAt, l .endAt, missing-size e a (z .0), missing-size e a (z .1), missing-size e a (z .2))))
   lays-kind PropertyElt z = object-or (p .what) z
   lays-kind ParseTypeCollectionPropertyElt z =
       rw (
-        eq-eqb (getD at′ 6 0) (getD at′ 7 0) (omega (arith, l .tailAt, missing-size e a (z .0))),
-        eq-eqb (getD at′ 7 0) (getD at′ 8 0) (omega (arith, l .endAt, missing-size e a (z .1))),
+        eq-eqb (getD at′ DATATYPE 0) (getD at′ TAIL 0) (omega (arith, l .tailAt, missing-size e a (z .0))),
+        eq-eqb (getD at′ TAIL 0) (getD at′ END 0) (omega (arith, l .endAt, missing-size e a (z .1))),
       )
-  lays-kind ParseTypeLiteralPropertyElt z = eq-eqb (getD at′ 6 0) (getD at′ 7 0) (omega (arith, l .tailAt, missing-size e a (z .0)))
+  lays-kind ParseTypeLiteralPropertyElt z = eq-eqb (getD at′ DATATYPE 0) (getD at′ TAIL 0) (omega (arith, l .tailAt, missing-size e a (z .0)))
   lays-kind ParseTypeOtherPropertyElt z =
-      eq-eqb (getD at′ 6 0) (getD at′ 8 0) (omega (arith, l .tailAt, l .endAt, missing-size e a (z .0), missing-size e a (z .1)))
+      eq-eqb (getD at′ DATATYPE 0) (getD at′ END 0) (omega (arith, l .tailAt, l .endAt, missing-size e a (z .0), missing-size e a (z .1)))
 
   property-is : (s : Subject) → propertyOf (frameIs p at′ b) v s ≡ propertyIs p e a s
   unfolding propertyOf propertyIs

@@ -13,6 +13,7 @@ ghost use Rattle.element.specs.Sizes.{Short, Measures, bytesIn, partsByt
 ghost use Rattle.element.specs.Rows.{Fits, BindsAt, Entered};
 ghost use Rattle.element.specs.Places.{Room, Puts, Spread, Lays, markOf, bitOf, marksOf};
 ghost use Rattle.element.specs.Laws.{Ready, Opens, Granted, Commits, CountsIf};
+use frames::Frame;
 use frames::Kind;
 use state::Registers;
 
@@ -238,7 +239,7 @@ fn lay<'a>(
     scratch: &'a [u8],
     area: &'a [u8],
     parts: Parts,
-) -> [u32; 9]
+) -> [u32; Frame::PLACES]
     requires { ⌜ Spread (now work) (now scratch) (now area) parts name bound from ⌝ }
     ensures { λ r. ⌜ Lays (now (work .entry)) (now (work .exit)) (now (scratch .entry)) (now (area .entry)) parts name bound from r ⌝ }
 {
@@ -248,22 +249,22 @@ fn lay<'a>(
     let id = parts.id;
     let datatype = parts.datatype;
     let object = parts.object;
-    let at3 = put_text(work, from, base, scratch, area);
-    let at4 = put_text(work, at3, tag, scratch, area);
-    let at5 = put_text(work, at4, main, scratch, area);
-    let at6 = put_text(work, at5, id, scratch, area);
-    let at7 = put_text(work, at6, datatype, scratch, area);
-    let at8 = put_text(work, at7, object, scratch, area);
+    let tag_at = put_text(work, from, base, scratch, area);
+    let main_at = put_text(work, tag_at, tag, scratch, area);
+    let id_at = put_text(work, main_at, main, scratch, area);
+    let datatype_at = put_text(work, id_at, id, scratch, area);
+    let tail_at = put_text(work, datatype_at, datatype, scratch, area);
+    let end = put_text(work, tail_at, object, scratch, area);
     [
         name as u32,
         bound as u32,
         from as u32,
-        at3 as u32,
-        at4 as u32,
-        at5 as u32,
-        at6 as u32,
-        at7 as u32,
-        at8 as u32,
+        tag_at as u32,
+        main_at as u32,
+        id_at as u32,
+        datatype_at as u32,
+        tail_at as u32,
+        end as u32,
     ]
 }
 
@@ -290,7 +291,7 @@ fn append(work: &mut [u8], at: usize, s: &[u8]) -> usize
 }
 
 // The marks of the frame, whose first binding is row `first`.
-fn marks(parts: Parts, first: usize) -> [u32; 8]
+fn marks(parts: Parts, first: usize) -> [u32; Frame::MARKS]
     requires { ⌜ first ≤ mostBindings ⌝ }
     ensures { λ r. ⌜ r ≡ marksOf parts first ⌝ }
 {

@@ -1,3 +1,4 @@
 -- Words, and stretches that are kept.
 pub mod Kept
+pub mod Parts
 pub mod Words

@@ -10,6 +10,7 @@ use lib.ListN.{length, getD, take, drop, set, length-set, length-append, drop-of
 use lib.Seq.{take-at, drop-at, take-length}
 use borrow.Author.Tests.{le-leb, lt-leb}
 use Rattle.copy.specs.Copy.{part, storedAt, Put, Wrote, then, wrote-one, wrote-part, wrote-same, put-fits, getD-part, part-part, length-part}
+use Rattle.frames.specs.Parts.{PLACES, MARKS, HEAD, FRAME}
 use Rattle.frames.specs.Kept.{Kept}
 use Rattle.frames.specs.declared.Kind.{Kind}
 use Rattle.frames.specs.declared.Kind.the-variants.{Rdf, NodeElt, PropertyElt, ParseTypeCollectionPropertyElt, ParseTypeLiteralPropertyElt, ParseTypeOtherPropertyElt}
@@ -51,24 +52,24 @@ noFrame = record { kind = Rdf; at = 0 ∷ 0 ∷ 0 ∷ 0 ∷ 0 ∷ 0 ∷ 0 ∷ 0 
 
 -- 18 words: the kind, `at`, `has`
 unfoldable pub frameOf : List ℕ → Frame
-frameOf w = record { kind = kindOf (getD w 0 0); at = part w 1 9; has = part w 10 8 }
+frameOf w = record { kind = kindOf (getD w 0 0); at = part w 1 PLACES; has = part w HEAD MARKS }
 
 unfoldable pub wordsOf : Frame → List ℕ
 wordsOf f = kindNumber (f .kind) ∷ (f .at ++ f .has)
 
 -- frame i of a table
 unfoldable pub frameAt : List ℕ → ℕ → Frame
-frameAt fs i = frameOf (part fs (i * 18) 18)
+frameAt fs i = frameOf (part fs (i * FRAME) FRAME)
 
 -- the same, where the table may be too short
 unfoldable pub loadFrame : List ℕ → ℕ → Frame
-loadFrame fs i = pick (leb (i * 18 + 18) (length fs)) (frameAt fs i) noFrame
+loadFrame fs i = pick (leb (i * FRAME + FRAME) (length fs)) (frameAt fs i) noFrame
 
 -- what `store` does to `fs`: `gs` is behind it, `r` its answer
 pub record StoredFrame (fs : List ℕ) (i : ℕ) (f : Frame) (gs : List ℕ) (r : Bool) : Type 0 where
-  pub answer : r ≡ leb (i * 18 + 18) (length fs)
-  pub wrote : i * 18 + 18 ≤ length fs → gs ≡ storedAt fs (i * 18) (wordsOf f)
-  pub kept : length fs < i * 18 + 18 → gs ≡ fs
+  pub answer : r ≡ leb (i * FRAME + FRAME) (length fs)
+  pub wrote : i * FRAME + FRAME ≤ length fs → gs ≡ storedAt fs (i * FRAME) (wordsOf f)
+  pub kept : length fs < i * FRAME + FRAME → gs ≡ fs
   pub same : length gs ≡ length fs
 
 -- ---- rows
@@ -141,9 +142,9 @@ row-stored {ws} {i} {r} h =
       same = simp length-set;
     }
 
-pub frame-none : (fs : List ℕ) (i : ℕ) → length fs / 18 ≤ i → noFrame ≡ loadFrame fs i
+pub frame-none : (fs : List ℕ) (i : ℕ) → length fs / FRAME ≤ i → noFrame ≡ loadFrame fs i
 unfolding loadFrame
-frame-none fs i h = rw (lt-leb (i * 18 + 18) (length fs) (omega arith))
+frame-none fs i h = rw (lt-leb (i * FRAME + FRAME) (length fs) (omega arith))
 
 -- a store over the whole
 put-whole : {d s e : List ℕ} {r : Bool} → Put d 0 s e r → length s ≡ length d → e ≡ s
@@ -151,40 +152,40 @@ unfolding storedAt
 put-whole {d} {s} {e} p h = p .wrote (omega arith) ∙ rw (zero-add, drop-of-length-le d {i = length s} (omega arith), append-nil)
 
 -- frame i, from its parts as they were lent
-pub frame-loaded : (fs : List ℕ) (i : ℕ) (x y : List ℕ) {r q : Bool} → i < length fs / 18
-    → Put (0 ∷ 0 ∷ 0 ∷ 0 ∷ 0 ∷ 0 ∷ 0 ∷ 0 ∷ 0 ∷ []) 0 (take (i * 18 + 10 - (i * 18 + 1)) (drop (i * 18 + 1) fs)) x r
-    → Put (0 ∷ 0 ∷ 0 ∷ 0 ∷ 0 ∷ 0 ∷ 0 ∷ 0 ∷ []) 0 (take (i * 18 + 18 - (i * 18 + 10)) (drop (i * 18 + 10) fs)) y q
-    → record { kind = kindOf (getD fs (i * 18) 0); at = x; has = y } ≡ loadFrame fs i
+pub frame-loaded : (fs : List ℕ) (i : ℕ) (x y : List ℕ) {r q : Bool} → i < length fs / FRAME
+    → Put (0 ∷ 0 ∷ 0 ∷ 0 ∷ 0 ∷ 0 ∷ 0 ∷ 0 ∷ 0 ∷ []) 0 (take (i * FRAME + HEAD - (i * FRAME + 1)) (drop (i * FRAME + 1) fs)) x r
+    → Put (0 ∷ 0 ∷ 0 ∷ 0 ∷ 0 ∷ 0 ∷ 0 ∷ 0 ∷ []) 0 (take (i * FRAME + FRAME - (i * FRAME + HEAD)) (drop (i * FRAME + HEAD) fs)) y q
+    → record { kind = kindOf (getD fs (i * FRAME) 0); at = x; has = y } ≡ loadFrame fs i
 unfolding loadFrame frameAt frameOf part
 frame-loaded fs i x y h p q =
-    let n : i * 18 + 10 - (i * 18 + 1) ≡ 9 = omega arith in
-    let m : i * 18 + 18 - (i * 18 + 10) ≡ 8 = omega arith in
-    let a : x ≡ part fs (i * 18 + 1) 9 = put-whole p (rw n (length-part fs (i * 18 + 1) 9 (omega arith))) ∙ rw n in
-    let b : y ≡ part fs (i * 18 + 10) 8 = put-whole q (rw m (length-part fs (i * 18 + 10) 8 (omega arith))) ∙ rw m in
-    let k : getD (part fs (i * 18) 18) 0 0 ≡ getD fs (i * 18) 0 = getD-part fs (i * 18) 18 0 (omega arith) ∙ rw add-zero in
-    rw (le-leb (i * 18 + 18) (length fs) (omega arith), a, b, k, part-part fs (i * 18) 18 1 9 (omega arith), part-part fs (i * 18) 18 10 8 (omega arith))
+    let n : i * FRAME + HEAD - (i * FRAME + 1) ≡ PLACES = omega arith in
+    let m : i * FRAME + FRAME - (i * FRAME + HEAD) ≡ MARKS = omega arith in
+    let a : x ≡ part fs (i * FRAME + 1) PLACES = put-whole p (rw n (length-part fs (i * FRAME + 1) PLACES (omega arith))) ∙ rw n in
+    let b : y ≡ part fs (i * FRAME + HEAD) MARKS = put-whole q (rw m (length-part fs (i * FRAME + HEAD) MARKS (omega arith))) ∙ rw m in
+    let k : getD (part fs (i * FRAME) FRAME) 0 0 ≡ getD fs (i * FRAME) 0 = getD-part fs (i * FRAME) FRAME 0 (omega arith) ∙ rw add-zero in
+    rw (le-leb (i * FRAME + FRAME) (length fs) (omega arith), a, b, k, part-part fs (i * FRAME) FRAME 1 PLACES (omega arith), part-part fs (i * FRAME) FRAME HEAD MARKS (omega arith))
 
-pub frame-refused : {fs : List ℕ} {i : ℕ} {f : Frame} → length fs / 18 ≤ i → StoredFrame fs i f fs false
+pub frame-refused : {fs : List ℕ} {i : ℕ} {f : Frame} → length fs / FRAME ≤ i → StoredFrame fs i f fs false
 frame-refused {fs} {i} {f} h =
     record {
-      answer = sym (lt-leb (i * 18 + 18) (length fs) (omega arith));
+      answer = sym (lt-leb (i * FRAME + FRAME) (length fs) (omega arith));
       wrote = λ l. absurd (omega arith);
       kept = λ _. refl;
       same = refl;
     }
 
-pub frame-stored : {fs : List ℕ} {i : ℕ} {f : Frame} {gs hs : List ℕ} {q r : Bool} → i < length fs / 18 → length (f .at) ≡ 9 → length (f .has) ≡ 8
-    → Put (set fs (i * 18) (kindNumber (f .kind))) (i * 18 + 1) (f .at) gs q → Put gs (i * 18 + 10) (f .has) hs r → StoredFrame fs i f hs r
+pub frame-stored : {fs : List ℕ} {i : ℕ} {f : Frame} {gs hs : List ℕ} {q r : Bool} → i < length fs / FRAME → length (f .at) ≡ PLACES → length (f .has) ≡ MARKS
+    → Put (set fs (i * FRAME) (kindNumber (f .kind))) (i * FRAME + 1) (f .at) gs q → Put gs (i * FRAME + HEAD) (f .has) hs r → StoredFrame fs i f hs r
 unfolding wordsOf
 frame-stored {fs} {i} {f} {gs} {hs} {q} {r} h a b p p′ =
-    let l : length (set fs (i * 18) (kindNumber (f .kind))) ≡ length fs = length-set fs (i * 18) (kindNumber (f .kind)) in
-    let one : Wrote fs (set fs (i * 18) (kindNumber (f .kind))) (i * 18) (i * 18 + 1) (kindNumber (f .kind) ∷ []) = wrote-one (omega arith) in
-    let two : Wrote (set fs (i * 18) (kindNumber (f .kind))) gs (i * 18 + 1) (i * 18 + 1 + length (f .at)) (f .at) = put-fits p (omega arith) in
-    let e : i * 18 + 1 + length (f .at) ≡ i * 18 + 10 = omega arith in
-    let three : Wrote gs hs (i * 18 + 10) (i * 18 + 10 + length (f .has)) (f .has) = put-fits p′ (omega (arith, wrote-same two)) in
-    let all : Wrote fs hs (i * 18) (i * 18 + 10 + length (f .has)) (kindNumber (f .kind) ∷ (f .at ++ f .has)) = then one (then (rw e at two) three) in
+    let l : length (set fs (i * FRAME) (kindNumber (f .kind))) ≡ length fs = length-set fs (i * FRAME) (kindNumber (f .kind)) in
+    let one : Wrote fs (set fs (i * FRAME) (kindNumber (f .kind))) (i * FRAME) (i * FRAME + 1) (kindNumber (f .kind) ∷ []) = wrote-one (omega arith) in
+    let two : Wrote (set fs (i * FRAME) (kindNumber (f .kind))) gs (i * FRAME + 1) (i * FRAME + 1 + length (f .at)) (f .at) = put-fits p (omega arith) in
+    let e : i * FRAME + 1 + length (f .at) ≡ i * FRAME + HEAD = omega arith in
+    let three : Wrote gs hs (i * FRAME + HEAD) (i * FRAME + HEAD + length (f .has)) (f .has) = put-fits p′ (omega (arith, wrote-same two)) in
+    let all : Wrote fs hs (i * FRAME) (i * FRAME + HEAD + length (f .has)) (kindNumber (f .kind) ∷ (f .at ++ f .has)) = then one (then (rw e at two) three) in
     record {
-      answer = p′ .answer ∙ (le-leb (i * 18 + 10 + length (f .has)) (length gs) (omega (arith, wrote-same two)) ∙ sym (le-leb (i * 18 + 18) (length fs) (omega arith)));
+      answer = p′ .answer ∙ (le-leb (i * FRAME + HEAD + length (f .has)) (length gs) (omega (arith, wrote-same two)) ∙ sym (le-leb (i * FRAME + FRAME) (length fs) (omega arith)));
       wrote = λ _. all .eq;
       kept = λ l. absurd (omega arith);
       same = wrote-same all;
@@ -192,9 +193,9 @@ frame-stored {fs} {i} {f} {gs} {hs} {q} {r} h a b p p′ =
 
 -- ---- what is loaded from a table that is long enough
 
-pub load-frame : (fs : List ℕ) (i : ℕ) → i * 18 + 18 ≤ length fs → loadFrame fs i ≡ frameAt fs i
+pub load-frame : (fs : List ℕ) (i : ℕ) → i * FRAME + FRAME ≤ length fs → loadFrame fs i ≡ frameAt fs i
 unfolding loadFrame
-load-frame fs i h = rw (le-leb (i * 18 + 18) (length fs) h)
+load-frame fs i h = rw (le-leb (i * FRAME + FRAME) (length fs) h)
 
 pub load-row : (ws : List ℕ) (i : ℕ) → i * 3 + 3 ≤ length ws → loadRow ws i ≡ rowAt ws i
 unfolding loadRow
@@ -202,27 +203,29 @@ load-row ws i h = rw (le-leb (i * 3 + 3) (length ws) h)
 
 -- ---- load and store: what was stored is loaded, and what is kept is loaded as before
 
-frame-back : (f : Frame) → length (f .at) ≡ 9 → length (f .has) ≡ 8 → frameOf (wordsOf f) ≡ f
+frame-back : (f : Frame) → length (f .at) ≡ PLACES → length (f .has) ≡ MARKS → frameOf (wordsOf f) ≡ f
 unfolding frameOf wordsOf part
-frame-back f a b = rw (kind-back (f .kind), take-at (f .at) (f .has) 9 a, drop-at (f .at) (f .has) 9 a, ← b, take-length (f .has))
+frame-back f a b =
+    let all : take MARKS (f .has) ≡ f .has = ap (λ (n : ℕ). take n (f .has)) (sym b) ∙ take-length (f .has) in
+    rw (kind-back (f .kind), take-at (f .at) (f .has) PLACES a, drop-at (f .at) (f .has) PLACES a, all)
 
-pub length-words : (f : Frame) → length (f .at) ≡ 9 → length (f .has) ≡ 8 → length (wordsOf f) ≡ 18
+pub length-words : (f : Frame) → length (f .at) ≡ PLACES → length (f .has) ≡ MARKS → length (wordsOf f) ≡ FRAME
 unfolding wordsOf
 length-words f a b = omega (arith, length-append (f .at) (f .has))
 
-module _ {fs gs : List ℕ} {i : ℕ} {f : Frame} {r : Bool} (s : StoredFrame fs i f gs r) (h : i * 18 + 18 ≤ length fs) (a : length (f .at) ≡ 9) (b : length (f .has) ≡ 8) where
-  pub frame-wrote : Wrote fs gs (i * 18) (i * 18 + 18) (wordsOf f)
+module _ {fs gs : List ℕ} {i : ℕ} {f : Frame} {r : Bool} (s : StoredFrame fs i f gs r) (h : i * FRAME + FRAME ≤ length fs) (a : length (f .at) ≡ PLACES) (b : length (f .has) ≡ MARKS) where
+  pub frame-wrote : Wrote fs gs (i * FRAME) (i * FRAME + FRAME) (wordsOf f)
   frame-wrote = let l = length-words f a b in record { room = omega arith; up = omega arith; eq = s .wrote h }
 
   pub load-store : frameAt gs i ≡ f
   unfolding frameAt
   load-store =
-      let e : part gs (i * 18) 18 ≡ wordsOf f = ap (part gs (i * 18)) (sym (length-words f a b)) ∙ wrote-part frame-wrote in
+      let e : part gs (i * FRAME) FRAME ≡ wordsOf f = ap (part gs (i * FRAME)) (sym (length-words f a b)) ∙ wrote-part frame-wrote in
       rw e (frame-back f a b)
 
-pub frame-kept : {fs gs : List ℕ} {lo hi : ℕ} → Kept fs gs lo hi → (i : ℕ) → lo ≤ i * 18 → i * 18 + 18 ≤ hi → frameAt gs i ≡ frameAt fs i
+pub frame-kept : {fs gs : List ℕ} {lo hi : ℕ} → Kept fs gs lo hi → (i : ℕ) → lo ≤ i * FRAME → i * FRAME + FRAME ≤ hi → frameAt gs i ≡ frameAt fs i
 unfolding frameAt
-frame-kept k i l h = rw (k .parts (i * 18) 18 l h)
+frame-kept k i l h = rw (k .parts (i * FRAME) FRAME l h)
 
 pub row-there : {ws vs : List ℕ} {r : Row} (i : ℕ) → Wrote ws vs (i * 3) (i * 3 + 3) (rowWords r) → rowAt vs i ≡ r
 unfolding rowAt rowOf

@@ -14,13 +14,12 @@ pub enum Kind {
     ParseTypeOtherPropertyElt,
 }
 
-// An open element outside Literal content. `at` has where its parts start in the work store, end to end, and where the last one ends:
-// name, bindings, own base, own tag, main part, rdf:ID, datatype, tail. `has` says what they are:
-// is there a base, a tag; is the main part a blank node; is there an rdf:ID, a datatype; what the tail is; a count; its first binding.
+// An open element outside Literal content. `at` has where its parts start in the work store, end to end, and where the last one ends;
+// `has` says what they are. Both are read by the names below.
 pub struct Frame {
     pub kind: Kind,
-    pub at: [u32; 9],
-    pub has: [u32; 8],
+    pub at: [u32; Frame::PLACES],
+    pub has: [u32; Frame::MARKS],
 }
 
 // A row of a table with three words a row. Of a binding: where its prefix starts, its length, the namespace's length.
@@ -60,8 +59,52 @@ impl Kind {
 }
 
 impl Frame {
-    // Words of a frame.
-    pub const WORDS: usize = 18;
+    // The places: name, bindings, own xml:base, own xml:lang; the subject of a node or the IRI of a property; resolved rdf:ID, datatype;
+    // the tail, which is a pending object, the children of a Collection or the text of a Literal; its end.
+    pub const NAME: usize = 0;
+
+    pub const BINDINGS: usize = Self::NAME + 1;
+
+    pub const BASE: usize = Self::BINDINGS + 1;
+
+    pub const TAG: usize = Self::BASE + 1;
+
+    pub const MAIN: usize = Self::TAG + 1;
+
+    pub const ID: usize = Self::MAIN + 1;
+
+    pub const DATATYPE: usize = Self::ID + 1;
+
+    pub const TAIL: usize = Self::DATATYPE + 1;
+
+    pub const END: usize = Self::TAIL + 1;
+
+    pub const PLACES: usize = Self::END + 1;
+
+    // The marks: is there a base, a tag; is the subject a blank node; is there an rdf:ID, a datatype; what the pending object is;
+    // rdf:li of a node or children of a Collection; the first of its bindings.
+    pub const BASED: usize = 0;
+
+    pub const TAGGED: usize = Self::BASED + 1;
+
+    pub const BLANK: usize = Self::TAGGED + 1;
+
+    pub const IDENTIFIED: usize = Self::BLANK + 1;
+
+    pub const TYPED: usize = Self::IDENTIFIED + 1;
+
+    pub const PENDING: usize = Self::TYPED + 1;
+
+    pub const COUNT: usize = Self::PENDING + 1;
+
+    pub const FIRST: usize = Self::COUNT + 1;
+
+    pub const MARKS: usize = Self::FIRST + 1;
+
+    // Words of a frame: its kind and its places, its marks.
+    const HEAD: usize = 1 + Self::PLACES;
+
+    pub const WORDS: usize = Self::HEAD + Self::MARKS;
 
     // Open elements, inside Literal content and outside.
     pub const MOST: usize = 64;
@@ -74,8 +117,8 @@ impl Frame {
     {
         Frame {
             kind: Kind::Rdf,
-            at: [0u32; 9],
-            has: [0u32; 8],
+            at: [0u32; Self::PLACES],
+            has: [0u32; Self::MARKS],
         }
     }
 
@@ -88,10 +131,10 @@ impl Frame {
         }
         let from = i * Self::WORDS;
         let kind = Kind::of(frames[from]);
-        let mut at = [0u32; 9];
-        let mut has = [0u32; 8];
+        let mut at = [0u32; Self::PLACES];
+        let mut has = [0u32; Self::MARKS];
         let a = from + 1;
-        let h = from + 10;
+        let h = from + Self::HEAD;
         let e = from + Self::WORDS;
         put_words(&mut at, 0, &frames[a..h]);
         put_words(&mut has, 0, &frames[h..e]);
@@ -110,7 +153,7 @@ impl Frame {
         let kind = f.kind;
         frames[from] = kind.word();
         put_words(frames, from + 1, &at);
-        put_words(frames, from + 10, &has)
+        put_words(frames, from + Self::HEAD, &has)
     }
 }
 

@@ -10,6 +10,7 @@ use borrow.Author.Tests.{leb-true, leb-false, eq-eqb, ne-eqb, le-leb, lt-leb, lt
 use Rattle.spec.specs.Limits as L
 use Rattle.spec.specs.Limits.{mostOpenElements, mostBindings, workStoreBytes}
 use Rattle.copy.specs.Copy.{storedAt}
+use Rattle.frames.specs.Parts.{NAME, BINDINGS, BASE, TAG, BASED, TAGGED}
 use Rattle.frames.specs.declared.Frame.{Frame}
 use Rattle.frames.specs.declared.Row.{Row}
 use Rattle.frames.specs.Words.{pick, loadFrame, loadRow, StoredRow}
@@ -53,7 +54,7 @@ stretch a b = record { there = true; at = a; len = b - a }
 unfoldable pub nameIn : Registers → List ℕ → List ℕ → Found
 nameIn r fs is =
     pick (eqb (r .inner) 0)
-    (pick (eqb (r .depth) 0) nowhere (stretch (at (loadFrame fs (r .depth - 1)) 0) (at (loadFrame fs (r .depth - 1)) 1)))
+    (pick (eqb (r .depth) 0) nowhere (stretch (at (loadFrame fs (r .depth - 1)) NAME) (at (loadFrame fs (r .depth - 1)) BINDINGS)))
     (record { there = true; at = loadRow is (r .inner - 1) .at; len = loadRow is (r .inner - 1) .name })
 
 -- of the innermost of n frames that has it
@@ -63,10 +64,10 @@ innermostIn fs mark place (suc n) =
     pick (eqb (has (loadFrame fs n) mark) 0) (innermostIn fs mark place n) (stretch (at (loadFrame fs n) place) (at (loadFrame fs n) (place + 1)))
 
 unfoldable pub baseIn : Registers → List ℕ → Found
-baseIn r fs = pick (innermostIn fs 0 2 (r .depth) .there) (innermostIn fs 0 2 (r .depth)) (record { there = r .based; at = 0; len = r .base })
+baseIn r fs = pick (innermostIn fs BASED BASE (r .depth) .there) (innermostIn fs BASED BASE (r .depth)) (record { there = r .based; at = 0; len = r .base })
 
 unfoldable pub languageIn : Registers → List ℕ → Found
-languageIn r fs = innermostIn fs 1 3 (r .depth)
+languageIn r fs = innermostIn fs TAGGED TAG (r .depth)
 
 -- where the numbers are not a valid state's, all of the store
 unfoldable pub heldIn : Registers → ℕ
@@ -146,7 +147,7 @@ module _ (r : Registers) (fs is : List ℕ) where
   unfolding nameIn
   name-none z d = rw (eq-eqb (r .inner) 0 z, eq-eqb (r .depth) 0 d)
 
-  pub name-top : {f : Frame} {c : Found} {a b : ℕ} → r .inner ≡ 0 → (r .depth ≡ 0 → ⊥) → f ≡ loadFrame fs (r .depth - 1) → a ≡ at f 0 → b ≡ at f 1
+  pub name-top : {f : Frame} {c : Found} {a b : ℕ} → r .inner ≡ 0 → (r .depth ≡ 0 → ⊥) → f ≡ loadFrame fs (r .depth - 1) → a ≡ at f NAME → b ≡ at f BINDINGS
       → (c .there ≡ true) × (c .at ≡ a) × (c .len ≡ b - a) → c ≡ nameIn r fs is
   unfolding nameIn
   name-top {f} {c} {a} {b} z d e p q h = found c a b h ∙ rw (eq-eqb (r .inner) 0 z, ne-eqb (r .depth) 0 d, p, q, e)
@@ -179,7 +180,7 @@ module _ {fs : List ℕ} {mark place n i : ℕ} (s : Sought fs mark place n i) w
   unfolding innermostIn
   sought-done h = let e : i ≡ 0 = omega arith in sym (s .rest ∙ rw e)
 
-module _ (r : Registers) (fs : List ℕ) {f : Found} (e : f ≡ innermostIn fs 0 2 (r .depth)) where
+module _ (r : Registers) (fs : List ℕ) {f : Found} (e : f ≡ innermostIn fs BASED BASE (r .depth)) where
   pub base-own : f .there ≡ true → f ≡ baseIn r fs
   unfolding baseIn
   base-own y = rw (← e, y)

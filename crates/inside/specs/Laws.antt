@@ -14,6 +14,7 @@ use Rattle.spec.specs.Bytes.{Bytes, orElse}
 use Rattle.spec.specs.Namespaces.{Binding}
 use Rattle.spec.specs.Document.{Frame as Element, xmlElement, languageInForce, baseInForce, heldBytes}
 use Rattle.copy.specs.Copy.{part, Wrote}
+use Rattle.frames.specs.Parts.{BASE, TAG, MAIN, BASED, TAGGED, FRAME}
 use Rattle.frames.specs.declared.Row.{Row}
 use Rattle.frames.specs.Kept.{Kept, kept-before}
 use Rattle.frames.specs.Words.{pick, frameAt, rowAt, load-frame, load-row, row-there, row-kept}
@@ -38,28 +39,28 @@ found f w = pick (f .there) (some (part w (f .at) (f .len))) none
 
 module _ (fs bs w : List ℕ) where
   -- own xml:base of the innermost of n elements that has one
-  base-frames : (n b : ℕ) (start : Option Bytes) → n * 18 ≤ length fs
-      → orElse (found (innermostIn fs 0 2 n) w) start ≡ baseInForce start (framesOf fs bs w n b)
+  base-frames : (n b : ℕ) (start : Option Bytes) → n * FRAME ≤ length fs
+      → orElse (found (innermostIn fs BASED BASE n) w) start ≡ baseInForce start (framesOf fs bs w n b)
   unfolding innermostIn found orElse baseInForce framesOf elementOf optional span
   base-frames zero b start h = refl
   base-frames (suc n) b start h =
-      rw (load-frame fs n (omega arith)) (go (eqb (has (frameAt fs n) 0) 0) (base-frames n (first (frameAt fs n)) start (omega arith)))
+      rw (load-frame fs n (omega arith)) (go (eqb (has (frameAt fs n) BASED) 0) (base-frames n (first (frameAt fs n)) start (omega arith)))
     where
-      go : (t : Bool) → orElse (found (innermostIn fs 0 2 n) w) start ≡ baseInForce start (framesOf fs bs w n (first (frameAt fs n)))
-          → orElse (found (pick t (innermostIn fs 0 2 n) (stretch (at (frameAt fs n) 2) (at (frameAt fs n) 3))) w) start
-          ≡ orElse (pick t none (some (part w (at (frameAt fs n) 2) (at (frameAt fs n) 3 - at (frameAt fs n) 2)))) (baseInForce start (framesOf fs bs w n (first (frameAt fs n))))
+      go : (t : Bool) → orElse (found (innermostIn fs BASED BASE n) w) start ≡ baseInForce start (framesOf fs bs w n (first (frameAt fs n)))
+          → orElse (found (pick t (innermostIn fs BASED BASE n) (stretch (at (frameAt fs n) BASE) (at (frameAt fs n) TAG))) w) start
+          ≡ orElse (pick t none (some (part w (at (frameAt fs n) BASE) (at (frameAt fs n) TAG - at (frameAt fs n) BASE)))) (baseInForce start (framesOf fs bs w n (first (frameAt fs n))))
       go true e = e
       go false e = refl
 
-  tag-frames : (n b : ℕ) → n * 18 ≤ length fs → found (innermostIn fs 1 3 n) w ≡ languageInForce (framesOf fs bs w n b)
+  tag-frames : (n b : ℕ) → n * FRAME ≤ length fs → found (innermostIn fs TAGGED TAG n) w ≡ languageInForce (framesOf fs bs w n b)
   unfolding innermostIn found orElse languageInForce framesOf elementOf optional span
   tag-frames zero b h = refl
   tag-frames (suc n) b h =
-      rw (load-frame fs n (omega arith)) (go (eqb (has (frameAt fs n) 1) 0) (tag-frames n (first (frameAt fs n)) (omega arith)))
+      rw (load-frame fs n (omega arith)) (go (eqb (has (frameAt fs n) TAGGED) 0) (tag-frames n (first (frameAt fs n)) (omega arith)))
     where
-      go : (t : Bool) → found (innermostIn fs 1 3 n) w ≡ languageInForce (framesOf fs bs w n (first (frameAt fs n)))
-          → found (pick t (innermostIn fs 1 3 n) (stretch (at (frameAt fs n) 3) (at (frameAt fs n) 4))) w
-          ≡ orElse (pick t none (some (part w (at (frameAt fs n) 3) (at (frameAt fs n) 4 - at (frameAt fs n) 3)))) (languageInForce (framesOf fs bs w n (first (frameAt fs n))))
+      go : (t : Bool) → found (innermostIn fs TAGGED TAG n) w ≡ languageInForce (framesOf fs bs w n (first (frameAt fs n)))
+          → found (pick t (innermostIn fs TAGGED TAG n) (stretch (at (frameAt fs n) TAG) (at (frameAt fs n) MAIN))) w
+          ≡ orElse (pick t none (some (part w (at (frameAt fs n) TAG) (at (frameAt fs n) MAIN - at (frameAt fs n) TAG)))) (languageInForce (framesOf fs bs w n (first (frameAt fs n))))
       go true e = e
       go false e = refl
 
@@ -84,14 +85,14 @@ chosen : (r : Registers) (w : List ℕ) (f : Found) → found (pick (f .there) f
 chosen r w f = or-start r w (f .there) (f .at) (f .len)
 
 module _ {r : Registers} {fs bs is w : List ℕ} (x : Valid r fs bs is w) where
-  tables : r .depth * 18 ≤ length fs
+  tables : r .depth * FRAME ≤ length fs
   tables = omega (arith, x .frameWords, x .deep)
 
   pub base-read : found (baseIn r fs) w ≡ baseInForce (startOf r w) (elementsOf r fs bs is w)
   unfolding baseIn elementsOf
   base-read =
       rw (base-inners is bs w (r .inner) (r .bindings) (startOf r w) (framesOf fs bs w (r .depth) (r .outer)), ← base-frames fs bs w (r .depth) (r .outer) (startOf r w) tables)
-      (chosen r w (innermostIn fs 0 2 (r .depth)))
+      (chosen r w (innermostIn fs BASED BASE (r .depth)))
 
   pub language-read : found (languageIn r fs) w ≡ languageInForce (elementsOf r fs bs is w)
   unfolding languageIn elementsOf

@@ -95,14 +95,14 @@ pub fn name(r: Registers, frames: &[u32], inners: &[u32]) -> Found
     }
     let f = Frame::load(frames, r.depth - 1);
     let at = f.at;
-    between(wide(at[0]), wide(at[1]))
+    between(wide(at[Frame::NAME]), wide(at[Frame::BINDINGS]))
 }
 
 // xml:base in force, from the start base at last.
 pub fn base_in_force(r: Registers, frames: &[u32]) -> Found
     ensures { λ f. ⌜ f ≡ baseIn r (now (frames .entry)) ⌝ }
 {
-    let f = innermost(frames, r.depth, 0, 2);
+    let f = innermost(frames, r.depth, Frame::BASED, Frame::BASE);
     if f.there {
         return f;
     }
@@ -117,7 +117,7 @@ pub fn base_in_force(r: Registers, frames: &[u32]) -> Found
 pub fn language_in_force(r: Registers, frames: &[u32]) -> Found
     ensures { λ f. ⌜ f ≡ languageIn r (now (frames .entry)) ⌝ }
 {
-    innermost(frames, r.depth, 1, 3)
+    innermost(frames, r.depth, Frame::TAGGED, Frame::TAG)
 }
 
 // Held bytes.

@@ -17,6 +17,7 @@ use Rattle.spec.specs.Document.{Frame as Element, changeValue}
 use Rattle.spec.specs.XmlLiteral.{takesXml}
 use Rattle.copy.specs.Copy.{part, wrote-part}
 use Rattle.writer.specs.Put.{Put, most, counted, put-wrote}
+use Rattle.frames.specs.Parts.{END, FRAME}
 use Rattle.frames.specs.declared.Kind.{Kind}
 use Rattle.frames.specs.declared.Kind.the-variants.{ParseTypeLiteralPropertyElt, ParseTypeOtherPropertyElt}
 use Rattle.frames.specs.Words.{pick}
@@ -128,12 +129,12 @@ add-over {r} {fs} {w} {area} {n} {more} {g} k l =
 
 -- the tail of the Literal property on top has room
 literal-room : {r : Registers} {fs bs is w : List ℕ} → Valid r fs bs is w → sameKind (topFrame r fs .kind) ParseTypeLiteralPropertyElt ≡ true
-    → (n : ℕ) → heldIn r + n ≤ 49_152 → mayTail r fs w (at (topFrame r fs) 8) n ≡ true
+    → (n : ℕ) → heldIn r + n ≤ 49_152 → mayTail r fs w (at (topFrame r fs) END) n ≡ true
 unfolding mayTail L.all
 literal-room {r} {fs} {bs} {is} {w} v y n h =
     let d : 0 < r .depth = top-deep r fs (λ i. false≢true (ap (λ (g : Kind). sameKind g ParseTypeLiteralPropertyElt) (sym i) ∙ y)) in
     let t = topmost v d in
-    let e : at (topFrame r fs) 8 ≡ r .top = rw (t .frame) (top-frame v (r .depth - 1) (t .depth) .ends) in
+    let e : at (topFrame r fs) END ≡ r .top = rw (t .frame) (top-frame v (r .depth - 1) (t .depth) .ends) in
     let o = room v in
     let s = held-is r (o .low) (v .apart) in
     rw (
@@ -142,7 +143,7 @@ literal-room {r} {fs} {bs} {is} {w} v y n h =
       le-leb (r .low) (length w) (omega (arith, o .low, v .store)),
       e,
       le-leb (r .top + n) (r .low) (omega (arith, o .low, v .apart)),
-      le-leb ((r .depth - 1) * 18 + 18) (length fs) (t .room),
+      le-leb ((r .depth - 1) * FRAME + FRAME) (length fs) (t .room),
     )
 
 -- nothing changes where nothing is kept
@@ -177,7 +178,7 @@ module _ {r : Registers} {fs w area : List ℕ} {n more g : ℕ} {c : Changed} {
       let t = q .tails y in
       let h = xml-holds v q (t .answer ∙ m) in
       record {
-        top = at (topFrame r fs) 8 + length x;
+        top = at (topFrame r fs) END + length x;
         moved = rw (t .moved m);
         holds = rw (t .moved m) at h;
         fits = omega (arith, held-more v x, kept-all r fs (length x) y);

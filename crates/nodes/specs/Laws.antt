@@ -16,6 +16,7 @@ use Rattle.spec.specs.NTriples.{Subject, named, blank}
 use Rattle.spec.specs.Document.{nodeObject, textObject, noObject, Kind as What, rdfRDF, nodeElement, propertyElement, xmlElement, Frame as Element, onValue, changeValue}
 use Rattle.spec.specs.EndTag.{takesNode}
 use Rattle.copy.specs.Copy.{part, storedAt, Wrote, wrote-part, wrote-same, length-part, getD-part}
+use Rattle.frames.specs.Parts.{NAME, BINDINGS, BASE, TAG, MAIN, ID, DATATYPE, TAIL, END, PLACES, BASED, TAGGED, BLANK, IDENTIFIED, TYPED, COUNT, FIRST, MARKS, FRAME}
 use Rattle.frames.specs.declared.Kind.{Kind}
 use Rattle.frames.specs.declared.Kind.the-variants.{Rdf, NodeElt, PropertyElt, ParseTypeCollectionPropertyElt, ParseTypeLiteralPropertyElt, ParseTypeOtherPropertyElt}
 use Rattle.frames.specs.declared.Frame.{Frame}
@@ -35,12 +36,12 @@ use Rattle.nodes.specs.Take.{mayTake, mayChild, objectWord, blankByte, m
 
 -- ---- an object
 
-module _ (f n : Frame) (w v : List ℕ) (z : Fresh f) (wr : Wrote w v (at f 7) (at f 7 + mainSize n) (part w (at n 4) (mainSize n))) (l : at n 4 + mainSize n ≤ length w) where
+module _ (f n : Frame) (w v : List ℕ) (z : Fresh f) (wr : Wrote w v (at f TAIL) (at f TAIL + mainSize n) (part w (at n MAIN) (mainSize n))) (l : at n MAIN + mainSize n ≤ length w) where
   object-kind : kindOk PropertyElt (objectFrame f n) v ≡ true
   unfolding kindOk emptyOr objectWord
-  object-kind = rw (tail-what f (at f 7 + mainSize n) (objectWord (has n 2)) (z .places) (z .marks)) (go (eqb (has n 2) 0))
+  object-kind = rw (tail-what f (at f TAIL + mainSize n) (objectWord (has n BLANK)) (z .places) (z .marks)) (go (eqb (has n BLANK) 0))
     where
-      go : (t : Bool) → pick (eqb (pick t 1 2) 0) (eqb (at (objectFrame f n) 7) (at (objectFrame f n) 8)) true ≡ true
+      go : (t : Bool) → pick (eqb (pick t 1 2) 0) (eqb (at (objectFrame f n) TAIL) (at (objectFrame f n) END)) true ≡ true
       go true = refl
       go false = refl
 
@@ -56,48 +57,48 @@ module _ (f n : Frame) (w v : List ℕ) (z : Fresh f) (wr : Wrote w v (at f 7) (
   object-what : (u : Subject) → whatOf PropertyElt (objectFrame f n) v u ≡ onValue (takesNode (subjectOf n w)) (whatOf PropertyElt f w u)
   unfolding whatOf onValue takesNode span subjectOf
   object-what u =
-      let al = tail-alike f (at f 7 + mainSize n) (objectWord (has n 2)) (z .places) (z .marks) in
+      let al = tail-alike f (at f TAIL + mainSize n) (objectWord (has n BLANK)) (z .places) (z .marks) in
       let up = z .up in
-      let k : Stays w v 0 (at f 7) = kept-before wr in
-      let d : at f 7 + mainSize n - at f 7 ≡ mainSize n = omega arith in
-      let p : part v (at f 7) (mainSize n) ≡ part w (at n 4) (mainSize n) =
-      ap (part v (at f 7)) (sym (length-part w (at n 4) (mainSize n) l)) ∙ wrote-part wr in
+      let k : Stays w v 0 (at f TAIL) = kept-before wr in
+      let d : at f TAIL + mainSize n - at f TAIL ≡ mainSize n = omega arith in
+      let p : part v (at f TAIL) (mainSize n) ≡ part w (at n MAIN) (mainSize n) =
+      ap (part v (at f TAIL)) (sym (length-part w (at n MAIN) (mainSize n) l)) ∙ wrote-part wr in
       rw (
         alike-property al up k u,
         al .hasType,
         al .type,
         al .tail,
-        tail-what f (at f 7 + mainSize n) (objectWord (has n 2)) (z .places) (z .marks),
-        tail-end f (at f 7 + mainSize n) (objectWord (has n 2)) (z .places) (z .marks),
-        k .parts (at f 6) (at f 7 - at f 6) (omega arith) (omega arith),
+        tail-what f (at f TAIL + mainSize n) (objectWord (has n BLANK)) (z .places) (z .marks),
+        tail-end f (at f TAIL + mainSize n) (objectWord (has n BLANK)) (z .places) (z .marks),
+        k .parts (at f DATATYPE) (at f TAIL - at f DATATYPE) (omega arith) (omega arith),
         d,
         p,
-        word-object (has n 2) (part w (at n 4) (mainSize n)),
+        word-object (has n BLANK) (part w (at n MAIN) (mainSize n)),
       )
 
 -- ---- a child
 
-child-alike : (f n : Frame) → length (f .at) ≡ 9 → length (f .has) ≡ 8 → Alike f (childFrame f n)
+child-alike : (f n : Frame) → length (f .at) ≡ PLACES → length (f .has) ≡ MARKS → Alike f (childFrame f n)
 child-alike f n a b =
-    let to : ℕ = at f 8 + mainSize n + 4 in
+    let to : ℕ = at f END + mainSize n + 4 in
     record {
       kind = refl;
-      name = getD-set-other (f .at) 8 0 to 0 (λ e. omega arith);
-      bindings = getD-set-other (f .at) 8 1 to 0 (λ e. omega arith);
-      base = getD-set-other (f .at) 8 2 to 0 (λ e. omega arith);
-      tag = getD-set-other (f .at) 8 3 to 0 (λ e. omega arith);
-      main = getD-set-other (f .at) 8 4 to 0 (λ e. omega arith);
-      id = getD-set-other (f .at) 8 5 to 0 (λ e. omega arith);
-      type = getD-set-other (f .at) 8 6 to 0 (λ e. omega arith);
-      tail = getD-set-other (f .at) 8 7 to 0 (λ e. omega arith);
-      hasBase = getD-set-other (f .has) 6 0 (count f + 1) 0 (λ e. omega arith);
-      hasTag = getD-set-other (f .has) 6 1 (count f + 1) 0 (λ e. omega arith);
-      isBlank = getD-set-other (f .has) 6 2 (count f + 1) 0 (λ e. omega arith);
-      hasId = getD-set-other (f .has) 6 3 (count f + 1) 0 (λ e. omega arith);
-      hasType = getD-set-other (f .has) 6 4 (count f + 1) 0 (λ e. omega arith);
-      least = getD-set-other (f .has) 6 7 (count f + 1) 0 (λ e. omega arith);
-      places = length-set (f .at) 8 to ∙ a;
-      marks = length-set (f .has) 6 (count f + 1) ∙ b;
+      name = getD-set-other (f .at) END NAME to 0 (λ e. omega arith);
+      bindings = getD-set-other (f .at) END BINDINGS to 0 (λ e. omega arith);
+      base = getD-set-other (f .at) END BASE to 0 (λ e. omega arith);
+      tag = getD-set-other (f .at) END TAG to 0 (λ e. omega arith);
+      main = getD-set-other (f .at) END MAIN to 0 (λ e. omega arith);
+      id = getD-set-other (f .at) END ID to 0 (λ e. omega arith);
+      type = getD-set-other (f .at) END DATATYPE to 0 (λ e. omega arith);
+      tail = getD-set-other (f .at) END TAIL to 0 (λ e. omega arith);
+      hasBase = getD-set-other (f .has) COUNT BASED (count f + 1) 0 (λ e. omega arith);
+      hasTag = getD-set-other (f .has) COUNT TAGGED (count f + 1) 0 (λ e. omega arith);
+      isBlank = getD-set-other (f .has) COUNT BLANK (count f + 1) 0 (λ e. omega arith);
+      hasId = getD-set-other (f .has) COUNT IDENTIFIED (count f + 1) 0 (λ e. omega arith);
+      hasType = getD-set-other (f .has) COUNT TYPED (count f + 1) 0 (λ e. omega arith);
+      least = getD-set-other (f .has) COUNT FIRST (count f + 1) 0 (λ e. omega arith);
+      places = length-set (f .at) END to ∙ a;
+      marks = length-set (f .has) COUNT (count f + 1) ∙ b;
     }
 
 node-mark : (h : ℕ) (s : List ℕ) → nodeOf (blankByte h) s ≡ nodeOf h s
@@ -108,44 +109,44 @@ node-mark h s = go (eqb h 0)
     go true = refl
     go false = refl
 
-module _ (f n : Frame) (w v : List ℕ) (z : Fresh f) (l : at n 4 + mainSize n ≤ length w)
-    (wr : Wrote w v (at f 8) (at f 8 + mainSize n + 4) (part w (at n 4) (mainSize n) ++ markOf (mainSize n) (has n 2))) where
-  size : length (part w (at n 4) (mainSize n)) ≡ mainSize n
-  size = length-part w (at n 4) (mainSize n) l
+module _ (f n : Frame) (w v : List ℕ) (z : Fresh f) (l : at n MAIN + mainSize n ≤ length w)
+    (wr : Wrote w v (at f END) (at f END + mainSize n + 4) (part w (at n MAIN) (mainSize n) ++ markOf (mainSize n) (has n BLANK))) where
+  size : length (part w (at n MAIN) (mainSize n)) ≡ mainSize n
+  size = length-part w (at n MAIN) (mainSize n) l
 
-  end : at (childFrame f n) 8 ≡ at f 8 + mainSize n + 4
-  end = getD-set-same (f .at) 8 (at f 8 + mainSize n + 4) 0 (omega (arith, z .places))
+  end : at (childFrame f n) END ≡ at f END + mainSize n + 4
+  end = getD-set-same (f .at) END (at f END + mainSize n + 4) 0 (omega (arith, z .places))
 
   more : count (childFrame f n) ≡ suc (count f)
-  more = getD-set-same (f .has) 6 (count f + 1) 0 (omega (arith, z .marks)) ∙ add-one (count f)
+  more = getD-set-same (f .has) COUNT (count f + 1) 0 (omega (arith, z .marks)) ∙ add-one (count f)
 
-  mark : part v (at f 8 + mainSize n + 4 - 4) 4 ≡ markOf (mainSize n) (has n 2)
+  mark : part v (at f END + mainSize n + 4 - 4) 4 ≡ markOf (mainSize n) (has n BLANK)
   mark =
-      let e : at f 8 + mainSize n + 4 - 4 ≡ at f 8 + length (part w (at n 4) (mainSize n)) = omega (arith, size) in
-      rw e (back-of (part w (at n 4) (mainSize n)) (markOf (mainSize n) (has n 2)) wr)
+      let e : at f END + mainSize n + 4 - 4 ≡ at f END + length (part w (at n MAIN) (mainSize n)) = omega (arith, size) in
+      rw e (back-of (part w (at n MAIN) (mainSize n)) (markOf (mainSize n) (has n BLANK)) wr)
 
-  new-size : childSize v (at f 8 + mainSize n + 4) ≡ mainSize n
+  new-size : childSize v (at f END + mainSize n + 4) ≡ mainSize n
   unfolding childSize
   new-size = rw mark (omega arith)
 
-  new-from : childFrom v (at f 8 + mainSize n + 4) ≡ at f 8
+  new-from : childFrom v (at f END + mainSize n + 4) ≡ at f END
   new-from = rw new-size (omega arith)
 
-  new-child : childOf v (at f 8 + mainSize n + 4) ≡ subjectOf n w
+  new-child : childOf v (at f END + mainSize n + 4) ≡ subjectOf n w
   unfolding childOf subjectOf span
   new-child =
-      let p : part v (at f 8) (mainSize n) ≡ part w (at n 4) (mainSize n) =
-      ap (part v (at f 8)) (sym size) ∙ front-of (part w (at n 4) (mainSize n)) (markOf (mainSize n) (has n 2)) wr in
-      rw (new-from, new-size, mark, p) (node-mark (has n 2) (part w (at n 4) (mainSize n)))
+      let p : part v (at f END) (mainSize n) ≡ part w (at n MAIN) (mainSize n) =
+      ap (part v (at f END)) (sym size) ∙ front-of (part w (at n MAIN) (mainSize n)) (markOf (mainSize n) (has n BLANK)) wr in
+      rw (new-from, new-size, mark, p) (node-mark (has n BLANK) (part w (at n MAIN) (mainSize n)))
 
   child-kind : kindOk ParseTypeCollectionPropertyElt f w ≡ true → kindOk ParseTypeCollectionPropertyElt (childFrame f n) v ≡ true
   child-kind h =
       let al = child-alike f n (z .places) (z .marks) in
       let up = z .up in
       let c = collected f w h in
-      let rest : childrenOk v (at f 7) (count f) (at f 8) ≡ true = children-ok-kept (kept-before wr) (at f 7) (count f) (at f 8) (omega arith) (omega arith) (c .children) in
-      let all : childrenOk v (at f 7) (suc (count f)) (at f 8 + mainSize n + 4) ≡ true =
-      children-on v (at f 7) (count f) (at f 8 + mainSize n + 4) (record { fits = rw new-size (omega arith); rest = rw new-from rest }) in
+      let rest : childrenOk v (at f TAIL) (count f) (at f END) ≡ true = children-ok-kept (kept-before wr) (at f TAIL) (count f) (at f END) (omega arith) (omega arith) (c .children) in
+      let all : childrenOk v (at f TAIL) (suc (count f)) (at f END + mainSize n + 4) ≡ true =
+      children-on v (at f TAIL) (count f) (at f END + mainSize n + 4) (record { fits = rw new-size (omega arith); rest = rw new-from rest }) in
       collected-ok (childFrame f n) v (record { typed = al .type ∙ (c .typed ∙ sym (al .tail)); children = rw (al .tail, more, end) all })
 
   child-what : kindOk ParseTypeCollectionPropertyElt f w ≡ true → (u : Subject) → whatOf ParseTypeCollectionPropertyElt (childFrame f n) v u ≡ onValue (takesNode (subjectOf n w)) (whatOf ParseTypeCollectionPropertyElt f w u)
@@ -160,7 +161,7 @@ module _ (f n : Frame) (w v : List ℕ) (z : Fresh f) (l : at n 4 + mainSize n �
         end,
         new-child,
         new-from,
-        children-kept (kept-before wr) (at f 7) (count f) (at f 8) (omega arith) (omega arith) (c .children),
+        children-kept (kept-before wr) (at f TAIL) (count f) (at f END) (omega arith) (omega arith) (c .children),
       )
 
 -- ---- what else may stand around a node takes nothing
@@ -189,13 +190,13 @@ is-collection ParseTypeOtherPropertyElt e = absurd (false≢true e)
 
 module _ {r : Registers} {fs bs is w gs v : List ℕ} {n : Frame} {c : Changed} (x : Valid r fs bs is w) (flat : r .inner ≡ 0) (t : TakesNode r fs w n c gs v) (y : c .ok ≡ true) where
   -- a frame stored on top, with bytes moved down
-  stored-holds : (m : ℕ) (d : r .depth ≡ suc m) {g : Frame} {to end : ℕ} {s : List ℕ} → Alike (frameAt fs m) g → m * 18 + 18 ≤ length fs → Taken r fs w g to end s c gs v → at g 8 ≡ end
-      → at (frameAt fs m) 7 ≤ to → at (frameAt fs m) 7 ≤ end → end ≤ r .low → kindOk (frameAt fs m .kind) g v ≡ true
+  stored-holds : (m : ℕ) (d : r .depth ≡ suc m) {g : Frame} {to end : ℕ} {s : List ℕ} → Alike (frameAt fs m) g → m * FRAME + FRAME ≤ length fs → Taken r fs w g to end s c gs v → at g END ≡ end
+      → at (frameAt fs m) TAIL ≤ to → at (frameAt fs m) TAIL ≤ end → end ≤ r .low → kindOk (frameAt fs m .kind) g v ≡ true
       → ((u : Subject) → whatOf (frameAt fs m .kind) g v u ≡ onValue (takesNode (subjectOf n w)) (whatOf (frameAt fs m .kind) (frameAt fs m) w u))
       → Holds (c .registers) gs bs is v (startOf r w) (changeValue (takesNode (subjectOf n w)) (elementsOf r fs bs is w)) (r .rooted) (r .labels)
   stored-holds m d {g} {to} {end} {s} al room k e l l′ b kd wt =
       let st : StoredFrame fs m g gs true =
-      stored-frame m room (al .places) (al .marks) (k .stored ∙ ap (λ (i : ℕ). storedAt fs (i * 18) (wordsOf g)) (omega (arith, d))) in
+      stored-frame m room (al .places) (al .marks) (k .stored ∙ ap (λ (i : ℕ). storedAt fs (i * FRAME) (wordsOf g)) (omega (arith, d))) in
       let res = retailed x m d (onValue (takesNode (subjectOf n w))) al st (kept-less (kept-before (k .wrote)) (omega arith) l) (kept-less (kept-behind 65_536 (k .wrote)) b (omega arith)) (wrote-same (k .wrote)) (omega (arith, e)) (omega (arith, e)) (ap (λ (q : Kind). kindOk q g v) (al .kind) ∙ kd) wt in
       rw (k .moved, ← e, ← topped-change x m d (takesNode (subjectOf n w))) res
 
@@ -211,14 +212,14 @@ module _ {r : Registers} {fs bs is w gs v : List ℕ} {n : Frame} {c : Changed} 
       let tp = top-frame x m (k .depth) in
       let up : Rising f = rising f (tp .up) in
       let z : Fresh f = record { up = up; places = length-at fs m (k .room); marks = length-has fs m (k .room) } in
-      let may : Bool = mayTake r (length fs) (at n 4) (at f 7) (mainSize n) (at f 7 + mainSize n) in
+      let may : Bool = mayTake r (length fs) (at n MAIN) (at f TAIL) (mainSize n) (at f TAIL + mainSize n) in
       by may
       (λ h.
-      let mv = movable r (length fs) (at n 4) (at f 7) (mainSize n) (at f 7 + mainSize n) h in
+      let mv = movable r (length fs) (at n MAIN) (at f TAIL) (mainSize n) (at f TAIL + mainSize n) h in
       let ta = ob .takes h in
-      let fit : at n 4 + mainSize n ≤ length w = omega (arith, mv .fits, x .store) in
-      stored-holds m (k .depth) (tail-alike f (at f 7 + mainSize n) (objectWord (has n 2)) (z .places) (z .marks)) (k .room) ta
-      (tail-end f (at f 7 + mainSize n) (objectWord (has n 2)) (z .places) (z .marks)) (omega arith) (omega arith) (mv .below)
+      let fit : at n MAIN + mainSize n ≤ length w = omega (arith, mv .fits, x .store) in
+      stored-holds m (k .depth) (tail-alike f (at f TAIL + mainSize n) (objectWord (has n BLANK)) (z .places) (z .marks)) (k .room) ta
+      (tail-end f (at f TAIL + mainSize n) (objectWord (has n BLANK)) (z .places) (z .marks)) (omega arith) (omega arith) (mv .below)
       (ap (λ (q : Kind). kindOk q (objectFrame f n) v) kind ∙ object-kind f n w v z (ta .wrote) fit)
       (λ u.
       ap (λ (q : Kind). whatOf q (objectFrame f n) v u) kind
@@ -241,11 +242,11 @@ module _ {r : Registers} {fs bs is w gs v : List ℕ} {n : Frame} {c : Changed} 
       let ok : kindOk ParseTypeCollectionPropertyElt f w ≡ true = sym (ap (λ (q : Kind). kindOk q f w) kind) ∙ tp .kind in
       by (mayChild r (length fs) f n)
       (λ h.
-      let mt : mayTake r (length fs) (at n 4) (at f 8) (mainSize n) (at f 8 + mainSize n + 4) ≡ true =
-      and-left (mayTake r (length fs) (at n 4) (at f 8) (mainSize n) (at f 8 + mainSize n + 4)) _ h in
-      let mv = movable r (length fs) (at n 4) (at f 8) (mainSize n) (at f 8 + mainSize n + 4) mt in
+      let mt : mayTake r (length fs) (at n MAIN) (at f END) (mainSize n) (at f END + mainSize n + 4) ≡ true =
+      and-left (mayTake r (length fs) (at n MAIN) (at f END) (mainSize n) (at f END + mainSize n + 4)) _ h in
+      let mv = movable r (length fs) (at n MAIN) (at f END) (mainSize n) (at f END + mainSize n + 4) mt in
       let ta = ch .takes h in
-      let fit : at n 4 + mainSize n ≤ length w = omega (arith, mv .fits, x .store) in
+      let fit : at n MAIN + mainSize n ≤ length w = omega (arith, mv .fits, x .store) in
       stored-holds m (k .depth) (child-alike f n (z .places) (z .marks)) (k .room) ta (end f n w v z fit (ta .wrote)) (omega arith) (omega arith) (mv .below)
       (ap (λ (q : Kind). kindOk q (childFrame f n) v) kind ∙ child-kind f n w v z fit (ta .wrote) ok)
       (λ u.
@@ -323,8 +324,8 @@ close-holds {r} {fs} {bs} {is} {w} {gs} {v} {c} x p y =
     let n : Frame = frameAt fs i in
     let kind : n .kind ≡ NodeElt = is-node (n .kind) (rw (tm .frame) at (ca .node)) in
     let h = popped x i (tm .depth) (k .0) in
-    let q : without r fs ≡ poppedTo r (at n 0) (first n) = rw (load-frame fs i (tm .room)) in
-    let t : TakesNode (poppedTo r (at n 0) (first n)) fs w n c gs v = rw (tm .frame, q) at (p .takes m) in
+    let q : without r fs ≡ poppedTo r (at n NAME) (first n) = rw (load-frame fs i (tm .room)) in
+    let t : TakesNode (poppedTo r (at n NAME) (first n)) fs w n c gs v = rw (tm .frame, q) at (p .takes m) in
     let res = taken-holds (h .valid) (k .0) t y in
     let es : closedNode (elementsOf r fs bs is w) ≡ changeValue (takesNode (subjectOf n w)) (framesOf fs bs w i (first n)) =
     ap closedNode (flat-top r fs bs is w (k .0) ∙ top-element x i (tm .depth)) ∙ closed-top n w (subjectBelow fs w i) _ (framesOf fs bs w i (first n)) kind in

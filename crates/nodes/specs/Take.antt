@@ -12,6 +12,7 @@ use Rattle.spec.specs.Limits as L
 use Rattle.spec.specs.Limits.{workStoreBytes}
 use Rattle.spec.proofs.Booleans.{and-left, and-right}
 use Rattle.copy.specs.Copy.{part, storedAt, Put, Copied, copied-begins, copied-more, copied-done, length-part, getD-part, put-fits, wrote-same, Wrote, then}
+use Rattle.frames.specs.Parts.{NAME, MAIN, ID, TAIL, END, BLANK, PENDING, COUNT, FRAME}
 use Rattle.frames.specs.declared.Kind.the-variants.{NodeElt, PropertyElt, ParseTypeCollectionPropertyElt}
 use Rattle.frames.specs.declared.Frame.{Frame}
 use Rattle.frames.specs.Words.{pick, wordsOf, loadFrame, StoredFrame}
@@ -24,7 +25,7 @@ use Rattle.nodes.specs.declared.Child.{Child}
 
 unfoldable pub mayTake : Registers → ℕ → ℕ → ℕ → ℕ → ℕ → Bool
 mayTake r words from to len end =
-    leb to from && (leb (from + len) workStoreBytes && (leb end (r .low) && (leb (r .low) workStoreBytes && (ltb 0 (r .depth) && leb (r .depth) (words / 18)))))
+    leb to from && (leb (from + len) workStoreBytes && (leb end (r .low) && (leb (r .low) workStoreBytes && (ltb 0 (r .depth) && leb (r .depth) (words / FRAME)))))
 
 unfoldable pub objectWord : ℕ → ℕ
 objectWord blank = pick (eqb blank 0) 1 2
@@ -34,13 +35,13 @@ blankByte blank = pick (eqb blank 0) 0 1
 
 -- the length of a node's subject
 abbrev pub mainSize : Frame → ℕ
-mainSize n = at n 5 - at n 4
+mainSize n = at n ID - at n MAIN
 
 abbrev pub objectFrame : Frame → Frame → Frame
-objectFrame f n = tailTo f (at f 7 + mainSize n) (objectWord (has n 2))
+objectFrame f n = tailTo f (at f TAIL + mainSize n) (objectWord (has n BLANK))
 
 abbrev pub childFrame : Frame → Frame → Frame
-childFrame f n = record { kind = f .kind; at = set (f .at) 8 (at f 8 + mainSize n + 4); has = set (f .has) 6 (count f + 1) }
+childFrame f n = record { kind = f .kind; at = set (f .at) END (at f END + mainSize n + 4); has = set (f .has) COUNT (count f + 1) }
 
 abbrev pub markOf : ℕ → ℕ → List ℕ
 markOf len blank = len % 256 ∷ len / 256 ∷ blankByte blank ∷ 0 ∷ []
@@ -55,28 +56,28 @@ pub record Kept (r : Registers) (fs w : List ℕ) (c : Changed) (gs v : List ℕ
 -- frame g is stored on top, s moved down to `to`, and what is held ends at `end`
 pub record Taken (r : Registers) (fs w : List ℕ) (g : Frame) (to end : ℕ) (s : List ℕ) (c : Changed) (gs v : List ℕ) : Type 0 where
   pub ok : c .ok ≡ true
-  pub stored : gs ≡ storedAt fs ((r .depth - 1) * 18) (wordsOf g)
+  pub stored : gs ≡ storedAt fs ((r .depth - 1) * FRAME) (wordsOf g)
   pub wrote : Wrote w v to end s
   pub moved : c .registers ≡ toppedTo r end
 
 pub record TakesObject (r : Registers) (fs w : List ℕ) (f n : Frame) (c : Changed) (gs v : List ℕ) : Type 0 where
-  pub takes : mayTake r (length fs) (at n 4) (at f 7) (mainSize n) (at f 7 + mainSize n) ≡ true
-      → Taken r fs w (objectFrame f n) (at f 7) (at f 7 + mainSize n) (part w (at n 4) (mainSize n)) c gs v
-  pub kept : mayTake r (length fs) (at n 4) (at f 7) (mainSize n) (at f 7 + mainSize n) ≡ false → Kept r fs w c gs v
+  pub takes : mayTake r (length fs) (at n MAIN) (at f TAIL) (mainSize n) (at f TAIL + mainSize n) ≡ true
+      → Taken r fs w (objectFrame f n) (at f TAIL) (at f TAIL + mainSize n) (part w (at n MAIN) (mainSize n)) c gs v
+  pub kept : mayTake r (length fs) (at n MAIN) (at f TAIL) (mainSize n) (at f TAIL + mainSize n) ≡ false → Kept r fs w c gs v
 
 -- a Collection has fewer children than the store has bytes
 unfoldable pub mayChild : Registers → ℕ → Frame → Frame → Bool
-mayChild r words f n = mayTake r words (at n 4) (at f 8) (mainSize n) (at f 8 + mainSize n + 4) && ltb (count f) workStoreBytes
+mayChild r words f n = mayTake r words (at n MAIN) (at f END) (mainSize n) (at f END + mainSize n + 4) && ltb (count f) workStoreBytes
 
 pub record TakesChild (r : Registers) (fs w : List ℕ) (f n : Frame) (c : Changed) (gs v : List ℕ) : Type 0 where
   pub takes : mayChild r (length fs) f n ≡ true
-      → Taken r fs w (childFrame f n) (at f 8) (at f 8 + mainSize n + 4) (part w (at n 4) (mainSize n) ++ markOf (mainSize n) (has n 2)) c gs v
+      → Taken r fs w (childFrame f n) (at f END) (at f END + mainSize n + 4) (part w (at n MAIN) (mainSize n) ++ markOf (mainSize n) (has n BLANK)) c gs v
   pub kept : mayChild r (length fs) f n ≡ false → Kept r fs w c gs v
 
 -- by the element around it
 unfoldable pub mayTakeNode : Registers → ℕ → Frame → Frame → Bool
 mayTakeNode r words f n =
-    pick (sameKind (f .kind) PropertyElt) (mayTake r words (at n 4) (at f 7) (mainSize n) (at f 7 + mainSize n))
+    pick (sameKind (f .kind) PropertyElt) (mayTake r words (at n MAIN) (at f TAIL) (mainSize n) (at f TAIL + mainSize n))
     (pick (sameKind (f .kind) ParseTypeCollectionPropertyElt) (mayChild r words f n) true)
 
 pub record TakesNode (r : Registers) (fs w : List ℕ) (n : Frame) (c : Changed) (gs v : List ℕ) : Type 0 where
@@ -89,7 +90,7 @@ pub record TakesNode (r : Registers) (fs w : List ℕ) (n : Frame) (c : Changed)
 
 -- without the node on top
 abbrev pub without : Registers → List ℕ → Registers
-without r fs = poppedTo r (at (loadFrame fs (r .depth - 1)) 0) (first (loadFrame fs (r .depth - 1)))
+without r fs = poppedTo r (at (loadFrame fs (r .depth - 1)) NAME) (first (loadFrame fs (r .depth - 1)))
 
 unfoldable pub mayClose : Registers → List ℕ → List ℕ → Bool
 mayClose r fs w =
@@ -150,7 +151,7 @@ pub record Movable (r : Registers) (words from to len end : ℕ) : Type 0 where
   pub below : end ≤ r .low
   pub low : r .low ≤ 65_536
   pub deep : 0 < r .depth
-  pub table : (r .depth - 1) * 18 + 18 ≤ words
+  pub table : (r .depth - 1) * FRAME + FRAME ≤ words
 
 pub movable : (r : Registers) (words from to len end : ℕ) → mayTake r words from to len end ≡ true → Movable r words from to len end
 unfolding L.all mayTake
@@ -160,7 +161,7 @@ movable r words from to len end m =
     let m3 = and-right (leb end (r .low)) _ m2 in
     let m4 = and-right (leb (r .low) 65_536) _ m3 in
     let d : 0 < r .depth = ltb-true 0 (r .depth) (and-left (ltb 0 (r .depth)) _ m4) in
-    let t : r .depth ≤ words / 18 = leb-true (r .depth) (words / 18) (and-right (ltb 0 (r .depth)) _ m4) in
+    let t : r .depth ≤ words / FRAME = leb-true (r .depth) (words / FRAME) (and-right (ltb 0 (r .depth)) _ m4) in
     record {
       down = leb-true _ _ (and-left (leb to from) _ m);
       fits = leb-true _ _ (and-left (leb (from + len) 65_536) _ m1);
@@ -181,17 +182,17 @@ pub kept-whole : {r : Registers} {fs w : List ℕ} → Kept r fs w (record { ok 
 kept-whole = record { ok = refl; registers = refl; words = refl; bytes = refl }
 
 module _ {r : Registers} {fs w : List ℕ} {f n : Frame} where
-  pub object-refused : mayTake r (length fs) (at n 4) (at f 7) (mainSize n) (at f 7 + mainSize n) ≡ false → TakesObject r fs w f n (record { ok = false; registers = r }) fs w
+  pub object-refused : mayTake r (length fs) (at n MAIN) (at f TAIL) (mainSize n) (at f TAIL + mainSize n) ≡ false → TakesObject r fs w f n (record { ok = false; registers = r }) fs w
   object-refused h = record { takes = λ y. differ y h; kept = λ _. kept-whole }
 
-  pub object-done : {gs v : List ℕ} {q : Bool} {r′ : Registers} → length w ≡ 65_536 → mayTake r (length fs) (at n 4) (at f 7) (mainSize n) (at f 7 + mainSize n) ≡ true
-      → StoredFrame fs (r .depth - 1) (objectFrame f n) gs q → v ≡ storedAt w (at f 7) (part w (at n 4) (mainSize n)) → r′ ≡ toppedTo r (at f 7 + mainSize n)
+  pub object-done : {gs v : List ℕ} {q : Bool} {r′ : Registers} → length w ≡ 65_536 → mayTake r (length fs) (at n MAIN) (at f TAIL) (mainSize n) (at f TAIL + mainSize n) ≡ true
+      → StoredFrame fs (r .depth - 1) (objectFrame f n) gs q → v ≡ storedAt w (at f TAIL) (part w (at n MAIN) (mainSize n)) → r′ ≡ toppedTo r (at f TAIL + mainSize n)
       → TakesObject r fs w f n (record { ok = true; registers = r′ }) gs v
   object-done {gs} {v} {q} l m s e k =
-      let t = movable r (length fs) (at n 4) (at f 7) (mainSize n) (at f 7 + mainSize n) m in
+      let t = movable r (length fs) (at n MAIN) (at f TAIL) (mainSize n) (at f TAIL + mainSize n) m in
       let d = t .down in
       let x = t .fits in
-      let z = length-part w (at n 4) (mainSize n) (omega arith) in
+      let z = length-part w (at n MAIN) (mainSize n) (omega arith) in
       record {
         takes = λ _. record { ok = refl; stored = s .wrote (t .table); wrote = record { room = omega arith; up = omega arith; eq = e }; moved = k };
         kept = λ h. differ m h;
@@ -200,28 +201,28 @@ module _ {r : Registers} {fs w : List ℕ} {f n : Frame} where
   child-refused : mayChild r (length fs) f n ≡ false → TakesChild r fs w f n (record { ok = false; registers = r }) fs w
   child-refused h = record { takes = λ y. differ y h; kept = λ _. kept-whole }
 
-  pub child-no-room : mayTake r (length fs) (at n 4) (at f 8) (mainSize n) (at f 8 + mainSize n + 4) ≡ false → TakesChild r fs w f n (record { ok = false; registers = r }) fs w
+  pub child-no-room : mayTake r (length fs) (at n MAIN) (at f END) (mainSize n) (at f END + mainSize n + 4) ≡ false → TakesChild r fs w f n (record { ok = false; registers = r }) fs w
   unfolding L.all mayChild
   child-no-room h = child-refused (rw h)
 
-  module _ (m : mayTake r (length fs) (at n 4) (at f 8) (mainSize n) (at f 8 + mainSize n + 4) ≡ true) where
+  module _ (m : mayTake r (length fs) (at n MAIN) (at f END) (mainSize n) (at f END + mainSize n + 4) ≡ true) where
     pub child-too-many : 65_536 ≤ count f → TakesChild r fs w f n (record { ok = false; registers = r }) fs w
     unfolding L.all mayChild
     child-too-many h = child-refused (rw (m, le-ltb (count f) 65_536 h))
 
     pub child-done : {gs u v : List ℕ} {q y : Bool} {r′ : Registers} → length w ≡ 65_536 → count f < 65_536
-        → StoredFrame fs (r .depth - 1) (childFrame f n) gs q → u ≡ storedAt w (at f 8) (part w (at n 4) (mainSize n))
-        → Put u (at f 8 + mainSize n) (markOf (mainSize n) (has n 2)) v y → r′ ≡ toppedTo r (at f 8 + mainSize n + 4)
+        → StoredFrame fs (r .depth - 1) (childFrame f n) gs q → u ≡ storedAt w (at f END) (part w (at n MAIN) (mainSize n))
+        → Put u (at f END + mainSize n) (markOf (mainSize n) (has n BLANK)) v y → r′ ≡ toppedTo r (at f END + mainSize n + 4)
         → TakesChild r fs w f n (record { ok = true; registers = r′ }) gs v
     unfolding L.all mayChild
     child-done {gs} {u} {v} {q} l c s e p k =
-        let t = movable r (length fs) (at n 4) (at f 8) (mainSize n) (at f 8 + mainSize n + 4) m in
+        let t = movable r (length fs) (at n MAIN) (at f END) (mainSize n) (at f END + mainSize n + 4) m in
         let d = t .down in
         let x = t .fits in
         let b = t .below in
         let o = t .low in
-        let z = length-part w (at n 4) (mainSize n) (omega arith) in
-        let one : Wrote w u (at f 8) (at f 8 + mainSize n) (part w (at n 4) (mainSize n)) = record { room = omega arith; up = omega arith; eq = e } in
+        let z = length-part w (at n MAIN) (mainSize n) (omega arith) in
+        let one : Wrote w u (at f END) (at f END + mainSize n) (part w (at n MAIN) (mainSize n)) = record { room = omega arith; up = omega arith; eq = e } in
         let two = put-fits p (omega (arith, wrote-same one)) in
         let all = then one two in
         let good : mayChild r (length fs) f n ≡ true = rw (m, lt-ltb (count f) 65_536 c) in
@@ -232,24 +233,24 @@ module _ {r : Registers} {fs w : List ℕ} {f n : Frame} where
 
 -- ---- the same of the code's own numbers
 
-module _ {r : Registers} {fs w : List ℕ} {f n : Frame} {from to len : ℕ} (a : from ≡ at n 4) (l : len ≡ mainSize n) where
-  pub object-none : to ≡ at f 7 → mayTake r (length fs) from to len (to + len) ≡ false → TakesObject r fs w f n (record { ok = false; registers = r }) fs w
+module _ {r : Registers} {fs w : List ℕ} {f n : Frame} {from to len : ℕ} (a : from ≡ at n MAIN) (l : len ≡ mainSize n) where
+  pub object-none : to ≡ at f TAIL → mayTake r (length fs) from to len (to + len) ≡ false → TakesObject r fs w f n (record { ok = false; registers = r }) fs w
   object-none b h = object-refused (rw (a, b, l) at h)
 
-  pub object-made : {gs v : List ℕ} {q : Bool} {r′ : Registers} {word : ℕ} → to ≡ at f 7 → word ≡ objectWord (has n 2) → length w ≡ 65_536 → mayTake r (length fs) from to len (to + len) ≡ true
-      → StoredFrame fs (r .depth - 1) (record { kind = f .kind; at = set (f .at) 8 (to + len); has = set (f .has) 5 word }) gs q
+  pub object-made : {gs v : List ℕ} {q : Bool} {r′ : Registers} {word : ℕ} → to ≡ at f TAIL → word ≡ objectWord (has n BLANK) → length w ≡ 65_536 → mayTake r (length fs) from to len (to + len) ≡ true
+      → StoredFrame fs (r .depth - 1) (record { kind = f .kind; at = set (f .at) END (to + len); has = set (f .has) PENDING word }) gs q
       → v ≡ storedAt w to (part w from len) → r′ ≡ toppedTo r (to + len) → TakesObject r fs w f n (record { ok = true; registers = r′ }) gs v
   object-made b o z m s e k = object-done z (rw (a, b, l) at m) (rw (b, l, o) at s) (rw (a, b, l) at e) (rw (b, l) at k)
 
-  pub child-none : to ≡ at f 8 → mayTake r (length fs) from to len (to + len + 4) ≡ false → TakesChild r fs w f n (record { ok = false; registers = r }) fs w
+  pub child-none : to ≡ at f END → mayTake r (length fs) from to len (to + len + 4) ≡ false → TakesChild r fs w f n (record { ok = false; registers = r }) fs w
   child-none b h = child-no-room (rw (a, b, l) at h)
 
-  pub child-many : to ≡ at f 8 → mayTake r (length fs) from to len (to + len + 4) ≡ true → 65_536 ≤ count f → TakesChild r fs w f n (record { ok = false; registers = r }) fs w
+  pub child-many : to ≡ at f END → mayTake r (length fs) from to len (to + len + 4) ≡ true → 65_536 ≤ count f → TakesChild r fs w f n (record { ok = false; registers = r }) fs w
   child-many b m h = child-too-many (rw (a, b, l) at m) h
 
-  pub child-made : {gs u v : List ℕ} {q y : Bool} {r′ : Registers} {word : ℕ} → to ≡ at f 8 → word ≡ blankByte (has n 2) → length w ≡ 65_536 → mayTake r (length fs) from to len (to + len + 4) ≡ true
+  pub child-made : {gs u v : List ℕ} {q y : Bool} {r′ : Registers} {word : ℕ} → to ≡ at f END → word ≡ blankByte (has n BLANK) → length w ≡ 65_536 → mayTake r (length fs) from to len (to + len + 4) ≡ true
       → count f < 65_536
-      → StoredFrame fs (r .depth - 1) (record { kind = f .kind; at = set (f .at) 8 (to + len + 4); has = set (f .has) 6 (count f + 1) }) gs q
+      → StoredFrame fs (r .depth - 1) (record { kind = f .kind; at = set (f .at) END (to + len + 4); has = set (f .has) COUNT (count f + 1) }) gs q
       → u ≡ storedAt w to (part w from len) → Put u (to + len) (len % 256 ∷ len / 256 ∷ word ∷ 0 ∷ []) v y → r′ ≡ toppedTo r (to + len + 4)
       → TakesChild r fs w f n (record { ok = true; registers = r′ }) gs v
   child-made b o z m c s e p k = child-done (rw (a, b, l) at m) z c (rw (b, l) at s) (rw (a, b, l) at e) (rw (b, l, o) at p) (rw (b, l) at k)
@@ -260,7 +261,7 @@ module _ {r : Registers} {fs w : List ℕ} {n f : Frame} (e : f ≡ topFrame r f
   pub took-object : {c : Changed} {gs v : List ℕ} → sameKind (f .kind) PropertyElt ≡ true → TakesObject r fs w f n c gs v → TakesNode r fs w n c gs v
   unfolding L.all mayTakeNode
   took-object {c} {gs} {v} y t =
-      let m : Bool = mayTake r (length fs) (at n 4) (at f 7) (mainSize n) (at f 7 + mainSize n) in
+      let m : Bool = mayTake r (length fs) (at n MAIN) (at f TAIL) (mainSize n) (at f TAIL + mainSize n) in
       let a : mayTakeNode r (length fs) (topFrame r fs) n ≡ m = rw (← e, y) in
       record {
         answer = by m (λ h. t .takes h .ok ∙ sym (a ∙ h)) (λ h. t .kept h .ok ∙ sym (a ∙ h));

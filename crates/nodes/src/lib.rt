@@ -106,15 +106,15 @@ fn take_object(r: Registers, frames: &mut [u32], work: &mut [u8], f: Frame, n: F
     let marks = n.has;
     let from = wide(main[4]);
     let len = minus(wide(main[5]), from);
-    let to = wide(at[7]);
+    let to = wide(at[Frame::TAIL]);
     if !may_take(r, frames.len(), from, to, len, to + len) {
         return Changed {
             ok: false,
             registers: r,
         };
     }
-    at[8] = (to + len) as u32;
-    has[5] = object_word(marks[2]);
+    at[Frame::END] = (to + len) as u32;
+    has[Frame::PENDING] = object_word(marks[Frame::BLANK]);
     Frame::store(frames, r.depth - 1, Frame { kind, at, has });
     shift(work, from, to, len);
     Changed {
@@ -135,8 +135,8 @@ fn take_child(r: Registers, frames: &mut [u32], work: &mut [u8], f: Frame, n: Fr
     let marks = n.has;
     let from = wide(main[4]);
     let len = minus(wide(main[5]), from);
-    let to = wide(at[8]);
-    let count = has[6];
+    let to = wide(at[Frame::END]);
+    let count = has[Frame::COUNT];
     if !may_take(r, frames.len(), from, to, len, to + len + 4) {
         return Changed {
             ok: false,
@@ -149,14 +149,14 @@ fn take_child(r: Registers, frames: &mut [u32], work: &mut [u8], f: Frame, n: Fr
             registers: r,
         };
     }
-    at[8] = (to + len + 4) as u32;
-    has[6] = count + 1;
+    at[Frame::END] = (to + len + 4) as u32;
+    has[Frame::COUNT] = count + 1;
     Frame::store(frames, r.depth - 1, Frame { kind, at, has });
     shift(work, from, to, len);
     let mark = [
         (len % 256) as u8,
         (len / 256) as u8,
-        blank_byte(marks[2]),
+        blank_byte(marks[Frame::BLANK]),
         0,
     ];
     copy::put(work, to + len, &mark);

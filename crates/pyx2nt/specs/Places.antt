@@ -10,6 +10,7 @@ use Rattle.spec.specs.Numbers.{number}
 use Rattle.spec.specs.declared.Refusal.{Refusal}
 use Rattle.spec.specs.declared.Refusal.the-variants.{Incomplete}
 use Rattle.copy.specs.Copy.{part}
+use Rattle.frames.specs.Parts.{TABLE}
 use Rattle.frames.specs.Words.{pick}
 use Rattle.state.specs.declared.Registers.{Registers}
 use Rattle.state.specs.Live.{startedWith}
@@ -146,7 +147,7 @@ pub record GoesOn (p : Place) (input : List ℕ) (f : Fed) (w : Printed) (n : Ne
 
 -- what is lent, as `main` makes it
 pub record Made (l : Lent) (input : List ℕ) : Type 0 where
-  pub frames : length (l .frames) ≡ 1152
+  pub frames : length (l .frames) ≡ TABLE
   pub bindings : length (l .bindings) ≡ 384
   pub inners : length (l .inners) ≡ 192
   pub work : length (l .work) ≡ 65_536

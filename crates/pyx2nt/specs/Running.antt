@@ -19,6 +19,7 @@ use Rattle.pyx2nt.specs.declared.How.{How}
 use Rattle.pyx2nt.specs.declared.How.the-variants.{Done, Unwritten, Unread}
 use Rattle.pyx2nt.specs.Way.{Spot, start, Leads, leads-here, leads-then, leads-end, leads-cut, leads-unfinished}
 use Rattle.pyx2nt.specs.Places.{firstPlace, spotAt, Within, Made, Stands, Lengths, ComesBy, Comes, Cases, Turns}
+use Rattle.frames.specs.Parts.{TABLE}
 
 -- the turns that are left bound the events and bytes to come
 pub record Running (p : Place) (turns : ℕ) (l : Lent) (input : List ℕ) : Type 0 where
@@ -124,10 +125,10 @@ module _ {p : Place} {turns : ℕ} {l : Lent} {input : List ℕ} (r : Running p 
 
 -- ---- arrays of their own
 
-pub made : Made (lent (replicate 1152 0) (replicate 384 0) (replicate 192 0) (replicate 65_536 0) (replicate 512 0) (replicate 512 0) (replicate 32_768 0) (replicate 131_072 0)) (replicate 131_072 0)
+pub made : Made (lent (replicate TABLE 0) (replicate 384 0) (replicate 192 0) (replicate 65_536 0) (replicate 512 0) (replicate 512 0) (replicate 32_768 0) (replicate 131_072 0)) (replicate 131_072 0)
 made =
     record {
-      frames = length-replicate {A = ℕ} 1152 0;
+      frames = length-replicate {A = ℕ} TABLE 0;
       bindings = length-replicate {A = ℕ} 384 0;
       inners = length-replicate {A = ℕ} 192 0;
       work = length-replicate {A = ℕ} 65_536 0;

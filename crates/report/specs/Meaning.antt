@@ -17,6 +17,7 @@ use Rattle.spec.specs.Calls.{isOpen, isClosed, unlawful, noDocument, markClosed
 use Rattle.spec.specs.Calls as calls
 use Rattle.spec.proofs.Booleans.{and-left, and-right}
 use Rattle.copy.specs.Copy.{part}
+use Rattle.frames.specs.Parts.{TABLE}
 use Rattle.frames.specs.Words.{pick}
 use Rattle.ids.specs.Ids.{validIds}
 use Rattle.ids.specs.Ids as table
@@ -178,7 +179,7 @@ over-read s w i = go (s .registers .inner) (s .registers .depth)
 
 pub record Fresh (based : Bool) (n : ℕ) (s : State) : Type 0 where
   pub registers : s .registers ≡ startedWith based n
-  pub frames : length (s .frames) ≡ 1152
+  pub frames : length (s .frames) ≡ TABLE
   pub bindings : length (s .bindings) ≡ 384
   pub inners : length (s .inners) ≡ 192
   pub ids : adding.Fresh (s .ids)

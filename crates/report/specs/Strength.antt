@@ -29,6 +29,7 @@ use Rattle.report.specs.declared.Answer.the-variants.{Done, Refused}
 use Rattle.report.specs.declared.Report.{Report}
 use Rattle.report.specs.Meaning.{meaningOf, Fresh, fresh-means}
 use Rattle.report.specs.Meets.{numberOf, Steps}
+use Rattle.frames.specs.Parts.{TABLE}
 
 -- ---- a step as a function
 
@@ -109,7 +110,7 @@ pub begun : State
 begun =
     record {
       registers = startedWith false 0;
-      frames = zeros 1152;
+      frames = zeros TABLE;
       bindings = zeros 384;
       inners = zeros 192;
       ids = record { count = 0; used = 0; at = zeros mostIds; len = zeros mostIds };
@@ -120,7 +121,7 @@ unfolding begun zeros
 begun-fresh =
     record {
       registers = refl;
-      frames = zeros-length 1152;
+      frames = zeros-length TABLE;
       bindings = zeros-length 384;
       inners = zeros-length 192;
       ids = record { count = refl; used = refl; places = refl; sizes = refl };

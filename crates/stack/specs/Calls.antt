@@ -10,6 +10,7 @@ use borrow.Author.Tests.{leb-true, leb-false, eq-eqb, ne-eqb, le-leb, lt-leb, lt
 use Rattle.spec.specs.Limits as L
 use Rattle.spec.specs.Limits.{mostOpenElements, workStoreBytes, mostLabels}
 use Rattle.copy.specs.Copy.{storedAt, Put, then, put-fits, wrote-same}
+use Rattle.frames.specs.Parts.{NAME, TAIL, END, PENDING, COUNT, FRAME}
 use Rattle.frames.specs.declared.Kind.{Kind}
 use Rattle.frames.specs.declared.Kind.the-variants.{Rdf, NodeElt, PropertyElt, ParseTypeCollectionPropertyElt, ParseTypeLiteralPropertyElt, ParseTypeOtherPropertyElt}
 use Rattle.frames.specs.declared.Frame.{Frame}
@@ -26,12 +27,12 @@ abbrev pub frameOf : Kind → List ℕ → List ℕ → Frame
 frameOf k at′ has′ = record { kind = k; at = at′; has = has′ }
 
 unfoldable pub mayPush : Registers → List ℕ → Bool
-mayPush r fs = eqb (r .inner) 0 && (ltb (r .depth) mostOpenElements && leb (r .depth * 18 + 18) (length fs))
+mayPush r fs = eqb (r .inner) 0 && (ltb (r .depth) mostOpenElements && leb (r .depth * FRAME + FRAME) (length fs))
 
 pub record Pushes (r : Registers) (fs : List ℕ) (f : Frame) (b : ℕ) (c : Changed) (gs : List ℕ) : Type 0 where
   pub answer : c .ok ≡ mayPush r fs
-  pub wrote : mayPush r fs ≡ true → gs ≡ storedAt fs (r .depth * 18) (wordsOf f)
-  pub moved : mayPush r fs ≡ true → c .registers ≡ pushedTo r (at f 8) b
+  pub wrote : mayPush r fs ≡ true → gs ≡ storedAt fs (r .depth * FRAME) (wordsOf f)
+  pub moved : mayPush r fs ≡ true → c .registers ≡ pushedTo r (at f END) b
   pub kept : mayPush r fs ≡ false → (gs ≡ fs) × (c .registers ≡ r)
   pub same : length gs ≡ length fs
 
@@ -42,7 +43,7 @@ mayPop r = eqb (r .inner) 0 && ltb 0 (r .depth)
 
 pub record Pops (r : Registers) (fs : List ℕ) (c : Changed) : Type 0 where
   pub answer : c .ok ≡ mayPop r
-  pub moved : mayPop r ≡ true → c .registers ≡ poppedTo r (at (loadFrame fs (r .depth - 1)) 0) (first (loadFrame fs (r .depth - 1)))
+  pub moved : mayPop r ≡ true → c .registers ≡ poppedTo r (at (loadFrame fs (r .depth - 1)) NAME) (first (loadFrame fs (r .depth - 1)))
   pub kept : mayPop r ≡ false → c .registers ≡ r
 
 -- ---- bind
@@ -67,20 +68,20 @@ sameKind a b = eqb (kindNumber a) (kindNumber b)
 
 -- the frame with another tail, which ends at `to`
 abbrev pub tailTo : Frame → ℕ → ℕ → Frame
-tailTo f to what = record { kind = f .kind; at = set (f .at) 8 to; has = set (f .has) 5 what }
+tailTo f to what = record { kind = f .kind; at = set (f .at) END to; has = set (f .has) PENDING what }
 
 -- the frame with one more rdf:li
 abbrev pub counted : Frame → Frame
-counted f = record { kind = f .kind; at = f .at; has = set (f .has) 6 (count f + 1) }
+counted f = record { kind = f .kind; at = f .at; has = set (f .has) COUNT (count f + 1) }
 
 unfoldable pub mayTail : Registers → List ℕ → List ℕ → ℕ → ℕ → Bool
 mayTail r fs w from n =
     ltb 0 (r .depth)
-    && (leb (r .low) workStoreBytes && (leb (r .low) (length w) && (leb (from + n) (r .low) && leb ((r .depth - 1) * 18 + 18) (length fs))))
+    && (leb (r .low) workStoreBytes && (leb (r .low) (length w) && (leb (from + n) (r .low) && leb ((r .depth - 1) * FRAME + FRAME) (length fs))))
 
 pub record Tails (r : Registers) (fs w : List ℕ) (f : Frame) (from what : ℕ) (s : List ℕ) (c : Changed) (gs v : List ℕ) : Type 0 where
   pub answer : c .ok ≡ mayTail r fs w from (length s)
-  pub stored : mayTail r fs w from (length s) ≡ true → gs ≡ storedAt fs ((r .depth - 1) * 18) (wordsOf (tailTo f (from + length s) what))
+  pub stored : mayTail r fs w from (length s) ≡ true → gs ≡ storedAt fs ((r .depth - 1) * FRAME) (wordsOf (tailTo f (from + length s) what))
   pub wrote : mayTail r fs w from (length s) ≡ true → v ≡ storedAt w from s
   pub moved : mayTail r fs w from (length s) ≡ true → c .registers ≡ toppedTo r (from + length s)
   pub kept : mayTail r fs w from (length s) ≡ false → (gs ≡ fs) × (v ≡ w) × (c .registers ≡ r)
@@ -95,21 +96,21 @@ pub record Nothing (r : Registers) (fs w : List ℕ) (c : Changed) (gs v : List 
   pub bytes : v ≡ w
 
 pub record Texts (r : Registers) (fs w t : List ℕ) (c : Changed) (gs v : List ℕ) : Type 0 where
-  pub tails : sameKind (topFrame r fs .kind) PropertyElt ≡ true → Tails r fs w (topFrame r fs) (at (topFrame r fs) 7) 3 t c gs v
+  pub tails : sameKind (topFrame r fs .kind) PropertyElt ≡ true → Tails r fs w (topFrame r fs) (at (topFrame r fs) TAIL) 3 t c gs v
   pub kept : sameKind (topFrame r fs .kind) PropertyElt ≡ false → Nothing r fs w c gs v
 
 pub record Xmls (r : Registers) (fs w t : List ℕ) (c : Changed) (gs v : List ℕ) : Type 0 where
-  pub tails : sameKind (topFrame r fs .kind) ParseTypeLiteralPropertyElt ≡ true → Tails r fs w (topFrame r fs) (at (topFrame r fs) 8) (has (topFrame r fs) 5) t c gs v
+  pub tails : sameKind (topFrame r fs .kind) ParseTypeLiteralPropertyElt ≡ true → Tails r fs w (topFrame r fs) (at (topFrame r fs) END) (has (topFrame r fs) PENDING) t c gs v
   pub dropped : sameKind (topFrame r fs .kind) ParseTypeOtherPropertyElt ≡ true → (c ≡ record { ok = true; registers = r }) × (gs ≡ fs) × (v ≡ w)
   pub kept : sameKind (topFrame r fs .kind) ParseTypeLiteralPropertyElt ≡ false → sameKind (topFrame r fs .kind) ParseTypeOtherPropertyElt ≡ false → Nothing r fs w c gs v
 
 unfoldable pub mayCount : Registers → List ℕ → Bool
 mayCount r fs =
-    sameKind (topFrame r fs .kind) NodeElt && (ltb 0 (r .depth) && (ltb (count (topFrame r fs)) mostLabels && leb ((r .depth - 1) * 18 + 18) (length fs)))
+    sameKind (topFrame r fs .kind) NodeElt && (ltb 0 (r .depth) && (ltb (count (topFrame r fs)) mostLabels && leb ((r .depth - 1) * FRAME + FRAME) (length fs)))
 
 pub record Counts (r : Registers) (fs : List ℕ) (b : Bool) (gs : List ℕ) : Type 0 where
   pub answer : b ≡ mayCount r fs
-  pub stored : mayCount r fs ≡ true → gs ≡ storedAt fs ((r .depth - 1) * 18) (wordsOf (counted (topFrame r fs)))
+  pub stored : mayCount r fs ≡ true → gs ≡ storedAt fs ((r .depth - 1) * FRAME) (wordsOf (counted (topFrame r fs)))
   pub kept : mayCount r fs ≡ false → gs ≡ fs
   pub same : length gs ≡ length fs
 
@@ -134,17 +135,17 @@ module _ {r : Registers} {fs : List ℕ} {f : Frame} {b : ℕ} where
     pub push-short : q ≡ false → Pushes r fs f b (record { ok = false; registers = r }) gs
     unfolding L.all mayPush
     push-short n =
-        let l : leb (r .depth * 18 + 18) (length fs) ≡ false = sym (s .answer) ∙ n in
-        push-refused (rw (eq-eqb (r .inner) 0 z, lt-ltb (r .depth) 64 d, l)) (s .kept (leb-false (r .depth * 18 + 18) (length fs) l))
+        let l : leb (r .depth * FRAME + FRAME) (length fs) ≡ false = sym (s .answer) ∙ n in
+        push-refused (rw (eq-eqb (r .inner) 0 z, lt-ltb (r .depth) 64 d, l)) (s .kept (leb-false (r .depth * FRAME + FRAME) (length fs) l))
 
-    pub push-done : q ≡ true → Pushes r fs f b (record { ok = true; registers = pushedTo r (at f 8) b }) gs
+    pub push-done : q ≡ true → Pushes r fs f b (record { ok = true; registers = pushedTo r (at f END) b }) gs
     unfolding L.all mayPush
     push-done y =
-        let l : leb (r .depth * 18 + 18) (length fs) ≡ true = sym (s .answer) ∙ y in
+        let l : leb (r .depth * FRAME + FRAME) (length fs) ≡ true = sym (s .answer) ∙ y in
         let m : mayPush r fs ≡ true = rw (eq-eqb (r .inner) 0 z, lt-ltb (r .depth) 64 d, l) in
         record {
           answer = sym m;
-          wrote = λ _. s .wrote (leb-true (r .depth * 18 + 18) (length fs) l);
+          wrote = λ _. s .wrote (leb-true (r .depth * FRAME + FRAME) (length fs) l);
           moved = λ _. refl;
           kept = λ n. differ m n;
           same = s .same;
@@ -162,7 +163,7 @@ module _ {r : Registers} {fs : List ℕ} where
   unfolding mayPop
   pop-empty z d = pop-refused (rw (eq-eqb (r .inner) 0 z, le-ltb 0 (r .depth) (omega arith)))
 
-  pub pop-done : {f : Frame} → r .inner ≡ 0 → (r .depth ≡ 0 → ⊥) → f ≡ loadFrame fs (r .depth - 1) → Pops r fs (record { ok = true; registers = poppedTo r (at f 0) (first f) })
+  pub pop-done : {f : Frame} → r .inner ≡ 0 → (r .depth ≡ 0 → ⊥) → f ≡ loadFrame fs (r .depth - 1) → Pops r fs (record { ok = true; registers = poppedTo r (at f NAME) (first f) })
   unfolding mayPop
   pop-done {f} z d e =
       let m : mayPop r ≡ true = rw (eq-eqb (r .inner) 0 z, lt-ltb 0 (r .depth) (positive (r .depth) d)) in
@@ -248,19 +249,19 @@ module _ {r : Registers} {fs w : List ℕ} {f : Frame} {from what : ℕ} {s : Li
           pub tail-short : q ≡ false → Tails r fs w f from what s (record { ok = false; registers = r }) gs w
           unfolding L.all mayTail
           tail-short n =
-              let x : leb ((r .depth - 1) * 18 + 18) (length fs) ≡ false = sym (t .answer) ∙ n in
-              tail-refused (rw (lt-ltb 0 (r .depth) (positive (r .depth) d), le-leb (r .low) 65_536 l, le-leb (r .low) (length w) m, le-leb (from + length s) (r .low) k, x)) (t .kept (leb-false ((r .depth - 1) * 18 + 18) (length fs) x))
+              let x : leb ((r .depth - 1) * FRAME + FRAME) (length fs) ≡ false = sym (t .answer) ∙ n in
+              tail-refused (rw (lt-ltb 0 (r .depth) (positive (r .depth) d), le-leb (r .low) 65_536 l, le-leb (r .low) (length w) m, le-leb (from + length s) (r .low) k, x)) (t .kept (leb-false ((r .depth - 1) * FRAME + FRAME) (length fs) x))
 
           pub tail-done : {v : List ℕ} {z : Bool} {r′ : Registers} → q ≡ true → Put w from s v z → r′ ≡ toppedTo r (from + length s)
               → Tails r fs w f from what s (record { ok = true; registers = r′ }) gs v
           unfolding L.all mayTail
           tail-done y i e =
-              let x : leb ((r .depth - 1) * 18 + 18) (length fs) ≡ true = sym (t .answer) ∙ y in
+              let x : leb ((r .depth - 1) * FRAME + FRAME) (length fs) ≡ true = sym (t .answer) ∙ y in
               let b : mayTail r fs w from (length s) ≡ true = rw (lt-ltb 0 (r .depth) (positive (r .depth) d), le-leb (r .low) 65_536 l, le-leb (r .low) (length w) m, le-leb (from + length s) (r .low) k, x) in
               let p = put-fits i (omega arith) in
               record {
                 answer = sym b;
-                stored = λ _. t .wrote (leb-true ((r .depth - 1) * 18 + 18) (length fs) x);
+                stored = λ _. t .wrote (leb-true ((r .depth - 1) * FRAME + FRAME) (length fs) x);
                 wrote = λ _. p .eq;
                 moved = λ _. e;
                 kept = λ n. differ b n;
@@ -283,7 +284,7 @@ module _ {r : Registers} {fs w t : List ℕ} {f : Frame} (e : f ≡ topFrame r f
   pub text-other : sameKind (f .kind) PropertyElt ≡ false → Texts r fs w t (record { ok = false; registers = r }) fs w
   text-other n = record { tails = λ y. differ (rw (← e) at y) n; kept = λ _. nothing }
 
-  pub text-done : {c : Changed} {gs v : List ℕ} → sameKind (f .kind) PropertyElt ≡ true → Tails r fs w f (at f 7) 3 t c gs v → Texts r fs w t c gs v
+  pub text-done : {c : Changed} {gs v : List ℕ} → sameKind (f .kind) PropertyElt ≡ true → Tails r fs w f (at f TAIL) 3 t c gs v → Texts r fs w t c gs v
   text-done y p = record { tails = λ _. rw (← e) p; kept = λ n. differ y (rw (← e) at n) }
 
   pub xml-dropped : sameKind (f .kind) ParseTypeOtherPropertyElt ≡ true → Xmls r fs w t (record { ok = true; registers = r }) fs w
@@ -297,7 +298,7 @@ module _ {r : Registers} {fs w t : List ℕ} {f : Frame} (e : f ≡ topFrame r f
   pub xml-other : sameKind (f .kind) ParseTypeOtherPropertyElt ≡ false → sameKind (f .kind) ParseTypeLiteralPropertyElt ≡ false → Xmls r fs w t (record { ok = false; registers = r }) fs w
   xml-other n m = record { tails = λ l. differ (rw (← e) at l) m; dropped = λ y. differ (rw (← e) at y) n; kept = λ _ _. nothing }
 
-  pub xml-done : {c : Changed} {gs v : List ℕ} → sameKind (f .kind) ParseTypeOtherPropertyElt ≡ false → sameKind (f .kind) ParseTypeLiteralPropertyElt ≡ true → Tails r fs w f (at f 8) (has f 5) t c gs v → Xmls r fs w t c gs v
+  pub xml-done : {c : Changed} {gs v : List ℕ} → sameKind (f .kind) ParseTypeOtherPropertyElt ≡ false → sameKind (f .kind) ParseTypeLiteralPropertyElt ≡ true → Tails r fs w f (at f END) (has f PENDING) t c gs v → Xmls r fs w t c gs v
   xml-done n y p = record { tails = λ _. rw (← e) p; dropped = λ z. differ (rw (← e) at z) n; kept = λ z _. differ y (rw (← e) at z) }
 
 module _ {r : Registers} {fs : List ℕ} {f : Frame} (e : f ≡ topFrame r fs) where
@@ -321,10 +322,10 @@ module _ {r : Registers} {fs : List ℕ} {f : Frame} (e : f ≡ topFrame r fs) w
       pub count-done : {gs : List ℕ} {q : Bool} → count f < 99_999_999 → StoredFrame fs (r .depth - 1) (counted f) gs q → Counts r fs q gs
       unfolding L.all mayCount
       count-done {gs} {q} h s =
-          let m : mayCount r fs ≡ leb ((r .depth - 1) * 18 + 18) (length fs) = rw (← e, y, lt-ltb 0 (r .depth) (positive (r .depth) d), lt-ltb (count f) 99_999_999 h) in
+          let m : mayCount r fs ≡ leb ((r .depth - 1) * FRAME + FRAME) (length fs) = rw (← e, y, lt-ltb 0 (r .depth) (positive (r .depth) d), lt-ltb (count f) 99_999_999 h) in
           record {
             answer = s .answer ∙ sym m;
-            stored = λ u. rw (← e) (s .wrote (leb-true ((r .depth - 1) * 18 + 18) (length fs) (sym m ∙ u)));
-            kept = λ u. s .kept (leb-false ((r .depth - 1) * 18 + 18) (length fs) (sym m ∙ u));
+            stored = λ u. rw (← e) (s .wrote (leb-true ((r .depth - 1) * FRAME + FRAME) (length fs) (sym m ∙ u)));
+            kept = λ u. s .kept (leb-false ((r .depth - 1) * FRAME + FRAME) (length fs) (sym m ∙ u));
             same = s .same;
           }

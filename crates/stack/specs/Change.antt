@@ -12,6 +12,7 @@ use Rattle.spec.specs.Bytes.{Bytes}
 use Rattle.spec.specs.Limits.{workStoreBytes}
 use Rattle.spec.specs.Document.{Frame as Element, Doc}
 use Rattle.spec.proofs.Booleans.{and-left, and-right}
+use Rattle.frames.specs.Parts.{NAME, FRAME}
 use Rattle.frames.specs.declared.Frame.{Frame}
 use Rattle.frames.specs.declared.Row.{Row}
 use Rattle.frames.specs.Kept.{Kept, kept-all, kept-less}
@@ -44,11 +45,11 @@ holds-doc h ids = go (h .base) (h .elements) (h .root) (h .count)
 -- frame f stands as number n on elements that are valid up to t, with bindings up to b; they and their bytes are kept
 pub record On (fs gs bs cs w v : List ℕ) (f : Frame) (base n t b top c : ℕ) : Type 0 where
   pub rest : framesOk fs bs w base n t b ≡ true
-  pub frames : Kept fs gs 0 (n * 18)
+  pub frames : Kept fs gs 0 (n * FRAME)
   pub there : frameAt gs n ≡ f
   pub bindings : Kept bs cs 0 (b * 3)
   pub bytes : Kept w v 0 t
-  pub starts : at f 0 ≡ t
+  pub starts : at f NAME ≡ t
   pub firsts : first f ≡ b
   pub sound : Sound gs cs v f n top c
 
@@ -210,7 +211,7 @@ module _ {r : Registers} {fs bs is w : List ℕ} (x : Valid r fs bs is w) (n : �
   pub top-frame : Sound fs bs w (frameAt fs n) n (r .top) (r .outer)
   top-frame = top-sound fs bs w n (r .top) (r .outer) (r .base) framed
 
-  pub under : framesOk fs bs w (r .base) n (at (frameAt fs n) 0) (first (frameAt fs n)) ≡ true
+  pub under : framesOk fs bs w (r .base) n (at (frameAt fs n) NAME) (first (frameAt fs n)) ≡ true
   under = rest-ok fs bs w n (r .top) (r .outer) (r .base) framed
 
   pub top-element : framesOf fs bs w (r .depth) (r .outer)
@@ -219,7 +220,7 @@ module _ {r : Registers} {fs bs is w : List ℕ} (x : Valid r fs bs is w) (n : �
   top-element = rw d
 
   pub popped : r .inner ≡ 0
-      → Holds (poppedTo r (at (frameAt fs n) 0) (first (frameAt fs n))) fs bs is w (startOf r w) (framesOf fs bs w n (first (frameAt fs n))) (r .rooted) (r .labels)
+      → Holds (poppedTo r (at (frameAt fs n) NAME) (first (frameAt fs n))) fs bs is w (startOf r w) (framesOf fs bs w n (first (frameAt fs n))) (r .rooted) (r .labels)
   popped z =
       let e = flat x z in
       let t = top-frame in
@@ -242,15 +243,15 @@ module _ {r : Registers} {fs bs is w : List ℕ} (x : Valid r fs bs is w) (n : �
               frames = rw m under;
               inners = empty-inners is bs (r .inner) (first (frameAt fs n)) (r .low) z (e .low);
             };
-        base = start-kept {w = w} {v = w} {hi = r .base} r (poppedTo r (at (frameAt fs n) 0) (first (frameAt fs n))) kept-all (omega arith) refl refl;
-        elements = flat-elements (poppedTo r (at (frameAt fs n) 0) (first (frameAt fs n))) fs bs is w z ∙ rw m;
+        base = start-kept {w = w} {v = w} {hi = r .base} r (poppedTo r (at (frameAt fs n) NAME) (first (frameAt fs n))) kept-all (omega arith) refl refl;
+        elements = flat-elements (poppedTo r (at (frameAt fs n) NAME) (first (frameAt fs n))) fs bs is w z ∙ rw m;
         root = refl;
         count = refl;
       }
 
   -- ---- a change to the frame on top, while elements inside Literal content may stand open
 
-  pub changed : {gs v : List ℕ} {f : Frame} {top : ℕ} → On fs gs bs bs w v f (r .base) n (at (frameAt fs n) 0) (first (frameAt fs n)) top (r .outer)
+  pub changed : {gs v : List ℕ} {f : Frame} {top : ℕ} → On fs gs bs bs w v f (r .base) n (at (frameAt fs n) NAME) (first (frameAt fs n)) top (r .outer)
       → Kept w v (r .low) 65_536 → length gs ≡ length fs → length v ≡ length w → top ≤ r .low
       → Holds (toppedTo r top) gs bs is v (startOf r w)
       (innersOf is bs w (r .inner) (r .bindings)

@@ -8,6 +8,7 @@ use lib.ListN.{length, length-append}
 use lib.Seq.{take-append-seam, drop-append-seam, take-length}
 use Rattle.spec.specs.Bytes.{Bytes}
 use Rattle.copy.specs.Copy.{part, Wrote, part-part, wrote-part}
+use Rattle.frames.specs.Parts.{BASE, TAG, MAIN, ID, DATATYPE, TAIL, END}
 use Rattle.frames.specs.declared.Frame.{Frame}
 use Rattle.state.specs.Meaning.{at, span}
 
@@ -39,16 +40,16 @@ stands-span {v} {a} {s} b h e = let n : b - a ≡ length s = omega arith in rw n
 
 -- the places of frame f, from its base on, are those of these parts
 pub record Laid (v : List ℕ) (f : Frame) (base tag main id type tail : Bytes) : Type 0 where
-  pub ownBase : span v (at f 2) (at f 3) ≡ base
-  pub ownTag : span v (at f 3) (at f 4) ≡ tag
-  pub mainPart : span v (at f 4) (at f 5) ≡ main
-  pub rdfId : span v (at f 5) (at f 6) ≡ id
-  pub datatype : span v (at f 6) (at f 7) ≡ type
-  pub tailPart : span v (at f 7) (at f 8) ≡ tail
+  pub ownBase : span v (at f BASE) (at f TAG) ≡ base
+  pub ownTag : span v (at f TAG) (at f MAIN) ≡ tag
+  pub mainPart : span v (at f MAIN) (at f ID) ≡ main
+  pub rdfId : span v (at f ID) (at f DATATYPE) ≡ id
+  pub datatype : span v (at f DATATYPE) (at f TAIL) ≡ type
+  pub tailPart : span v (at f TAIL) (at f END) ≡ tail
 
-pub laid : {w v : List ℕ} {f : Frame} {to : ℕ} (base tag main id type tail : Bytes) → Wrote w v (at f 2) to (base ++ (tag ++ (main ++ (id ++ (type ++ tail)))))
-    → at f 3 ≡ at f 2 + length base → at f 4 ≡ at f 3 + length tag → at f 5 ≡ at f 4 + length main → at f 6 ≡ at f 5 + length id → at f 7 ≡ at f 6 + length type
-    → at f 8 ≡ at f 7 + length tail → Laid v f base tag main id type tail
+pub laid : {w v : List ℕ} {f : Frame} {to : ℕ} (base tag main id type tail : Bytes) → Wrote w v (at f BASE) to (base ++ (tag ++ (main ++ (id ++ (type ++ tail)))))
+    → at f TAG ≡ at f BASE + length base → at f MAIN ≡ at f TAG + length tag → at f ID ≡ at f MAIN + length main → at f DATATYPE ≡ at f ID + length id → at f TAIL ≡ at f DATATYPE + length type
+    → at f END ≡ at f TAIL + length tail → Laid v f base tag main id type tail
 laid {w} {v} {f} {to} base tag main id type tail h a b c d e g =
     let s2 = stands-wrote h in
     let s3 = stands-back base (tag ++ (main ++ (id ++ (type ++ tail)))) s2 in
@@ -57,12 +58,12 @@ laid {w} {v} {f} {to} base tag main id type tail h a b c d e g =
     let s6 = stands-back id (type ++ tail) s5 in
     let s7 = stands-back type tail s6 in
     record {
-      ownBase = stands-span (at f 3) (stands-front base (tag ++ (main ++ (id ++ (type ++ tail)))) s2) a;
-      ownTag = moved a (at f 4) (stands-front tag (main ++ (id ++ (type ++ tail))) s3) b;
-      mainPart = moved (b ∙ ap (_+ length tag) a) (at f 5) (stands-front main (id ++ (type ++ tail)) s4) c;
-      rdfId = moved (c ∙ ap (_+ length main) (b ∙ ap (_+ length tag) a)) (at f 6) (stands-front id (type ++ tail) s5) d;
-      datatype = moved (d ∙ ap (_+ length id) (c ∙ ap (_+ length main) (b ∙ ap (_+ length tag) a))) (at f 7) (stands-front type tail s6) e;
-      tailPart = moved (e ∙ ap (_+ length type) (d ∙ ap (_+ length id) (c ∙ ap (_+ length main) (b ∙ ap (_+ length tag) a)))) (at f 8) s7 g;
+      ownBase = stands-span (at f TAG) (stands-front base (tag ++ (main ++ (id ++ (type ++ tail)))) s2) a;
+      ownTag = moved a (at f MAIN) (stands-front tag (main ++ (id ++ (type ++ tail))) s3) b;
+      mainPart = moved (b ∙ ap (_+ length tag) a) (at f ID) (stands-front main (id ++ (type ++ tail)) s4) c;
+      rdfId = moved (c ∙ ap (_+ length main) (b ∙ ap (_+ length tag) a)) (at f DATATYPE) (stands-front id (type ++ tail) s5) d;
+      datatype = moved (d ∙ ap (_+ length id) (c ∙ ap (_+ length main) (b ∙ ap (_+ length tag) a))) (at f TAIL) (stands-front type tail s6) e;
+      tailPart = moved (e ∙ ap (_+ length type) (d ∙ ap (_+ length id) (c ∙ ap (_+ length main) (b ∙ ap (_+ length tag) a)))) (at f END) s7 g;
     }
   where
     moved : {x y : ℕ} {s : Bytes} → x ≡ y → (z : ℕ) → Stands v y s → z ≡ x + length s → span v x z ≡ s

@@ -23,6 +23,7 @@ use Rattle.spec.specs.XmlLiteral.{takesXml}
 use Rattle.spec.specs.RdfXml.{takesText}
 use Rattle.spec.proofs.Booleans.{and-left, and-right}
 use Rattle.copy.specs.Copy.{part, storedAt, Wrote, part-inside, part-add, wrote-part, length-stored}
+use Rattle.frames.specs.Parts.{NAME, BINDINGS, BASE, TAG, MAIN, ID, DATATYPE, TAIL, END, PLACES, BASED, TAGGED, BLANK, IDENTIFIED, TYPED, PENDING, COUNT, FIRST, MARKS, HEAD, FRAME, TABLE}
 use Rattle.frames.specs.declared.Kind.{Kind}
 use Rattle.frames.specs.declared.Kind.the-variants.{Rdf, NodeElt, PropertyElt, ParseTypeCollectionPropertyElt, ParseTypeLiteralPropertyElt, ParseTypeOtherPropertyElt}
 use Rattle.frames.specs.declared.Frame.{Frame}
@@ -116,19 +117,19 @@ bound-more {w} {bs} {v} {cs} {b} {n} {from} {a} {p} {s} {bound} h q =
 
 -- a new element, whose bytes, bindings and places are right
 pub record New (r : Registers) (fs bs w cs v : List ℕ) (f : Frame) (b : ℕ) (bound : List Binding) : Type 0 where
-  pub places : length (f .at) ≡ 9
-  pub marks : length (f .has) ≡ 8
+  pub places : length (f .at) ≡ PLACES
+  pub marks : length (f .has) ≡ MARKS
   pub words : Kept bs cs 0 (r .outer * 3)
   pub bytes : Kept w v 0 (r .top)
   pub sameWords : length cs ≡ length bs
   pub sameBytes : length v ≡ length w
-  pub starts : at f 0 ≡ r .top
-  pub ends : at f 8 ≤ r .low
+  pub starts : at f NAME ≡ r .top
+  pub ends : at f END ≤ r .low
   pub up : Rising f
   pub firsts : first f ≡ r .outer
   pub least : r .outer ≤ b
   pub most : b ≤ 128
-  pub bindings : Bound cs v (r .outer) (b - r .outer) (at f 1) (at f 2) bound
+  pub bindings : Bound cs v (r .outer) (b - r .outer) (at f BINDINGS) (at f BASE) bound
   pub parts : partsOk f ≡ true
   pub kind : kindOk (f .kind) f v ≡ true
   pub stood : stands (f .kind) fs (r .depth) ≡ true
@@ -136,7 +137,7 @@ pub record New (r : Registers) (fs bs w cs v : List ℕ) (f : Frame) (b : ℕ) (
 pub record Flat (r : Registers) (fs : List ℕ) : Type 0 where
   pub inner : r .inner ≡ 0
   pub depth : r .depth < 64
-  pub room : r .depth * 18 + 18 ≤ length fs
+  pub room : r .depth * FRAME + FRAME ≤ length fs
 
 may-push : (r : Registers) (fs : List ℕ) → mayPush r fs ≡ true → Flat r fs
 unfolding L.all mayPush
@@ -155,9 +156,9 @@ push-holds {r} {fs} {bs} {is} {w} {gs} {cs} {v} {f} {b} {c} {bound} x p y n =
     let m : mayPush r fs ≡ true = sym (p .answer) ∙ y in
     let t = may-push r fs m in
     let st : StoredFrame fs (r .depth) f gs true = record { answer = sym (le-leb _ _ (t .room)); wrote = λ _. p .wrote m; kept = λ l. absurd (omega (arith, t .room)); same = p .same } in
-    let kf : Kept fs gs 0 (r .depth * 18) = kept-before (frame-wrote st (t .room) (n .places) (n .marks)) in
+    let kf : Kept fs gs 0 (r .depth * FRAME) = kept-before (frame-wrote st (t .room) (n .places) (n .marks)) in
     let fst = n .firsts in
-    let o : On fs gs bs cs w v f (r .base) (r .depth) (r .top) (r .outer) (at f 8) b =
+    let o : On fs gs bs cs w v f (r .base) (r .depth) (r .top) (r .outer) (at f END) b =
     record {
       rest = x .frames;
       frames = kf;
@@ -191,12 +192,12 @@ may-pop r m = (eqb-true _ _ (and-left (eqb (r .inner) 0) _ m), ltb-true _ _ (and
 pub record Topmost (r : Registers) (fs bs is w : List ℕ) (n : ℕ) : Type 0 where
   pub depth : r .depth ≡ suc n
   pub frame : topFrame r fs ≡ frameAt fs n
-  pub room : n * 18 + 18 ≤ length fs
+  pub room : n * FRAME + FRAME ≤ length fs
 
 pub topmost : {r : Registers} {fs bs is w : List ℕ} → Valid r fs bs is w → 0 < r .depth → Topmost r fs bs is w (r .depth - 1)
 unfolding topFrame
 topmost {r} {fs} {bs} {is} {w} x h =
-    let room : (r .depth - 1) * 18 + 18 ≤ length fs = omega (arith, x .frameWords, x .deep) in
+    let room : (r .depth - 1) * FRAME + FRAME ≤ length fs = omega (arith, x .frameWords, x .deep) in
     record { depth = omega arith; frame = rw (ne-eqb (r .depth) 0 (λ e. omega arith)) (load-frame fs (r .depth - 1) room); room = room }
 
 pub pop-holds : {r : Registers} {fs bs is w : List ℕ} {c : Changed} → Valid r fs bs is w → Pops r fs c → c .ok ≡ true
@@ -209,42 +210,42 @@ pop-holds {r} {fs} {bs} {is} {w} {c} x p y =
 
 -- ---- a tail
 
-module _ (f : Frame) (to what : ℕ) (p : length (f .at) ≡ 9) (m : length (f .has) ≡ 8) where
+module _ (f : Frame) (to what : ℕ) (p : length (f .at) ≡ PLACES) (m : length (f .has) ≡ MARKS) where
   pub tail-alike : Alike f (tailTo f to what)
   tail-alike =
       record {
         kind = refl;
-        name = getD-set-other (f .at) 8 0 to 0 (λ e. omega arith);
-        bindings = getD-set-other (f .at) 8 1 to 0 (λ e. omega arith);
-        base = getD-set-other (f .at) 8 2 to 0 (λ e. omega arith);
-        tag = getD-set-other (f .at) 8 3 to 0 (λ e. omega arith);
-        main = getD-set-other (f .at) 8 4 to 0 (λ e. omega arith);
-        id = getD-set-other (f .at) 8 5 to 0 (λ e. omega arith);
-        type = getD-set-other (f .at) 8 6 to 0 (λ e. omega arith);
-        tail = getD-set-other (f .at) 8 7 to 0 (λ e. omega arith);
-        hasBase = getD-set-other (f .has) 5 0 what 0 (λ e. omega arith);
-        hasTag = getD-set-other (f .has) 5 1 what 0 (λ e. omega arith);
-        isBlank = getD-set-other (f .has) 5 2 what 0 (λ e. omega arith);
-        hasId = getD-set-other (f .has) 5 3 what 0 (λ e. omega arith);
-        hasType = getD-set-other (f .has) 5 4 what 0 (λ e. omega arith);
-        least = getD-set-other (f .has) 5 7 what 0 (λ e. omega arith);
-        places = length-set (f .at) 8 to ∙ p;
-        marks = length-set (f .has) 5 what ∙ m;
+        name = getD-set-other (f .at) END NAME to 0 (λ e. omega arith);
+        bindings = getD-set-other (f .at) END BINDINGS to 0 (λ e. omega arith);
+        base = getD-set-other (f .at) END BASE to 0 (λ e. omega arith);
+        tag = getD-set-other (f .at) END TAG to 0 (λ e. omega arith);
+        main = getD-set-other (f .at) END MAIN to 0 (λ e. omega arith);
+        id = getD-set-other (f .at) END ID to 0 (λ e. omega arith);
+        type = getD-set-other (f .at) END DATATYPE to 0 (λ e. omega arith);
+        tail = getD-set-other (f .at) END TAIL to 0 (λ e. omega arith);
+        hasBase = getD-set-other (f .has) PENDING BASED what 0 (λ e. omega arith);
+        hasTag = getD-set-other (f .has) PENDING TAGGED what 0 (λ e. omega arith);
+        isBlank = getD-set-other (f .has) PENDING BLANK what 0 (λ e. omega arith);
+        hasId = getD-set-other (f .has) PENDING IDENTIFIED what 0 (λ e. omega arith);
+        hasType = getD-set-other (f .has) PENDING TYPED what 0 (λ e. omega arith);
+        least = getD-set-other (f .has) PENDING FIRST what 0 (λ e. omega arith);
+        places = length-set (f .at) END to ∙ p;
+        marks = length-set (f .has) PENDING what ∙ m;
       }
 
-  pub tail-end : at (tailTo f to what) 8 ≡ to
-  tail-end = getD-set-same (f .at) 8 to 0 (omega arith)
+  pub tail-end : at (tailTo f to what) END ≡ to
+  tail-end = getD-set-same (f .at) END to 0 (omega arith)
 
-  pub tail-what : has (tailTo f to what) 5 ≡ what
-  tail-what = getD-set-same (f .has) 5 what 0 (omega arith)
+  pub tail-what : has (tailTo f to what) PENDING ≡ what
+  tail-what = getD-set-same (f .has) PENDING what 0 (omega arith)
 
-pub length-at : (fs : List ℕ) (n : ℕ) → n * 18 + 18 ≤ length fs → length (frameAt fs n .at) ≡ 9
+pub length-at : (fs : List ℕ) (n : ℕ) → n * FRAME + FRAME ≤ length fs → length (frameAt fs n .at) ≡ PLACES
 unfolding frameAt Rattle.frames.specs.Words.frameOf
-length-at fs n h = Rattle.copy.specs.Copy.length-part (part fs (n * 18) 18) 1 9 (omega (arith, Rattle.copy.specs.Copy.length-part fs (n * 18) 18 h))
+length-at fs n h = Rattle.copy.specs.Copy.length-part (part fs (n * FRAME) FRAME) 1 PLACES (omega (arith, Rattle.copy.specs.Copy.length-part fs (n * FRAME) FRAME h))
 
-pub length-has : (fs : List ℕ) (n : ℕ) → n * 18 + 18 ≤ length fs → length (frameAt fs n .has) ≡ 8
+pub length-has : (fs : List ℕ) (n : ℕ) → n * FRAME + FRAME ≤ length fs → length (frameAt fs n .has) ≡ MARKS
 unfolding frameAt Rattle.frames.specs.Words.frameOf
-length-has fs n h = Rattle.copy.specs.Copy.length-part (part fs (n * 18) 18) 10 8 (omega (arith, Rattle.copy.specs.Copy.length-part fs (n * 18) 18 h))
+length-has fs n h = Rattle.copy.specs.Copy.length-part (part fs (n * FRAME) FRAME) HEAD MARKS (omega (arith, Rattle.copy.specs.Copy.length-part fs (n * FRAME) FRAME h))
 
 pub record Tailed (r : Registers) (fs w : List ℕ) (from n : ℕ) : Type 0 where
   pub depth : 0 < r .depth
@@ -264,20 +265,20 @@ may-tail r fs w from n m =
     }
 
 -- a frame stored as a call answers it
-pub stored-frame : {fs gs : List ℕ} (n : ℕ) {g : Frame} → n * 18 + 18 ≤ length fs → length (g .at) ≡ 9 → length (g .has) ≡ 8 → gs ≡ storedAt fs (n * 18) (wordsOf g) → StoredFrame fs n g gs true
+pub stored-frame : {fs gs : List ℕ} (n : ℕ) {g : Frame} → n * FRAME + FRAME ≤ length fs → length (g .at) ≡ PLACES → length (g .has) ≡ MARKS → gs ≡ storedAt fs (n * FRAME) (wordsOf g) → StoredFrame fs n g gs true
 stored-frame {fs} {gs} n {g} h a b e =
     let l = length-words g a b in
-    record { answer = sym (le-leb (n * 18 + 18) (length fs) h); wrote = λ _. e; kept = λ k. absurd (omega arith); same = ap length e ∙ length-stored fs (n * 18) (wordsOf g) (omega arith) }
+    record { answer = sym (le-leb (n * FRAME + FRAME) (length fs) h); wrote = λ _. e; kept = λ k. absurd (omega arith); same = ap length e ∙ length-stored fs (n * FRAME) (wordsOf g) (omega arith) }
 
 -- a frame whose places go up, and which has all of them
 pub record Fresh (f : Frame) : Type 0 where
   pub up : Rising f
-  pub places : length (f .at) ≡ 9
-  pub marks : length (f .has) ≡ 8
+  pub places : length (f .at) ≡ PLACES
+  pub marks : length (f .has) ≡ MARKS
 
 module _ {r : Registers} {fs bs is w s gs v : List ℕ} {from what : ℕ} {c : Changed} (x : Valid r fs bs is w) (h : Value → Value) where
   -- a new tail of the frame on top changes the value of the innermost element outside Literal content
-  pub tail-holds : Tails r fs w (topFrame r fs) from what s c gs v → c .ok ≡ true → at (topFrame r fs) 7 ≤ from → (q : Kind) → topFrame r fs .kind ≡ q
+  pub tail-holds : Tails r fs w (topFrame r fs) from what s c gs v → c .ok ≡ true → at (topFrame r fs) TAIL ≤ from → (q : Kind) → topFrame r fs .kind ≡ q
       → (Fresh (topFrame r fs) → Wrote w v from (from + length s) s → kindOk q (topFrame r fs) w ≡ true → kindOk q (tailTo (topFrame r fs) (from + length s) what) v ≡ true)
       → (Fresh (topFrame r fs) → Wrote w v from (from + length s) s → (u : Subject)
       → whatOf q (tailTo (topFrame r fs) (from + length s) what) v u ≡ onValue h (whatOf q (topFrame r fs) w u))
@@ -300,8 +301,8 @@ module _ {r : Registers} {fs bs is w s gs v : List ℕ} {from what : ℕ} {c : C
       let te = tail-end f to what a b in
       let wr : Wrote w v from to s = record { room = omega (arith, t .room, t .store); up = refl; eq = p .wrote m } in
       let st : StoredFrame fs n (tailTo f to what) gs true =
-      stored-frame n (k .room) (al .places) (al .marks) (p .stored m ∙ ap (λ (g : Frame). storedAt fs (n * 18) (wordsOf (tailTo g to what))) e) in
-      let l′ : at f 7 ≤ from = rw e at l in
+      stored-frame n (k .room) (al .places) (al .marks) (p .stored m ∙ ap (λ (g : Frame). storedAt fs (n * FRAME) (wordsOf (tailTo g to what))) e) in
+      let l′ : at f TAIL ≤ from = rw e at l in
       let ok′ : Fresh f → Wrote w v from to s → kindOk q f w ≡ true → kindOk q (tailTo f to what) v ≡ true = rw e at ok in
       let eq′ : Fresh f → Wrote w v from to s → (o : Subject) → whatOf q (tailTo f to what) v o ≡ onValue h (whatOf q f w o) = rw e at eq in
       let kd : kindOk (f .kind) (tailTo f to what) v ≡ true =
@@ -349,26 +350,26 @@ is-node ParseTypeOtherPropertyElt e = absurd (false≢true e)
 
 -- ---- text
 
-module _ (f : Frame) (w t v : List ℕ) (n : Fresh f) (wr : Wrote w v (at f 7) (at f 7 + length t) t) where
-  text-kind : kindOk PropertyElt (tailTo f (at f 7 + length t) 3) v ≡ true
+module _ (f : Frame) (w t v : List ℕ) (n : Fresh f) (wr : Wrote w v (at f TAIL) (at f TAIL + length t) t) where
+  text-kind : kindOk PropertyElt (tailTo f (at f TAIL + length t) 3) v ≡ true
   unfolding kindOk emptyOr
-  text-kind = rw (tail-what f (at f 7 + length t) 3 (n .places) (n .marks))
+  text-kind = rw (tail-what f (at f TAIL + length t) 3 (n .places) (n .marks))
 
-  text-what : (u : Subject) → whatOf PropertyElt (tailTo f (at f 7 + length t) 3) v u ≡ onValue (takesText t) (whatOf PropertyElt f w u)
+  text-what : (u : Subject) → whatOf PropertyElt (tailTo f (at f TAIL + length t) 3) v u ≡ onValue (takesText t) (whatOf PropertyElt f w u)
   unfolding whatOf onValue takesText objectOf span
   text-what u =
-      let al = tail-alike f (at f 7 + length t) 3 (n .places) (n .marks) in
+      let al = tail-alike f (at f TAIL + length t) 3 (n .places) (n .marks) in
       let up = n .up in
-      let k : Kept w v 0 (at f 7) = kept-before wr in
-      let d : at f 7 + length t - at f 7 ≡ length t = omega arith in
+      let k : Kept w v 0 (at f TAIL) = kept-before wr in
+      let d : at f TAIL + length t - at f TAIL ≡ length t = omega arith in
       rw (
         alike-property al up k u,
         al .hasType,
         al .type,
         al .tail,
-        tail-what f (at f 7 + length t) 3 (n .places) (n .marks),
-        tail-end f (at f 7 + length t) 3 (n .places) (n .marks),
-        k .parts (at f 6) (at f 7 - at f 6) (omega arith) (omega arith),
+        tail-what f (at f TAIL + length t) 3 (n .places) (n .marks),
+        tail-end f (at f TAIL + length t) 3 (n .places) (n .marks),
+        k .parts (at f DATATYPE) (at f TAIL - at f DATATYPE) (omega arith) (omega arith),
         d,
         wrote-part wr,
       )
@@ -385,28 +386,28 @@ text-holds {r} {fs} {bs} {is} {w} {t} {gs} {v} {c} x p y =
 
 -- ---- XML text
 
-module _ (f : Frame) (w t v : List ℕ) (n : Fresh f) (wr : Wrote w v (at f 8) (at f 8 + length t) t) where
-  xml-kind : kindOk ParseTypeLiteralPropertyElt f w ≡ true → kindOk ParseTypeLiteralPropertyElt (tailTo f (at f 8 + length t) (has f 5)) v ≡ true
+module _ (f : Frame) (w t v : List ℕ) (n : Fresh f) (wr : Wrote w v (at f END) (at f END + length t) t) where
+  xml-kind : kindOk ParseTypeLiteralPropertyElt f w ≡ true → kindOk ParseTypeLiteralPropertyElt (tailTo f (at f END + length t) (has f PENDING)) v ≡ true
   unfolding kindOk
   xml-kind h =
-      let al = tail-alike f (at f 8 + length t) (has f 5) (n .places) (n .marks) in
+      let al = tail-alike f (at f END + length t) (has f PENDING) (n .places) (n .marks) in
       rw (al .type, al .tail) h
 
-  xml-what : (u : Subject) → whatOf ParseTypeLiteralPropertyElt (tailTo f (at f 8 + length t) (has f 5)) v u ≡ onValue (takesXml t) (whatOf ParseTypeLiteralPropertyElt f w u)
+  xml-what : (u : Subject) → whatOf ParseTypeLiteralPropertyElt (tailTo f (at f END + length t) (has f PENDING)) v u ≡ onValue (takesXml t) (whatOf ParseTypeLiteralPropertyElt f w u)
   unfolding whatOf onValue takesXml span
   xml-what u =
-      let al = tail-alike f (at f 8 + length t) (has f 5) (n .places) (n .marks) in
+      let al = tail-alike f (at f END + length t) (has f PENDING) (n .places) (n .marks) in
       let up = n .up in
-      let k : Kept w v 0 (at f 8) = kept-before wr in
-      let d : at f 8 + length t - at f 7 ≡ at f 8 - at f 7 + length t = omega arith in
-      let j : at f 7 + (at f 8 - at f 7) ≡ at f 8 = omega arith in
+      let k : Kept w v 0 (at f END) = kept-before wr in
+      let d : at f END + length t - at f TAIL ≡ at f END - at f TAIL + length t = omega arith in
+      let j : at f TAIL + (at f END - at f TAIL) ≡ at f END = omega arith in
       rw (
         alike-property al up (kept-less k (omega arith) (omega arith)) u,
         al .tail,
-        tail-end f (at f 8 + length t) (has f 5) (n .places) (n .marks),
+        tail-end f (at f END + length t) (has f PENDING) (n .places) (n .marks),
         d,
-        part-add v (at f 7) (at f 8 - at f 7) (length t),
-        k .parts (at f 7) (at f 8 - at f 7) (omega arith) (omega arith),
+        part-add v (at f TAIL) (at f END - at f TAIL) (length t),
+        k .parts (at f TAIL) (at f END - at f TAIL) (omega arith) (omega arith),
         j,
         wrote-part wr,
       )
@@ -440,7 +441,7 @@ xml-holds {r} {fs} {bs} {is} {w} {t} {gs} {v} {c} x p y =
     deep : (k : Kind) → topFrame r fs .kind ≡ k → (k ≡ Rdf → ⊥) → 0 < r .depth
     deep k e z = top-deep r fs (λ i. z (sym e ∙ i))
 
-    places : sameKind (topFrame r fs .kind) ParseTypeLiteralPropertyElt ≡ true → at (topFrame r fs) 7 ≤ at (topFrame r fs) 8
+    places : sameKind (topFrame r fs .kind) ParseTypeLiteralPropertyElt ≡ true → at (topFrame r fs) TAIL ≤ at (topFrame r fs) END
     places q =
         let k = topmost x (top-deep r fs (λ i. false≢true (ap (λ (g : Kind). sameKind g ParseTypeLiteralPropertyElt) (sym i) ∙ q))) in
         let u = rising (frameAt fs (r .depth - 1)) (top-frame x (r .depth - 1) (k .depth) .up) in
@@ -459,7 +460,7 @@ xml-holds {r} {fs} {bs} {is} {w} {t} {gs} {v} {c} x p y =
 
 -- ---- rdf:li
 
-counted-alike : (f : Frame) → length (f .at) ≡ 9 → length (f .has) ≡ 8 → Alike f (counted f)
+counted-alike : (f : Frame) → length (f .at) ≡ PLACES → length (f .has) ≡ MARKS → Alike f (counted f)
 counted-alike f a b =
     record {
       kind = refl;
@@ -471,23 +472,23 @@ counted-alike f a b =
       id = refl;
       type = refl;
       tail = refl;
-      hasBase = getD-set-other (f .has) 6 0 (count f + 1) 0 (λ e. omega arith);
-      hasTag = getD-set-other (f .has) 6 1 (count f + 1) 0 (λ e. omega arith);
-      isBlank = getD-set-other (f .has) 6 2 (count f + 1) 0 (λ e. omega arith);
-      hasId = getD-set-other (f .has) 6 3 (count f + 1) 0 (λ e. omega arith);
-      hasType = getD-set-other (f .has) 6 4 (count f + 1) 0 (λ e. omega arith);
-      least = getD-set-other (f .has) 6 7 (count f + 1) 0 (λ e. omega arith);
+      hasBase = getD-set-other (f .has) COUNT BASED (count f + 1) 0 (λ e. omega arith);
+      hasTag = getD-set-other (f .has) COUNT TAGGED (count f + 1) 0 (λ e. omega arith);
+      isBlank = getD-set-other (f .has) COUNT BLANK (count f + 1) 0 (λ e. omega arith);
+      hasId = getD-set-other (f .has) COUNT IDENTIFIED (count f + 1) 0 (λ e. omega arith);
+      hasType = getD-set-other (f .has) COUNT TYPED (count f + 1) 0 (λ e. omega arith);
+      least = getD-set-other (f .has) COUNT FIRST (count f + 1) 0 (λ e. omega arith);
       places = a;
-      marks = length-set (f .has) 6 (count f + 1) ∙ b;
+      marks = length-set (f .has) COUNT (count f + 1) ∙ b;
     }
 
-module _ (f : Frame) (w : List ℕ) (a : length (f .at) ≡ 9) (b : length (f .has) ≡ 8) where
+module _ (f : Frame) (w : List ℕ) (a : length (f .at) ≡ PLACES) (b : length (f .has) ≡ MARKS) where
   more : count (counted f) ≡ suc (count f)
-  more = getD-set-same (f .has) 6 (count f + 1) 0 (omega arith) ∙ add-one (count f)
+  more = getD-set-same (f .has) COUNT (count f + 1) 0 (omega arith) ∙ add-one (count f)
 
   li-kind : count f < 99_999_999 → kindOk NodeElt f w ≡ true → kindOk NodeElt (counted f) w ≡ true
   unfolding kindOk mostLabels
-  li-kind l h = rw (and-left (eqb (at f 5) (at f 8)) _ h, more, le-leb (suc (count f)) 99_999_999 l)
+  li-kind l h = rw (and-left (eqb (at f ID) (at f END)) _ h, more, le-leb (suc (count f)) 99_999_999 l)
 
   li-what : (i : Bytes) → isLi i ≡ true → (s : Subject) → whatOf NodeElt (counted f) w s ≡ G.counted i (whatOf NodeElt f w s)
   unfolding whatOf G.counted subjectOf if_then_else_
@@ -497,7 +498,7 @@ record Counted (r : Registers) (fs : List ℕ) : Type 0 where
   node : sameKind (topFrame r fs .kind) NodeElt ≡ true
   depth : 0 < r .depth
   few : count (topFrame r fs) < 99_999_999
-  room : (r .depth - 1) * 18 + 18 ≤ length fs
+  room : (r .depth - 1) * FRAME + FRAME ≤ length fs
 
 may-count : (r : Registers) (fs : List ℕ) → mayCount r fs ≡ true → Counted r fs
 unfolding L.all mayCount
@@ -516,11 +517,11 @@ pub record Numbered (r : Registers) (fs : List ℕ) : Type 0 where
   pub kind : topFrame r fs .kind ≡ NodeElt
   pub few : count (topFrame r fs) < 99_999_999
 
-pub li-may : (r : Registers) (fs : List ℕ) → Numbered r fs → r .depth ≤ 64 → length fs ≡ 1152 → mayCount r fs ≡ true
+pub li-may : (r : Registers) (fs : List ℕ) → Numbered r fs → r .depth ≤ 64 → length fs ≡ TABLE → mayCount r fs ≡ true
 unfolding L.all mayCount
 li-may r fs n d l =
     let k : 0 < r .depth = top-deep r fs (λ i. node-differs (sym (n .kind) ∙ i)) in
-    rw (n .kind, lt-ltb 0 (r .depth) k, lt-ltb (count (topFrame r fs)) 99_999_999 (n .few), le-leb ((r .depth - 1) * 18 + 18) (length fs) (omega arith))
+    rw (n .kind, lt-ltb 0 (r .depth) k, lt-ltb (count (topFrame r fs)) 99_999_999 (n .few), le-leb ((r .depth - 1) * FRAME + FRAME) (length fs) (omega arith))
   where
     node-differs : NodeElt ≡ Rdf → ⊥
     node-differs e = false≢true (ap (λ (g : Kind). sameKind g NodeElt) (sym e))
@@ -542,7 +543,7 @@ li-holds {r} {fs} {bs} {is} {w} {gs} {b} x z p y i li =
     let u : Rising f = rising f (tp .up) in
     let al = counted-alike f a h in
     let st : StoredFrame fs n (counted f) gs true =
-    stored-frame n (k .room) (al .places) (al .marks) (p .stored m ∙ ap (λ (g : Frame). storedAt fs (n * 18) (wordsOf (counted g))) e) in
+    stored-frame n (k .room) (al .places) (al .marks) (p .stored m ∙ ap (λ (g : Frame). storedAt fs (n * FRAME) (wordsOf (counted g))) e) in
     let kd : kindOk (f .kind) (counted f) w ≡ true =
     ap (λ (g : Kind). kindOk g (counted f) w) kind ∙ li-kind f w a h few (sym (ap (λ (g : Kind). kindOk g f w) kind) ∙ tp .kind) in
     let wt : (s : Subject) → whatOf (f .kind) (counted f) w s ≡ G.counted i (whatOf (f .kind) f w s) =
@@ -558,10 +559,10 @@ module _ {r : Registers} {fs gs : List ℕ} {b : Bool} (p : Counts r fs b gs) (y
       let m : mayCount r fs ≡ true = sym (p .answer) ∙ y in
       let t = may-count r fs m in
       let n : ℕ = r .depth - 1 in
-      let h : n * 18 + 18 ≤ length fs = t .room in
+      let h : n * FRAME + FRAME ≤ length fs = t .room in
       let e : topFrame r fs ≡ frameAt fs n = rw (ne-eqb (r .depth) 0 (λ z. omega (arith, t .depth))) (load-frame fs n h) in
       let al = counted-alike (frameAt fs n) (length-at fs n h) (length-has fs n h) in
-      load-store (stored-frame n h (al .places) (al .marks) (p .stored m ∙ ap (λ (g : Frame). storedAt fs (n * 18) (wordsOf (counted g))) e)) h (al .places) (al .marks)
+      load-store (stored-frame n h (al .places) (al .marks) (p .stored m ∙ ap (λ (g : Frame). storedAt fs (n * FRAME) (wordsOf (counted g))) e)) h (al .places) (al .marks)
 
   li-deep : r .depth ≡ suc (r .depth - 1)
   li-deep = omega (arith, may-count r fs (sym (p .answer) ∙ y) .depth)
@@ -583,4 +584,4 @@ module _ {r : Registers} {fs gs : List ℕ} {b : Bool} (p : Counts r fs b gs) (y
   unfolding subjectBelow subjectOf
   li-below w =
       let f : Frame = frameAt fs (r .depth - 1) in
-      rw li-deep (rw (li-frame, getD-set-other (f .has) 6 2 (count f + 1) 0 (λ z. omega arith)))
+      rw li-deep (rw (li-frame, getD-set-other (f .has) COUNT BLANK (count f + 1) 0 (λ z. omega arith)))

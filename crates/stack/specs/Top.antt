@@ -10,6 +10,7 @@ use Rattle.spec.specs.Opening.{counted, countLi}
 use Rattle.spec.specs.Namespaces.{Binding}
 use Rattle.spec.specs.NTriples.{Subject}
 use Rattle.spec.specs.Document.{Value, Kind as What, Frame as Element, withKind, onValue, isXmlElement, changeValue}
+use Rattle.frames.specs.Parts.{NAME, BINDINGS, BASE, TAG, MAIN, ID, DATATYPE, TAIL, END, PLACES, BASED, TAGGED, BLANK, IDENTIFIED, TYPED, MARKS, FRAME}
 use Rattle.frames.specs.declared.Kind.{Kind}
 use Rattle.frames.specs.declared.Kind.the-variants.{Rdf, NodeElt, PropertyElt, ParseTypeCollectionPropertyElt, ParseTypeLiteralPropertyElt, ParseTypeOtherPropertyElt}
 use Rattle.frames.specs.declared.Frame.{Frame}
@@ -24,24 +25,24 @@ use Rattle.stack.specs.Change.{Holds, On, toppedTo, changed, top-frame, 
 -- g is f but for where its tail ends, and what the tail is
 pub record Alike (f g : Frame) : Type 0 where
   pub kind : g .kind ≡ f .kind
-  pub name : at g 0 ≡ at f 0
-  pub bindings : at g 1 ≡ at f 1
-  pub base : at g 2 ≡ at f 2
-  pub tag : at g 3 ≡ at f 3
-  pub main : at g 4 ≡ at f 4
-  pub id : at g 5 ≡ at f 5
-  pub type : at g 6 ≡ at f 6
-  pub tail : at g 7 ≡ at f 7
-  pub hasBase : has g 0 ≡ has f 0
-  pub hasTag : has g 1 ≡ has f 1
-  pub isBlank : has g 2 ≡ has f 2
-  pub hasId : has g 3 ≡ has f 3
-  pub hasType : has g 4 ≡ has f 4
+  pub name : at g NAME ≡ at f NAME
+  pub bindings : at g BINDINGS ≡ at f BINDINGS
+  pub base : at g BASE ≡ at f BASE
+  pub tag : at g TAG ≡ at f TAG
+  pub main : at g MAIN ≡ at f MAIN
+  pub id : at g ID ≡ at f ID
+  pub type : at g DATATYPE ≡ at f DATATYPE
+  pub tail : at g TAIL ≡ at f TAIL
+  pub hasBase : has g BASED ≡ has f BASED
+  pub hasTag : has g TAGGED ≡ has f TAGGED
+  pub isBlank : has g BLANK ≡ has f BLANK
+  pub hasId : has g IDENTIFIED ≡ has f IDENTIFIED
+  pub hasType : has g TYPED ≡ has f TYPED
   pub least : first g ≡ first f
-  pub places : length (g .at) ≡ 9
-  pub marks : length (g .has) ≡ 8
+  pub places : length (g .at) ≡ PLACES
+  pub marks : length (g .has) ≡ MARKS
 
-pub alike-up : {f g : Frame} → Alike f g → Rising f → at f 7 ≤ at g 8 → Rising g
+pub alike-up : {f g : Frame} → Alike f g → Rising f → at f TAIL ≤ at g END → Rising g
 alike-up {f} {g} a r h =
     record {
       name = omega (arith, a .name, a .bindings);
@@ -59,7 +60,7 @@ unfolding partsOk
 alike-parts a = rw (a .hasBase, a .hasTag, a .hasId, a .hasType, a .base, a .tag, a .main, a .id, a .type, a .tail)
 
 -- what is said of the main part and the rdf:ID stays
-pub alike-property : {f g : Frame} {w v : List ℕ} → Alike f g → Rising f → Kept w v 0 (at f 7) → (s : Subject) → propertyOf g v s ≡ propertyOf f w s
+pub alike-property : {f g : Frame} {w v : List ℕ} → Alike f g → Rising f → Kept w v 0 (at f TAIL) → (s : Subject) → propertyOf g v s ≡ propertyOf f w s
 unfolding propertyOf
 alike-property {f} {g} {w} {v} a r k s =
     rw (
@@ -67,11 +68,11 @@ alike-property {f} {g} {w} {v} a r k s =
       a .id,
       a .type,
       a .hasId,
-      span-kept k (at f 4) (at f 5) (omega arith) (omega arith) (omega arith),
-      span-kept k (at f 5) (at f 6) (omega arith) (omega arith) (omega arith),
+      span-kept k (at f MAIN) (at f ID) (omega arith) (omega arith) (omega arith),
+      span-kept k (at f ID) (at f DATATYPE) (omega arith) (omega arith) (omega arith),
     )
 
-alike-element : {f g : Frame} {w v : List ℕ} → Alike f g → Rising f → Kept w v 0 (at f 7) → (K : What → What) (bound : List Binding) (s : Subject)
+alike-element : {f g : Frame} {w v : List ℕ} → Alike f g → Rising f → Kept w v 0 (at f TAIL) → (K : What → What) (bound : List Binding) (s : Subject)
     → whatOf (f .kind) g v s ≡ K (whatOf (f .kind) f w s) → elementOf g bound v s ≡ withKind (K (whatOf (f .kind) f w s)) (elementOf f bound w s)
 unfolding elementOf withKind
 alike-element {f} {g} {w} {v} a r k K bound s e =
@@ -85,9 +86,9 @@ alike-element {f} {g} {w} {v} a r k K bound s e =
       a .main,
       a .hasBase,
       a .hasTag,
-      span-kept k (at f 0) (at f 1) (omega arith) (omega arith) (omega arith),
-      span-kept k (at f 2) (at f 3) (omega arith) (omega arith) (omega arith),
-      span-kept k (at f 3) (at f 4) (omega arith) (omega arith) (omega arith),
+      span-kept k (at f NAME) (at f BINDINGS) (omega arith) (omega arith) (omega arith),
+      span-kept k (at f BASE) (at f TAG) (omega arith) (omega arith) (omega arith),
+      span-kept k (at f TAG) (at f MAIN) (omega arith) (omega arith) (omega arith),
     )
 
 -- ---- the law
@@ -101,10 +102,10 @@ module _ {r : Registers} {fs bs is w : List ℕ} (x : Valid r fs bs is w) (n : �
       (elementOf (frameAt fs n) (bindingsOf bs w (first (frameAt fs n)) (r .outer - first (frameAt fs n))) w (subjectBelow fs w n))
       ∷ framesOf fs bs w n (first (frameAt fs n)))
 
-  pub retailed : {gs v : List ℕ} {g : Frame} {q : Bool} (K : What → What) → Alike (frameAt fs n) g → StoredFrame fs n g gs q → Kept w v 0 (at (frameAt fs n) 7) → Kept w v (r .low) 65_536
-      → length v ≡ length w → at (frameAt fs n) 7 ≤ at g 8 → at g 8 ≤ r .low → kindOk (g .kind) g v ≡ true
+  pub retailed : {gs v : List ℕ} {g : Frame} {q : Bool} (K : What → What) → Alike (frameAt fs n) g → StoredFrame fs n g gs q → Kept w v 0 (at (frameAt fs n) TAIL) → Kept w v (r .low) 65_536
+      → length v ≡ length w → at (frameAt fs n) TAIL ≤ at g END → at g END ≤ r .low → kindOk (g .kind) g v ≡ true
       → ((s : Subject) → whatOf (frameAt fs n .kind) g v s ≡ K (whatOf (frameAt fs n .kind) (frameAt fs n) w s))
-      → Holds (toppedTo r (at g 8)) gs bs is v (startOf r w) (topped K) (r .rooted) (r .labels)
+      → Holds (toppedTo r (at g END)) gs bs is v (startOf r w) (topped K) (r .rooted) (r .labels)
   unfolding topped
   retailed {gs} {v} {g} {q} K a st k kl lv up lt ok what =
       let t = top-frame x n d in
@@ -113,11 +114,11 @@ module _ {r : Registers} {fs bs is w : List ℕ} (x : Valid r fs bs is w) (n : �
       let z = t .ends in
       let l = t .least in
       let y = x .deep in
-      let room : n * 18 + 18 ≤ length fs = omega (arith, x .frameWords) in
+      let room : n * FRAME + FRAME ≤ length fs = omega (arith, x .frameWords) in
       let wr = frame-wrote st room (a .places) (a .marks) in
-      let kf : Kept fs gs 0 (n * 18) = kept-before wr in
-      let kb : Kept w v 0 (at f 0) = kept-less k (omega arith) (omega arith) in
-      let sound : Sound gs bs v g n (at g 8) (r .outer) =
+      let kf : Kept fs gs 0 (n * FRAME) = kept-before wr in
+      let kb : Kept w v 0 (at f NAME) = kept-less k (omega arith) (omega arith) in
+      let sound : Sound gs bs v g n (at g END) (r .outer) =
       record {
         ends = refl;
         up = rises-up g (alike-up a u up);
@@ -127,7 +128,7 @@ module _ {r : Registers} {fs bs is w : List ℕ} (x : Valid r fs bs is w) (n : �
         kind = ok;
         stood = rw (a .kind) (stands-kept n kf (f .kind) ∙ t .stood);
       } in
-      let o : On fs gs bs bs w v g (r .base) n (at f 0) (first f) (at g 8) (r .outer) =
+      let o : On fs gs bs bs w v g (r .base) n (at f NAME) (first f) (at g END) (r .outer) =
       record {
         rest = under x n d;
         frames = kf;
@@ -139,9 +140,9 @@ module _ {r : Registers} {fs bs is w : List ℕ} (x : Valid r fs bs is w) (n : �
         sound = sound;
       } in
       let h = changed x n d o kl (st .same) lv lt in
-      let s : subjectBelow gs v n ≡ subjectBelow fs w n = below-kept bs (r .base) n (at f 0) (first f) kf kb (under x n d) in
+      let s : subjectBelow gs v n ≡ subjectBelow fs w n = below-kept bs (r .base) n (at f NAME) (first f) kf kb (under x n d) in
       let b : bindingsOf bs v (first f) (r .outer - first f) ≡ bindingsOf bs w (first f) (r .outer - first f) =
-      bindings-kept (kept-all {w = bs} {lo = 0} {hi = r .outer * 3}) k (first f) (r .outer - first f) (at f 1) (at f 2) (omega arith) (omega arith) (omega arith) (omega arith) (t .bound) in
+      bindings-kept (kept-all {w = bs} {lo = 0} {hi = r .outer * 3}) k (first f) (r .outer - first f) (at f BINDINGS) (at f BASE) (omega arith) (omega arith) (omega arith) (omega arith) (t .bound) in
       record {
         valid = h .valid;
         base = h .base;

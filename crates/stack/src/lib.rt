@@ -32,8 +32,8 @@ pub fn push(
     r: Registers,
     frames: &mut [u32],
     kind: Kind,
-    at: [u32; 9],
-    has: [u32; 8],
+    at: [u32; Frame::PLACES],
+    has: [u32; Frame::MARKS],
     bound: usize,
 ) -> Changed
     ensures { λ c. ⌜ Pushes r (now (frames .entry)) (frameOf kind at has) bound c (now (frames .exit)) ⌝ }
@@ -60,7 +60,7 @@ pub fn pop(r: Registers, frames: &[u32]) -> Changed
     let f = Frame::load(frames, r.depth - 1);
     let at = f.at;
     let has = f.has;
-    let first = wide(has[7]);
+    let first = wide(has[Frame::FIRST]);
     Changed {
         ok: true,
         registers: Registers {
@@ -72,7 +72,7 @@ pub fn pop(r: Registers, frames: &[u32]) -> Changed
             inner: r.inner,
             outer: first,
             bindings: first,
-            top: wide(at[0]),
+            top: wide(at[Frame::NAME]),
             low: r.low,
             labels: r.labels,
         },
@@ -139,7 +139,7 @@ pub fn set_text(r: Registers, frames: &mut [u32], work: &mut [u8], text: &[u8]) 
             registers: r,
         };
     }
-    write_tail(r, frames, work, f, wide(at[7]), 3, text)
+    write_tail(r, frames, work, f, wide(at[Frame::TAIL]), 3, text)
 }
 
 // More XML text of the Literal property on top; any other parseType keeps none.
@@ -162,7 +162,7 @@ pub fn add_xml(r: Registers, frames: &mut [u32], work: &mut [u8], text: &[u8]) -
             registers: r,
         };
     }
-    write_tail(r, frames, work, f, wide(at[8]), has[5], text)
+    write_tail(r, frames, work, f, wide(at[Frame::END]), has[Frame::PENDING], text)
 }
 
 // One more rdf:li of the node on top.
@@ -179,11 +179,11 @@ pub fn count_li(r: Registers, frames: &mut [u32]) -> bool
     if r.depth == 0 {
         return false;
     }
-    let count = has[6];
+    let count = has[Frame::COUNT];
     if count as u64 >= BlankNodeIdGenerator::MOST_LABELS {
         return false;
     }
-    has[6] = count + 1;
+    has[Frame::COUNT] = count + 1;
     Frame::store(frames, r.depth - 1, Frame { kind, at, has })
 }
 
@@ -221,7 +221,7 @@ fn push_frame(r: Registers, frames: &mut [u32], f: Frame, bound: usize) -> Chang
             inner: r.inner,
             outer: bound,
             bindings: bound,
-            top: wide(at[8]),
+            top: wide(at[Frame::END]),
             low: r.low,
             labels: r.labels,
         },
@@ -263,8 +263,8 @@ fn write_tail(
     let mut at = f.at;
     let mut has = f.has;
     let kind = f.kind;
-    at[8] = to as u32;
-    has[5] = what;
+    at[Frame::END] = to as u32;
+    has[Frame::PENDING] = what;
     if !Frame::store(frames, r.depth - 1, Frame { kind, at, has }) {
         return no;
     }

@@ -23,6 +23,7 @@ use Rattle.spec.specs.StartTag as S
 use Rattle.spec.specs.Productions.{Opened, tagLines, elementType, isLi, propertyIri, hasNode, openProperty, parseTypeOf, noParseType}
 use Rattle.copy.specs.Copy.{part, Wrote, wrote-part, wrote-same}
 use Rattle.label.specs.Digits.{length-decimal}
+use Rattle.frames.specs.Parts.{TABLE}
 use Rattle.frames.specs.declared.Kind.the-variants.{NodeElt, ParseTypeCollectionPropertyElt, ParseTypeLiteralPropertyElt, ParseTypeOtherPropertyElt}
 use Rattle.frames.specs.Kept.{Kept, kept-all, kept-then, kept-before, kept-behind, kept-less}
 use Rattle.frames.specs.Words.{pick}
@@ -134,7 +135,7 @@ without x y u h p q = rw (p, q) at h
 -- ---- judged
 
 pub record JudgesProperty (q : Verdict) (t : Tag) (r : Registers) (fs e v : List ℕ) (k : ℕ) (a b : List ℕ) : Type 0 where
-  pub cases : (ids used m : ℕ) (bs is w ia il st cs rs : List ℕ) (y : Known t r ids used fs bs is w ia il st e v m k cs rs a) → topFrame r fs .kind ≡ NodeElt → r .depth ≤ 64 → length fs ≡ 1152
+  pub cases : (ids used m : ℕ) (bs is w ia il st cs rs : List ℕ) (y : Known t r ids used fs bs is w ia il st e v m k cs rs a) → topFrame r fs .kind ≡ NodeElt → r .depth ≤ 64 → length fs ≡ TABLE
       → D.placeIn (elementsOf r fs bs is w) ≡ D.properties (subjectBelow fs w (r .depth)) (count (topFrame r fs))
       → Drafted q r ids used fs bs is w ia il st e v m k cs rs b
   pub measurable : Measurable q
@@ -292,7 +293,7 @@ module _ {t : Tag} {r : Registers} {fs e v : List ℕ} {k : ℕ} {a : List ℕ} 
         lines-as parse.Literal z x′ g o = rw g
         lines-as parse.Other z x′ g o = rw g
 
-        drafted : topFrame r fs .kind ≡ NodeElt → r .depth ≤ 64 → length fs ≡ 1152 → Waits x r ids used fs bs is w ia il st e v m k cs rs b
+        drafted : topFrame r fs .kind ≡ NodeElt → r .depth ≤ 64 → length fs ≡ TABLE → Waits x r ids used fs bs is w ia il st e v m k cs rs b
         drafted kd dp fw =
             rw is-so
             (waits y (opens y at) s (mk .keeps) (rd .event) (mk .gives) (base-of p (mk .parts) (mk .property) (t .properties) _) (tag-of p (mk .parts) (mk .property) (t .properties) _) (does-as p refl) li true (mk .property)

@@ -16,6 +16,7 @@ ghost use Rattle.starting.specs.Places.{JudgesRoot, opensAt};
 use element::Parts;
 use element::Source;
 use event::Place;
+use frames::Frame;
 use frames::Kind;
 use plan::Given;
 use plan::Plan;
@@ -173,7 +174,7 @@ fn judge_property(
 {
     let around = stack::top(r, frames);
     let has = around.has;
-    let numbers = has[6] as u64;
+    let numbers = has[Frame::COUNT] as u64;
     let iri = t.iri;
     let object = t.resource;
     let name = iri_text(iri, area);

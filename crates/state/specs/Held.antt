@@ -15,6 +15,7 @@ use Rattle.spec.specs.NTriples.{Subject, named, blank}
 use Rattle.spec.specs.Document.{Frame as Element, noObject, nodeObject, textObject, subjectBytes, objectBytes, valueBytes, kindBytes, bindingBytes, frameBytes, heldBytes}
 use Rattle.spec.proofs.Booleans.{and-left, and-right}
 use Rattle.copy.specs.Copy.{part, length-part}
+use Rattle.frames.specs.Parts.{NAME, BINDINGS, BASE, TAG, MAIN, ID, DATATYPE, TAIL, END, BASED, TAGGED, BLANK, IDENTIFIED, TYPED, PENDING}
 use Rattle.frames.specs.declared.Kind.{Kind}
 use Rattle.frames.specs.declared.Kind.the-variants.{Rdf, NodeElt, PropertyElt, ParseTypeCollectionPropertyElt, ParseTypeLiteralPropertyElt, ParseTypeOtherPropertyElt}
 use Rattle.frames.specs.declared.Frame.{Frame}
@@ -85,71 +86,71 @@ size-children w from (suc n) e h l =
 -- ---- elements
 
 pub record Parts (f : Frame) : Type 0 where
-  pub base : emptyOr (has f 0) (at f 2) (at f 3) ≡ true
-  pub tag : emptyOr (has f 1) (at f 3) (at f 4) ≡ true
-  pub id : emptyOr (has f 3) (at f 5) (at f 6) ≡ true
-  pub type : emptyOr (has f 4) (at f 6) (at f 7) ≡ true
+  pub base : emptyOr (has f BASED) (at f BASE) (at f TAG) ≡ true
+  pub tag : emptyOr (has f TAGGED) (at f TAG) (at f MAIN) ≡ true
+  pub id : emptyOr (has f IDENTIFIED) (at f ID) (at f DATATYPE) ≡ true
+  pub type : emptyOr (has f TYPED) (at f DATATYPE) (at f TAIL) ≡ true
 
 pub parts-of : (f : Frame) → partsOk f ≡ true → Parts f
 unfolding partsOk
 parts-of f h =
-    let h1 = and-right (emptyOr (has f 0) (at f 2) (at f 3)) _ h in
-    let h2 = and-right (emptyOr (has f 1) (at f 3) (at f 4)) _ h1 in
-    record { base = and-left _ _ h; tag = and-left _ _ h1; id = and-left _ _ h2; type = and-right (emptyOr (has f 3) (at f 5) (at f 6)) _ h2 }
+    let h1 = and-right (emptyOr (has f BASED) (at f BASE) (at f TAG)) _ h in
+    let h2 = and-right (emptyOr (has f TAGGED) (at f TAG) (at f MAIN)) _ h1 in
+    record { base = and-left _ _ h; tag = and-left _ _ h1; id = and-left _ _ h2; type = and-right (emptyOr (has f IDENTIFIED) (at f ID) (at f DATATYPE)) _ h2 }
 
-module _ (w : List ℕ) (f : Frame) (r : Rising f) (p : Parts f) (l : at f 8 ≤ length w) where
-  size-kind : (q : Kind) (s : Subject) → kindOk q f w ≡ true → at f 4 + kindBytes (whatOf q f w s) ≡ at f 8
+module _ (w : List ℕ) (f : Frame) (r : Rising f) (p : Parts f) (l : at f END ≤ length w) where
+  size-kind : (q : Kind) (s : Subject) → kindOk q f w ≡ true → at f MAIN + kindBytes (whatOf q f w s) ≡ at f END
   unfolding whatOf kindOk kindBytes valueBytes propertyOf subjectOf
-  size-kind Rdf s h = omega (arith, eqb-true (at f 4) (at f 8) h)
+  size-kind Rdf s h = omega (arith, eqb-true (at f MAIN) (at f END) h)
   size-kind NodeElt s h =
       omega (
         arith,
-        eqb-true (at f 5) (at f 8) (and-left (eqb (at f 5) (at f 8)) _ h),
-        size-node (has f 2) (span w (at f 4) (at f 5)),
-        length-span w (at f 4) (at f 5) (omega arith) (omega arith),
+        eqb-true (at f ID) (at f END) (and-left (eqb (at f ID) (at f END)) _ h),
+        size-node (has f BLANK) (span w (at f MAIN) (at f ID)),
+        length-span w (at f MAIN) (at f ID) (omega arith) (omega arith),
       )
   size-kind PropertyElt s h =
       omega (
         arith,
-        length-span w (at f 4) (at f 5) (omega arith) (omega arith),
-        size-optional w (has f 3) (at f 5) (at f 6) (p .id) (omega arith) (omega arith),
-        size-optional w (has f 4) (at f 6) (at f 7) (p .type) (omega arith) (omega arith),
-        size-object w (has f 5) (at f 7) (at f 8) h (omega arith) (omega arith),
+        length-span w (at f MAIN) (at f ID) (omega arith) (omega arith),
+        size-optional w (has f IDENTIFIED) (at f ID) (at f DATATYPE) (p .id) (omega arith) (omega arith),
+        size-optional w (has f TYPED) (at f DATATYPE) (at f TAIL) (p .type) (omega arith) (omega arith),
+        size-object w (has f PENDING) (at f TAIL) (at f END) h (omega arith) (omega arith),
       )
   size-kind ParseTypeCollectionPropertyElt s h =
       let c = collected f w h in
       omega (
         arith,
-        length-span w (at f 4) (at f 5) (omega arith) (omega arith),
-        size-optional w (has f 3) (at f 5) (at f 6) (p .id) (omega arith) (omega arith),
-        size-children w (at f 7) (count f) (at f 8) (c .children) (omega arith),
+        length-span w (at f MAIN) (at f ID) (omega arith) (omega arith),
+        size-optional w (has f IDENTIFIED) (at f ID) (at f DATATYPE) (p .id) (omega arith) (omega arith),
+        size-children w (at f TAIL) (count f) (at f END) (c .children) (omega arith),
         c .typed,
       )
   size-kind ParseTypeLiteralPropertyElt s h =
       omega (
         arith,
-        length-span w (at f 4) (at f 5) (omega arith) (omega arith),
-        size-optional w (has f 3) (at f 5) (at f 6) (p .id) (omega arith) (omega arith),
-        length-span w (at f 7) (at f 8) (omega arith) (omega arith),
-        eqb-true (at f 6) (at f 7) h,
+        length-span w (at f MAIN) (at f ID) (omega arith) (omega arith),
+        size-optional w (has f IDENTIFIED) (at f ID) (at f DATATYPE) (p .id) (omega arith) (omega arith),
+        length-span w (at f TAIL) (at f END) (omega arith) (omega arith),
+        eqb-true (at f DATATYPE) (at f TAIL) h,
       )
   size-kind ParseTypeOtherPropertyElt s h =
       omega (
         arith,
-        length-span w (at f 4) (at f 5) (omega arith) (omega arith),
-        size-optional w (has f 3) (at f 5) (at f 6) (p .id) (omega arith) (omega arith),
-        eqb-true (at f 6) (at f 8) h,
+        length-span w (at f MAIN) (at f ID) (omega arith) (omega arith),
+        size-optional w (has f IDENTIFIED) (at f ID) (at f DATATYPE) (p .id) (omega arith) (omega arith),
+        eqb-true (at f DATATYPE) (at f END) h,
       )
 
-  size-element : (bound : List Binding) (s : Subject) → at f 1 + total bindingBytes bound ≡ at f 2 → kindOk (f .kind) f w ≡ true
-      → at f 0 + frameBytes (elementOf f bound w s) ≡ at f 8
+  size-element : (bound : List Binding) (s : Subject) → at f BINDINGS + total bindingBytes bound ≡ at f BASE → kindOk (f .kind) f w ≡ true
+      → at f NAME + frameBytes (elementOf f bound w s) ≡ at f END
   unfolding elementOf frameBytes
   size-element bound s e h =
       omega (
         arith,
-        length-span w (at f 0) (at f 1) (omega arith) (omega arith),
-        size-optional w (has f 0) (at f 2) (at f 3) (p .base) (omega arith) (omega arith),
-        size-optional w (has f 1) (at f 3) (at f 4) (p .tag) (omega arith) (omega arith),
+        length-span w (at f NAME) (at f BINDINGS) (omega arith) (omega arith),
+        size-optional w (has f BASED) (at f BASE) (at f TAG) (p .base) (omega arith) (omega arith),
+        size-optional w (has f TAGGED) (at f TAG) (at f MAIN) (p .tag) (omega arith) (omega arith),
         size-kind (f .kind) s h,
       )
 
@@ -160,12 +161,12 @@ size-frames fs bs w base (suc n) top b h l =
     let s = top-sound fs bs w n top b base h in
     let e = s .ends in
     let r = rising (frameAt fs n) (s .up) in
-    let c : at (frameAt fs n) 1 + total bindingBytes (bindingsOf bs w (first (frameAt fs n)) (b - first (frameAt fs n))) ≡ at (frameAt fs n) 2 =
-    size-bindings bs w (first (frameAt fs n)) (b - first (frameAt fs n)) (at (frameAt fs n) 1) (at (frameAt fs n) 2) (s .bound) (omega arith) in
+    let c : at (frameAt fs n) BINDINGS + total bindingBytes (bindingsOf bs w (first (frameAt fs n)) (b - first (frameAt fs n))) ≡ at (frameAt fs n) BASE =
+    size-bindings bs w (first (frameAt fs n)) (b - first (frameAt fs n)) (at (frameAt fs n) BINDINGS) (at (frameAt fs n) BASE) (s .bound) (omega arith) in
     omega (
       arith,
       size-element w (frameAt fs n) r (parts-of (frameAt fs n) (s .parts)) (omega arith) (bindingsOf bs w (first (frameAt fs n)) (b - first (frameAt fs n))) (subjectBelow fs w n) c (s .kind),
-      size-frames fs bs w base n (at (frameAt fs n) 0) (first (frameAt fs n)) (rest-ok fs bs w n top b base h) (omega arith),
+      size-frames fs bs w base n (at (frameAt fs n) NAME) (first (frameAt fs n)) (rest-ok fs bs w n top b base h) (omega arith),
     )
 
 size-inners : (is bs w : List ℕ) (outer n low b : ℕ) → innersOk is bs outer n low b ≡ true → length w ≡ 65_536 → low + total frameBytes (innersOf is bs w n b) ≡ 65_536
@@ -204,7 +205,7 @@ frames-base fs bs w base (suc n) top b h =
     let s = top-sound fs bs w n top b base h in
     let e = s .ends in
     let r = rising (frameAt fs n) (s .up) in
-    omega (arith, frames-base fs bs w base n (at (frameAt fs n) 0) (first (frameAt fs n)) (rest-ok fs bs w n top b base h))
+    omega (arith, frames-base fs bs w base n (at (frameAt fs n) NAME) (first (frameAt fs n)) (rest-ok fs bs w n top b base h))
 
 -- what else is known of the registers of a valid state
 pub room : {r : Registers} {fs bs is w : List ℕ} → Valid r fs bs is w → Room r

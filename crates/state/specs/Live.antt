@@ -15,6 +15,7 @@ use Rattle.spec.specs.Limits.{workStoreBytes}
 use Rattle.spec.specs.Document.{Frame as Element, fresh, inScope}
 use Rattle.spec.proofs.Booleans.{and-right}
 use Rattle.copy.specs.Copy.{part}
+use Rattle.frames.specs.Parts.{NAME, BINDINGS, BASE, END, TABLE}
 use Rattle.frames.specs.declared.Frame.{Frame}
 use Rattle.frames.specs.Words.{pick, frameAt, rowAt}
 use Rattle.state.specs.declared.Registers.{Registers}
@@ -34,7 +35,7 @@ below j k = elim (decLt j k) [ yes p ↦ inl p | no q ↦ inr (omega arith) ]
 -- the places of a frame go up to `top` at most
 pub record Within (f : Frame) (top : ℕ) : Type 0 where
   pub up : Rising f
-  pub ends : at f 8 ≤ top
+  pub ends : at f END ≤ top
 
 pub within-frames : (fs bs w : List ℕ) (base n top b : ℕ) → framesOk fs bs w base n top b ≡ true → (i : ℕ) → i < n → Within (frameAt fs i) top
 within-frames fs bs w base zero top b h i l = absurd (not-suc-le-zero l)
@@ -44,7 +45,7 @@ within-frames fs bs w base (suc n) top b h i l =
     let z = s .ends in
     ⊎-elim
     (λ (k : i < n).
-    let j = within-frames fs bs w base n (at (frameAt fs n) 0) (first (frameAt fs n)) (rest-ok fs bs w n top b base h) i k in
+    let j = within-frames fs bs w base n (at (frameAt fs n) NAME) (first (frameAt fs n)) (rest-ok fs bs w n top b base h) i k in
     record { up = j .up; ends = omega (arith, j .ends) })
     (λ (e : i ≡ n). rw e (record { up = r; ends = omega arith }))
     (split i n l)
@@ -74,8 +75,8 @@ within-outer fs bs w base (suc n) top b h j l =
     let z = s .ends in
     let m = s .least in
     ⊎-elim
-    (λ (k : j < first (frameAt fs n)). omega (arith, within-outer fs bs w base n (at (frameAt fs n) 0) (first (frameAt fs n)) (rest-ok fs bs w n top b base h) j k))
-    (λ (k : first (frameAt fs n) ≤ j). omega (arith, within-chain bs (first (frameAt fs n)) (b - first (frameAt fs n)) (at (frameAt fs n) 1) (at (frameAt fs n) 2) (s .bound) j k (omega arith)))
+    (λ (k : j < first (frameAt fs n)). omega (arith, within-outer fs bs w base n (at (frameAt fs n) NAME) (first (frameAt fs n)) (rest-ok fs bs w n top b base h) j k))
+    (λ (k : first (frameAt fs n) ≤ j). omega (arith, within-chain bs (first (frameAt fs n)) (b - first (frameAt fs n)) (at (frameAt fs n) BINDINGS) (at (frameAt fs n) BASE) (s .bound) j k (omega arith)))
     (below j (first (frameAt fs n)))
 
 within-inner : (is bs : List ℕ) (outer n low b : ℕ) → innersOk is bs outer n low b ≡ true → (j : ℕ) → outer ≤ j → j < b → rowAt bs j .at + rowAt bs j .name + rowAt bs j .more ≤ 65_536
@@ -115,7 +116,7 @@ scope-frames fs bs w base (suc n) top b h =
     let s = top-sound fs bs w n top b base h in
     let m = s .least in
     let e : first (frameAt fs n) + (b - first (frameAt fs n)) ≡ b = omega arith in
-    rw (scope-frames fs bs w base n (at (frameAt fs n) 0) (first (frameAt fs n)) (rest-ok fs bs w n top b base h))
+    rw (scope-frames fs bs w base n (at (frameAt fs n) NAME) (first (frameAt fs n)) (rest-ok fs bs w n top b base h))
     (sym (bindings-join bs w (first (frameAt fs n)) (b - first (frameAt fs n))) ∙ ap (bindingsOf bs w 0) e)
 
 scope-inners : (is bs w : List ℕ) (outer n low b : ℕ) (es : List Element) → innersOk is bs outer n low b ≡ true → inScope es ≡ bindingsOf bs w 0 outer
@@ -148,7 +149,7 @@ noRegisters =
     record { closed = true; rooted = false; based = false; base = 0; depth = 0; inner = 0; outer = 0; bindings = 0; top = 0; low = 65_536; labels = 0 }
 
 -- whatever tables and store hold behind the start base
-pub started : (b : Bool) (n : ℕ) (fs bs is w : List ℕ) → length fs ≡ 1152 → length bs ≡ 384 → length is ≡ 192 → length w ≡ 65_536 → n ≤ 65_536 → pick b true (eqb n 0) ≡ true
+pub started : (b : Bool) (n : ℕ) (fs bs is w : List ℕ) → length fs ≡ TABLE → length bs ≡ 384 → length is ≡ 192 → length w ≡ 65_536 → n ≤ 65_536 → pick b true (eqb n 0) ≡ true
     → Valid (startedWith b n) fs bs is w
 unfolding framesOk innersOk workStoreBytes
 started b n fs bs is w lf lb li lw l e =

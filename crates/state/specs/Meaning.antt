@@ -10,6 +10,7 @@ use Rattle.spec.specs.NTriples.{Subject, named, blank}
 use Rattle.spec.specs.Document.{Object, noObject, nodeObject, textObject, default, collection, literal, other, Property, Doc}
 use Rattle.spec.specs.Document.{Kind as What, rdfRDF, nodeElement, propertyElement, xmlElement, Frame as Element}
 use Rattle.copy.specs.Copy.{part}
+use Rattle.frames.specs.Parts.{NAME, BINDINGS, BASE, TAG, MAIN, ID, DATATYPE, TAIL, END, BASED, TAGGED, BLANK, IDENTIFIED, TYPED, PENDING, COUNT, FIRST}
 use Rattle.frames.specs.declared.Kind.{Kind}
 use Rattle.frames.specs.declared.Kind.the-variants.{Rdf, NodeElt, PropertyElt, ParseTypeCollectionPropertyElt, ParseTypeLiteralPropertyElt, ParseTypeOtherPropertyElt}
 use Rattle.frames.specs.declared.Frame.{Frame}
@@ -29,11 +30,11 @@ has f k = getD (f .has) k 0
 
 -- rdf:li of a node, children of a Collection
 abbrev pub count : Frame → ℕ
-count f = has f 6
+count f = has f COUNT
 
 -- the first of its bindings in their table
 abbrev pub first : Frame → ℕ
-first f = has f 7
+first f = has f FIRST
 
 -- the bytes from a up to b
 unfoldable pub span : List ℕ → ℕ → ℕ → Bytes
@@ -81,28 +82,28 @@ bindingsOf bs w b (suc n) = bindingOf w (rowAt bs (b + n)) ∷ bindingsOf bs w b
 -- ---- open elements outside Literal content
 
 unfoldable pub subjectOf : Frame → List ℕ → Subject
-subjectOf f w = nodeOf (has f 2) (span w (at f 4) (at f 5))
+subjectOf f w = nodeOf (has f BLANK) (span w (at f MAIN) (at f ID))
 
 unfoldable pub propertyOf : Frame → List ℕ → Subject → Property
-propertyOf f w s = record { subject = s; iri = span w (at f 4) (at f 5); id = optional (has f 3) (span w (at f 5) (at f 6)) }
+propertyOf f w s = record { subject = s; iri = span w (at f MAIN) (at f ID); id = optional (has f IDENTIFIED) (span w (at f ID) (at f DATATYPE)) }
 
 -- by the kind; s is the subject of the element around it
 unfoldable pub whatOf : Kind → Frame → List ℕ → Subject → What
 whatOf Rdf f w s = rdfRDF
 whatOf NodeElt f w s = nodeElement (subjectOf f w) (count f)
 whatOf PropertyElt f w s =
-    propertyElement (propertyOf f w s) (default (optional (has f 4) (span w (at f 6) (at f 7))) (objectOf (has f 5) (span w (at f 7) (at f 8))))
-whatOf ParseTypeCollectionPropertyElt f w s = propertyElement (propertyOf f w s) (collection (childrenOf w (count f) (at f 8)))
-whatOf ParseTypeLiteralPropertyElt f w s = propertyElement (propertyOf f w s) (literal (span w (at f 7) (at f 8)))
+    propertyElement (propertyOf f w s) (default (optional (has f TYPED) (span w (at f DATATYPE) (at f TAIL))) (objectOf (has f PENDING) (span w (at f TAIL) (at f END))))
+whatOf ParseTypeCollectionPropertyElt f w s = propertyElement (propertyOf f w s) (collection (childrenOf w (count f) (at f END)))
+whatOf ParseTypeLiteralPropertyElt f w s = propertyElement (propertyOf f w s) (literal (span w (at f TAIL) (at f END)))
 whatOf ParseTypeOtherPropertyElt f w s = propertyElement (propertyOf f w s) other
 
 unfoldable pub elementOf : Frame → List Binding → List ℕ → Subject → Element
 elementOf f bound w s =
     record {
-      name = span w (at f 0) (at f 1);
+      name = span w (at f NAME) (at f BINDINGS);
       bindings = bound;
-      ownBase = optional (has f 0) (span w (at f 2) (at f 3));
-      ownTag = optional (has f 1) (span w (at f 3) (at f 4));
+      ownBase = optional (has f BASED) (span w (at f BASE) (at f TAG));
+      ownTag = optional (has f TAGGED) (span w (at f TAG) (at f MAIN));
       kind = whatOf (f .kind) f w s;
     }
 

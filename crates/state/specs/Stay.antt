@@ -11,6 +11,7 @@ use Rattle.spec.specs.Limits.{workStoreBytes}
 use Rattle.spec.proofs.Booleans.{and-left, and-right}
 use Rattle.spec.specs.Namespaces.{Binding}
 use Rattle.copy.specs.Copy.{part}
+use Rattle.frames.specs.Parts.{NAME, BINDINGS, BASE, TAG, MAIN, ID, DATATYPE, TAIL, END, FRAME}
 use Rattle.frames.specs.declared.Kind.{Kind}
 use Rattle.frames.specs.declared.Kind.the-variants.{Rdf, NodeElt, PropertyElt, ParseTypeCollectionPropertyElt, ParseTypeLiteralPropertyElt, ParseTypeOtherPropertyElt}
 use Rattle.frames.specs.declared.Frame.{Frame}
@@ -129,18 +130,18 @@ module _ {w v : List ℕ} {lo hi : ℕ} (k : Kept w v lo hi) where
 -- ---- an element
 
 pub record Collected (f : Frame) (w : List ℕ) : Type 0 where
-  pub typed : at f 6 ≡ at f 7
-  pub children : childrenOk w (at f 7) (count f) (at f 8) ≡ true
+  pub typed : at f DATATYPE ≡ at f TAIL
+  pub children : childrenOk w (at f TAIL) (count f) (at f END) ≡ true
 
 pub collected : (f : Frame) (w : List ℕ) → kindOk ParseTypeCollectionPropertyElt f w ≡ true → Collected f w
 unfolding kindOk
-collected f w h = record { typed = eqb-true _ _ (and-left (eqb (at f 6) (at f 7)) _ h); children = and-right (eqb (at f 6) (at f 7)) _ h }
+collected f w h = record { typed = eqb-true _ _ (and-left (eqb (at f DATATYPE) (at f TAIL)) _ h); children = and-right (eqb (at f DATATYPE) (at f TAIL)) _ h }
 
 pub collected-ok : (f : Frame) (w : List ℕ) → Collected f w → kindOk ParseTypeCollectionPropertyElt f w ≡ true
 unfolding kindOk
-collected-ok f w c = rw (eq-eqb (at f 6) (at f 7) (c .typed), c .children)
+collected-ok f w c = rw (eq-eqb (at f DATATYPE) (at f TAIL) (c .typed), c .children)
 
-module _ {w v : List ℕ} {hi : ℕ} (k : Kept w v 0 hi) (f : Frame) (r : Rising f) (b : at f 8 ≤ hi) where
+module _ {w v : List ℕ} {hi : ℕ} (k : Kept w v 0 hi) (f : Frame) (r : Rising f) (b : at f END ≤ hi) where
   pub kind-kept : (q : Kind) → kindOk q f w ≡ true → kindOk q f v ≡ true
   unfolding kindOk
   kind-kept Rdf h = h
@@ -148,18 +149,18 @@ module _ {w v : List ℕ} {hi : ℕ} (k : Kept w v 0 hi) (f : Frame) (r : Rising
   kind-kept PropertyElt h = h
   kind-kept ParseTypeCollectionPropertyElt h =
       let c = collected f w h in
-      collected-ok f v (record { typed = c .typed; children = children-ok-kept k (at f 7) (count f) (at f 8) (omega arith) b (c .children) })
+      collected-ok f v (record { typed = c .typed; children = children-ok-kept k (at f TAIL) (count f) (at f END) (omega arith) b (c .children) })
   kind-kept ParseTypeLiteralPropertyElt h = h
   kind-kept ParseTypeOtherPropertyElt h = h
 
   pub subject-kept : subjectOf f v ≡ subjectOf f w
   unfolding subjectOf
-  subject-kept = rw (span-kept k (at f 4) (at f 5) (omega arith) (omega arith) (omega arith))
+  subject-kept = rw (span-kept k (at f MAIN) (at f ID) (omega arith) (omega arith) (omega arith))
 
   property-kept : (s : Subject) → propertyOf f v s ≡ propertyOf f w s
   unfolding propertyOf
   property-kept s =
-      rw (span-kept k (at f 4) (at f 5) (omega arith) (omega arith) (omega arith), span-kept k (at f 5) (at f 6) (omega arith) (omega arith) (omega arith))
+      rw (span-kept k (at f MAIN) (at f ID) (omega arith) (omega arith) (omega arith), span-kept k (at f ID) (at f DATATYPE) (omega arith) (omega arith) (omega arith))
 
   what-kept : (q : Kind) (s : Subject) → kindOk q f w ≡ true → whatOf q f v s ≡ whatOf q f w s
   unfolding whatOf
@@ -168,12 +169,12 @@ module _ {w v : List ℕ} {hi : ℕ} (k : Kept w v 0 hi) (f : Frame) (r : Rising
   what-kept PropertyElt s h =
       rw (
         property-kept s,
-        span-kept k (at f 6) (at f 7) (omega arith) (omega arith) (omega arith),
-        span-kept k (at f 7) (at f 8) (omega arith) (omega arith) (omega arith),
+        span-kept k (at f DATATYPE) (at f TAIL) (omega arith) (omega arith) (omega arith),
+        span-kept k (at f TAIL) (at f END) (omega arith) (omega arith) (omega arith),
       )
   what-kept ParseTypeCollectionPropertyElt s h =
-      rw (property-kept s, children-kept k (at f 7) (count f) (at f 8) (omega arith) b (collected f w h .children))
-  what-kept ParseTypeLiteralPropertyElt s h = rw (property-kept s, span-kept k (at f 7) (at f 8) (omega arith) (omega arith) (omega arith))
+      rw (property-kept s, children-kept k (at f TAIL) (count f) (at f END) (omega arith) b (collected f w h .children))
+  what-kept ParseTypeLiteralPropertyElt s h = rw (property-kept s, span-kept k (at f TAIL) (at f END) (omega arith) (omega arith) (omega arith))
   what-kept ParseTypeOtherPropertyElt s h = rw (property-kept s)
 
   pub element-kept : (bound : List Binding) (s : Subject) → kindOk (f .kind) f w ≡ true → elementOf f bound v s ≡ elementOf f bound w s
@@ -181,18 +182,18 @@ module _ {w v : List ℕ} {hi : ℕ} (k : Kept w v 0 hi) (f : Frame) (r : Rising
   element-kept bound s h =
       rw (
         what-kept (f .kind) s h,
-        span-kept k (at f 0) (at f 1) (omega arith) (omega arith) (omega arith),
-        span-kept k (at f 2) (at f 3) (omega arith) (omega arith) (omega arith),
-        span-kept k (at f 3) (at f 4) (omega arith) (omega arith) (omega arith),
+        span-kept k (at f NAME) (at f BINDINGS) (omega arith) (omega arith) (omega arith),
+        span-kept k (at f BASE) (at f TAG) (omega arith) (omega arith) (omega arith),
+        span-kept k (at f TAG) (at f MAIN) (omega arith) (omega arith) (omega arith),
       )
 
 -- ---- elements outside Literal content
 
-pub stands-kept : {fs gs : List ℕ} (n : ℕ) → Kept fs gs 0 (n * 18) → (q : Kind) → stands q gs n ≡ stands q fs n
+pub stands-kept : {fs gs : List ℕ} (n : ℕ) → Kept fs gs 0 (n * FRAME) → (q : Kind) → stands q gs n ≡ stands q fs n
 unfolding stands nodeBelow
 stands-kept {fs} {gs} n k q = go q
   where
-    below : (n : ℕ) → Kept fs gs 0 (n * 18) → nodeBelow gs n ≡ nodeBelow fs n
+    below : (n : ℕ) → Kept fs gs 0 (n * FRAME) → nodeBelow gs n ≡ nodeBelow fs n
     below zero k = refl
     below (suc n) k = rw (frame-kept k n (omega arith) (omega arith))
 
@@ -205,7 +206,7 @@ stands-kept {fs} {gs} n k q = go q
     go ParseTypeOtherPropertyElt = below n k
 
 -- the subject of the element around
-pub below-kept : {fs gs w v : List ℕ} (bs : List ℕ) (base n top b : ℕ) → Kept fs gs 0 (n * 18) → Kept w v 0 top → framesOk fs bs w base n top b ≡ true → subjectBelow gs v n ≡ subjectBelow fs w n
+pub below-kept : {fs gs w v : List ℕ} (bs : List ℕ) (base n top b : ℕ) → Kept fs gs 0 (n * FRAME) → Kept w v 0 top → framesOk fs bs w base n top b ≡ true → subjectBelow gs v n ≡ subjectBelow fs w n
 unfolding subjectBelow
 below-kept bs base zero top b k m h = refl
 below-kept {fs} {gs} {w} {v} bs base (suc n) top b k m h =
@@ -214,7 +215,7 @@ below-kept {fs} {gs} {w} {v} bs base (suc n) top b k m h =
     rw (frame-kept k n (omega arith) (omega arith)) (subject-kept m (frameAt fs n) r (omega (arith, s .ends)))
 
 module _ {fs gs bs cs w v : List ℕ} (base : ℕ) where
-  pub sound-kept : (f : Frame) (n top b : ℕ) → Kept fs gs 0 (n * 18) → Kept bs cs 0 (b * 3) → Kept w v 0 top → Sound fs bs w f n top b → Sound gs cs v f n top b
+  pub sound-kept : (f : Frame) (n top b : ℕ) → Kept fs gs 0 (n * FRAME) → Kept bs cs 0 (b * 3) → Kept w v 0 top → Sound fs bs w f n top b → Sound gs cs v f n top b
   sound-kept f n top b k j m s =
       let l = s .least in
       record {
@@ -222,12 +223,12 @@ module _ {fs gs bs cs w v : List ℕ} (base : ℕ) where
         up = s .up;
         parts = s .parts;
         least = l;
-        bound = chained-kept j (first f) (b - first f) (at f 1) (at f 2) (omega arith) (omega arith) (s .bound);
+        bound = chained-kept j (first f) (b - first f) (at f BINDINGS) (at f BASE) (omega arith) (omega arith) (s .bound);
         kind = kind-kept m f (rising f (s .up)) (omega (arith, s .ends)) (f .kind) (s .kind);
         stood = stands-kept n k (f .kind) ∙ s .stood;
       }
 
-  pub frames-ok-kept : (n top b : ℕ) → Kept fs gs 0 (n * 18) → Kept bs cs 0 (b * 3) → Kept w v 0 top → framesOk fs bs w base n top b ≡ true
+  pub frames-ok-kept : (n top b : ℕ) → Kept fs gs 0 (n * FRAME) → Kept bs cs 0 (b * 3) → Kept w v 0 top → framesOk fs bs w base n top b ≡ true
       → framesOk gs cs v base n top b ≡ true
   unfolding framesOk
   frames-ok-kept zero top b k j m h = h
@@ -237,11 +238,11 @@ module _ {fs gs bs cs w v : List ℕ} (base : ℕ) where
       let l = s .least in
       let e : frameAt gs n ≡ frameAt fs n = frame-kept k n (omega arith) (omega arith) in
       let t : Sound gs cs v (frameAt fs n) n top b = sound-kept (frameAt fs n) n top b (kept-less k (omega arith) (omega arith)) j m s in
-      let i : framesOk gs cs v base n (at (frameAt fs n) 0) (first (frameAt fs n)) ≡ true =
-      frames-ok-kept n (at (frameAt fs n) 0) (first (frameAt fs n)) (kept-less k (omega arith) (omega arith)) (kept-less j (omega arith) (omega arith)) (kept-less m (omega arith) (omega (arith, s .ends))) (rest-ok fs bs w n top b base h) in
+      let i : framesOk gs cs v base n (at (frameAt fs n) NAME) (first (frameAt fs n)) ≡ true =
+      frames-ok-kept n (at (frameAt fs n) NAME) (first (frameAt fs n)) (kept-less k (omega arith) (omega arith)) (kept-less j (omega arith) (omega arith)) (kept-less m (omega arith) (omega (arith, s .ends))) (rest-ok fs bs w n top b base h) in
       frames-on gs cs v n top b base (rw e t) (rw e i)
 
-  pub frames-kept : (n top b : ℕ) → Kept fs gs 0 (n * 18) → Kept bs cs 0 (b * 3) → Kept w v 0 top → framesOk fs bs w base n top b ≡ true
+  pub frames-kept : (n top b : ℕ) → Kept fs gs 0 (n * FRAME) → Kept bs cs 0 (b * 3) → Kept w v 0 top → framesOk fs bs w base n top b ≡ true
       → framesOf gs cs v n b ≡ framesOf fs bs w n b
   unfolding framesOf
   frames-kept zero top b k j m h = refl
@@ -251,14 +252,14 @@ module _ {fs gs bs cs w v : List ℕ} (base : ℕ) where
       let l = s .least in
       let z = s .ends in
       let rest = rest-ok fs bs w n top b base h in
-      let m′ : Kept w v 0 (at (frameAt fs n) 0) = kept-less m (omega arith) (omega arith) in
-      let k′ : Kept fs gs 0 (n * 18) = kept-less k (omega arith) (omega arith) in
+      let m′ : Kept w v 0 (at (frameAt fs n) NAME) = kept-less m (omega arith) (omega arith) in
+      let k′ : Kept fs gs 0 (n * FRAME) = kept-less k (omega arith) (omega arith) in
       rw (
         frame-kept k n (omega arith) (omega arith),
-        below-kept bs base n (at (frameAt fs n) 0) (first (frameAt fs n)) k′ m′ rest,
-        bindings-kept j m (first (frameAt fs n)) (b - first (frameAt fs n)) (at (frameAt fs n) 1) (at (frameAt fs n) 2) (omega arith) (omega arith) (omega arith) (omega arith) (s .bound),
+        below-kept bs base n (at (frameAt fs n) NAME) (first (frameAt fs n)) k′ m′ rest,
+        bindings-kept j m (first (frameAt fs n)) (b - first (frameAt fs n)) (at (frameAt fs n) BINDINGS) (at (frameAt fs n) BASE) (omega arith) (omega arith) (omega arith) (omega arith) (s .bound),
         element-kept m (frameAt fs n) r (omega arith) (bindingsOf bs w (first (frameAt fs n)) (b - first (frameAt fs n))) (subjectBelow fs w n) (s .kind),
-        frames-kept n (at (frameAt fs n) 0) (first (frameAt fs n)) k′ (kept-less j (omega arith) (omega arith)) m′ rest,
+        frames-kept n (at (frameAt fs n) NAME) (first (frameAt fs n)) k′ (kept-less j (omega arith) (omega arith)) m′ rest,
       )
 
 -- ---- elements inside Literal content

@@ -10,6 +10,7 @@ use borrow.Author.Tests.{eqb-true, leb-true, eq-eqb, ne-eqb, le-leb, lt-leb, not
 use Rattle.spec.proofs.Booleans.{and-left, and-right}
 use Rattle.spec.specs.Limits.{mostLabels, mostOpenElements, mostBindings, workStoreBytes}
 use Rattle.copy.specs.Copy.{getD-part}
+use Rattle.frames.specs.Parts.{NAME, BINDINGS, BASE, END, FRAME, TABLE}
 use Rattle.frames.specs.declared.Frame.{Frame}
 use Rattle.frames.specs.declared.Row.{Row}
 use Rattle.frames.specs.Words.{pick, frameAt, rowAt, loadFrame, loadRow, load-frame, load-row}
@@ -30,7 +31,7 @@ positive (suc n) z = omega arith
 
 pub record Rose (l : List ℕ) (k : ℕ) : Type 0 where
   pub upto : k ≤ 8
-  pub rest : rises l 8 ≡ rises l k
+  pub rest : rises l END ≡ rises l k
 
 pub rose-begins : {l : List ℕ} → Rose l 8
 rose-begins = record { upto = omega arith; rest = refl }
@@ -39,7 +40,7 @@ module _ {l : List ℕ} {k : ℕ} (r : Rose l k) (h : 0 < k) where
   step : suc (k - 1) ≡ k
   step = omega arith
 
-  pub rose-stop : getD l k 0 < getD l (k - 1) 0 → false ≡ rises l 8
+  pub rose-stop : getD l k 0 < getD l (k - 1) 0 → false ≡ rises l END
   unfolding rises
   rose-stop b = sym (r .rest ∙ (before (rises l) k h ∙ rw (step, lt-leb (getD l (k - 1) 0) (getD l k 0) b)))
 
@@ -48,7 +49,7 @@ module _ {l : List ℕ} {k : ℕ} (r : Rose l k) (h : 0 < k) where
   rose-more b =
       record { upto = omega (arith, r .upto); rest = r .rest ∙ (before (rises l) k h ∙ rw (step, le-leb (getD l (k - 1) 0) (getD l k 0) b)) }
 
-pub rose-done : {l : List ℕ} {k : ℕ} → Rose l k → k ≤ 0 → true ≡ rises l 8
+pub rose-done : {l : List ℕ} {k : ℕ} → Rose l k → k ≤ 0 → true ≡ rises l END
 unfolding rises
 rose-done {l} {k} r h = let e : k ≡ 0 = omega arith in sym (r .rest ∙ rw e)
 
@@ -137,21 +138,21 @@ module _ (r : Registers) where
         labels-decide e = rw (le-leb (r .depth + r .inner) 64 d, le-leb (r .bindings) 128 b, le-leb (r .top) (r .low) t, e)
 
 module _ (fs bs is w : List ℕ) where
-  pub other-frames : (length fs ≡ 1152 → ⊥) → false ≡ lengthsOk fs bs is w
+  pub other-frames : (length fs ≡ TABLE → ⊥) → false ≡ lengthsOk fs bs is w
   unfolding lengthsOk mostOpenElements
-  other-frames h = rw (ne-eqb (length fs) 1152 h)
+  other-frames h = rw (ne-eqb (length fs) TABLE h)
 
-  pub other-bindings : length fs ≡ 1152 → (length bs ≡ 384 → ⊥) → false ≡ lengthsOk fs bs is w
+  pub other-bindings : length fs ≡ TABLE → (length bs ≡ 384 → ⊥) → false ≡ lengthsOk fs bs is w
   unfolding lengthsOk mostOpenElements mostBindings
-  other-bindings a h = rw (eq-eqb (length fs) 1152 a, ne-eqb (length bs) 384 h)
+  other-bindings a h = rw (eq-eqb (length fs) TABLE a, ne-eqb (length bs) 384 h)
 
-  pub other-inners : length fs ≡ 1152 → length bs ≡ 384 → (length is ≡ 192 → ⊥) → false ≡ lengthsOk fs bs is w
+  pub other-inners : length fs ≡ TABLE → length bs ≡ 384 → (length is ≡ 192 → ⊥) → false ≡ lengthsOk fs bs is w
   unfolding lengthsOk mostOpenElements mostBindings
-  other-inners a b h = rw (eq-eqb (length fs) 1152 a, eq-eqb (length bs) 384 b, ne-eqb (length is) 192 h)
+  other-inners a b h = rw (eq-eqb (length fs) TABLE a, eq-eqb (length bs) 384 b, ne-eqb (length is) 192 h)
 
-  pub store-decides : length fs ≡ 1152 → length bs ≡ 384 → length is ≡ 192 → eqb (length w) 65_536 ≡ lengthsOk fs bs is w
+  pub store-decides : length fs ≡ TABLE → length bs ≡ 384 → length is ≡ 192 → eqb (length w) 65_536 ≡ lengthsOk fs bs is w
   unfolding lengthsOk mostOpenElements mostBindings workStoreBytes
-  store-decides a b c = rw (eq-eqb (length fs) 1152 a, eq-eqb (length bs) 384 b, eq-eqb (length is) 192 c)
+  store-decides a b c = rw (eq-eqb (length fs) TABLE a, eq-eqb (length bs) 384 b, eq-eqb (length is) 192 c)
 
 -- ---- the element around, and where an inner element ends
 
@@ -169,7 +170,7 @@ pub no-node : (fs : List ℕ) (n : ℕ) → n ≡ 0 → false ≡ nodeBelow fs n
 unfolding nodeBelow
 no-node fs n e = rw e
 
-pub node-around : (fs : List ℕ) (n : ℕ) {f : Frame} → (n ≡ 0 → ⊥) → n * 18 ≤ length fs → f ≡ loadFrame fs (n - 1) → isNode (f .kind) ≡ nodeBelow fs n
+pub node-around : (fs : List ℕ) (n : ℕ) {f : Frame} → (n ≡ 0 → ⊥) → n * FRAME ≤ length fs → f ≡ loadFrame fs (n - 1) → isNode (f .kind) ≡ nodeBelow fs n
 unfolding nodeBelow
 node-around fs n {f} z h e =
     let p : 0 < n = positive n z in
@@ -187,38 +188,38 @@ no {a} e h = sym e ∙ not-true a h
 
 module _ (fs bs w : List ℕ) (n top b : ℕ) {f : Frame} (e : f ≡ frameAt fs n) where
   tested : elementOk fs bs w n top b
-      ≡ (eqb (at f 8) top
-      && (rises (f .at) 8
+      ≡ (eqb (at f END) top
+      && (rises (f .at) END
       && (partsOk f
-      && (leb (first f) b && (chained bs (first f) (b - first f) (at f 1) (at f 2) && (kindOk (f .kind) f w && stands (f .kind) fs n))))))
+      && (leb (first f) b && (chained bs (first f) (b - first f) (at f BINDINGS) (at f BASE) && (kindOk (f .kind) f w && stands (f .kind) fs n))))))
   unfolding elementOk
   tested = rw e
 
-  pub ends-elsewhere : (at f 8 ≡ top → ⊥) → false ≡ elementOk fs bs w n top b
-  ends-elsewhere h = sym (tested ∙ rw (ne-eqb (at f 8) top h))
+  pub ends-elsewhere : (at f END ≡ top → ⊥) → false ≡ elementOk fs bs w n top b
+  ends-elsewhere h = sym (tested ∙ rw (ne-eqb (at f END) top h))
 
-  module _ (t : at f 8 ≡ top) where
-    pub falls : rises (f .at) 8 ≡ false → false ≡ elementOk fs bs w n top b
-    falls h = sym (tested ∙ rw (eq-eqb (at f 8) top t, h))
+  module _ (t : at f END ≡ top) where
+    pub falls : rises (f .at) END ≡ false → false ≡ elementOk fs bs w n top b
+    falls h = sym (tested ∙ rw (eq-eqb (at f END) top t, h))
 
-    module _ (u : rises (f .at) 8 ≡ true) where
+    module _ (u : rises (f .at) END ≡ true) where
       pub part-left : partsOk f ≡ false → false ≡ elementOk fs bs w n top b
-      part-left h = sym (tested ∙ rw (eq-eqb (at f 8) top t, u, h))
+      part-left h = sym (tested ∙ rw (eq-eqb (at f END) top t, u, h))
 
       module _ (p : partsOk f ≡ true) where
         pub bindings-beyond : b < first f → false ≡ elementOk fs bs w n top b
-        bindings-beyond h = sym (tested ∙ rw (eq-eqb (at f 8) top t, u, p, lt-leb (first f) b h))
+        bindings-beyond h = sym (tested ∙ rw (eq-eqb (at f END) top t, u, p, lt-leb (first f) b h))
 
         module _ (l : first f ≤ b) where
-          pub not-chained : chained bs (first f) (b - first f) (at f 1) (at f 2) ≡ false → false ≡ elementOk fs bs w n top b
-          not-chained h = sym (tested ∙ rw (eq-eqb (at f 8) top t, u, p, le-leb (first f) b l, h))
+          pub not-chained : chained bs (first f) (b - first f) (at f BINDINGS) (at f BASE) ≡ false → false ≡ elementOk fs bs w n top b
+          not-chained h = sym (tested ∙ rw (eq-eqb (at f END) top t, u, p, le-leb (first f) b l, h))
 
-          module _ (c : chained bs (first f) (b - first f) (at f 1) (at f 2) ≡ true) where
+          module _ (c : chained bs (first f) (b - first f) (at f BINDINGS) (at f BASE) ≡ true) where
             pub kind-wrong : kindOk (f .kind) f w ≡ false → false ≡ elementOk fs bs w n top b
-            kind-wrong h = sym (tested ∙ rw (eq-eqb (at f 8) top t, u, p, le-leb (first f) b l, c, h))
+            kind-wrong h = sym (tested ∙ rw (eq-eqb (at f END) top t, u, p, le-leb (first f) b l, c, h))
 
             pub around-decides : kindOk (f .kind) f w ≡ true → {r : Bool} → r ≡ stands (f .kind) fs n → r ≡ elementOk fs bs w n top b
-            around-decides h q = sym (tested ∙ (rw (eq-eqb (at f 8) top t, u, p, le-leb (first f) b l, c, h) (sym q)))
+            around-decides h q = sym (tested ∙ (rw (eq-eqb (at f END) top t, u, p, le-leb (first f) b l, c, h) (sym q)))
 
 -- ---- elements outside Literal content
 
@@ -236,7 +237,7 @@ module _ {fs bs w : List ℕ} {base n top b i t c : ℕ} (k : FrameWalk fs bs w 
   unfolding framesOk
   frame-stop h x = sym (k .rest ∙ (before (λ (j : ℕ). framesOk fs bs w base j t c) i h ∙ rw x))
 
-  pub frame-more : 0 < i → elementOk fs bs w (i - 1) t c ≡ true → {f : Frame} → f ≡ frameAt fs (i - 1) → FrameWalk fs bs w base n top b (i - 1) (at f 0) (first f)
+  pub frame-more : 0 < i → elementOk fs bs w (i - 1) t c ≡ true → {f : Frame} → f ≡ frameAt fs (i - 1) → FrameWalk fs bs w base n top b (i - 1) (at f NAME) (first f)
   unfolding framesOk
   frame-more h x {f} e =
       let s = element-sound fs bs w (i - 1) t c x in
@@ -307,7 +308,7 @@ module _ {is bs : List ℕ} {outer n low b i l c : ℕ} (k : InnerWalk is bs out
 
 -- what lengths and counts say of what is looked at next
 pub record Sized (r : Registers) (fs bs is w : List ℕ) : Type 0 where
-  pub frames : length fs ≡ 1152
+  pub frames : length fs ≡ TABLE
   pub bindings : length bs ≡ 384
   pub inners : length is ≡ 192
   pub store : length w ≡ 65_536
@@ -329,7 +330,7 @@ module _ (r : Registers) (fs bs is w : List ℕ) where
       pub sized : Sized r fs bs is w
       unfolding lengthsOk countsOk mostOpenElements mostBindings workStoreBytes
       sized =
-          let l1 = and-right (eqb (length fs) 1152) _ l in
+          let l1 = and-right (eqb (length fs) TABLE) _ l in
           let l2 = and-right (eqb (length bs) 384) _ l1 in
           let c1 = and-right (leb (r .depth + r .inner) 64) _ c in
           let c2 = and-right (leb (r .bindings) 128) _ c1 in
@@ -352,7 +353,7 @@ module _ (r : Registers) (fs bs is w : List ℕ) where
         unfolding validState
         frames-decide e = rw (l, c, i) e
 
-        pub frames-fit : (r .depth * 18 ≤ length fs) × (r .outer * 3 ≤ length bs) × (r .top ≤ length w)
+        pub frames-fit : (r .depth * FRAME ≤ length fs) × (r .outer * 3 ≤ length bs) × (r .top ≤ length w)
         frames-fit =
             let s = sized in
             let u = inners-up is bs (r .outer) (r .inner) (r .low) (r .bindings) i in

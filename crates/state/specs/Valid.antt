@@ -8,6 +8,7 @@ use lib.ListN.{length, getD}
 use borrow.Author.Tests.{eqb-true, leb-true, eq-eqb, le-leb}
 use Rattle.spec.specs.Limits.{mostLabels, mostOpenElements, mostBindings, workStoreBytes}
 use Rattle.spec.proofs.Booleans.{and-left, and-right}
+use Rattle.frames.specs.Parts.{NAME, BINDINGS, BASE, TAG, MAIN, ID, DATATYPE, TAIL, END, BASED, TAGGED, IDENTIFIED, TYPED, PENDING, FRAME, TABLE}
 use Rattle.frames.specs.declared.Kind.{Kind}
 use Rattle.frames.specs.declared.Kind.the-variants.{Rdf, NodeElt, PropertyElt, ParseTypeCollectionPropertyElt, ParseTypeLiteralPropertyElt, ParseTypeOtherPropertyElt}
 use Rattle.frames.specs.declared.Frame.{Frame}
@@ -30,8 +31,8 @@ emptyOr h a b = pick (eqb h 0) (eqb a b) true
 -- base, tag, rdf:ID, datatype
 unfoldable pub partsOk : Frame → Bool
 partsOk f =
-    emptyOr (has f 0) (at f 2) (at f 3)
-    && (emptyOr (has f 1) (at f 3) (at f 4) && (emptyOr (has f 3) (at f 5) (at f 6) && emptyOr (has f 4) (at f 6) (at f 7)))
+    emptyOr (has f BASED) (at f BASE) (at f TAG)
+    && (emptyOr (has f TAGGED) (at f TAG) (at f MAIN) && (emptyOr (has f IDENTIFIED) (at f ID) (at f DATATYPE) && emptyOr (has f TYPED) (at f DATATYPE) (at f TAIL)))
 
 -- n bindings from b on lie end to end from `from` up to `to`
 unfoldable pub chained : List ℕ → ℕ → ℕ → ℕ → ℕ → Bool
@@ -45,12 +46,12 @@ childrenOk w from (suc n) e = leb (from + 4 + childSize w e) e && childrenOk w f
 
 -- what its kind does not have is empty
 unfoldable pub kindOk : Kind → Frame → List ℕ → Bool
-kindOk Rdf f w = eqb (at f 4) (at f 8)
-kindOk NodeElt f w = eqb (at f 5) (at f 8) && leb (count f) mostLabels
-kindOk PropertyElt f w = emptyOr (has f 5) (at f 7) (at f 8)
-kindOk ParseTypeCollectionPropertyElt f w = eqb (at f 6) (at f 7) && childrenOk w (at f 7) (count f) (at f 8)
-kindOk ParseTypeLiteralPropertyElt f w = eqb (at f 6) (at f 7)
-kindOk ParseTypeOtherPropertyElt f w = eqb (at f 6) (at f 8)
+kindOk Rdf f w = eqb (at f MAIN) (at f END)
+kindOk NodeElt f w = eqb (at f ID) (at f END) && leb (count f) mostLabels
+kindOk PropertyElt f w = emptyOr (has f PENDING) (at f TAIL) (at f END)
+kindOk ParseTypeCollectionPropertyElt f w = eqb (at f DATATYPE) (at f TAIL) && childrenOk w (at f TAIL) (count f) (at f END)
+kindOk ParseTypeLiteralPropertyElt f w = eqb (at f DATATYPE) (at f TAIL)
+kindOk ParseTypeOtherPropertyElt f w = eqb (at f DATATYPE) (at f END)
 
 unfoldable pub isNode : Kind → Bool
 isNode Rdf = false
@@ -77,11 +78,11 @@ stands ParseTypeOtherPropertyElt fs n = nodeBelow fs n
 -- element n, which ends at top, with bindings up to b
 unfoldable pub elementOk : List ℕ → List ℕ → List ℕ → ℕ → ℕ → ℕ → Bool
 elementOk fs bs w n top b =
-    eqb (at (frameAt fs n) 8) top
-    && (rises (frameAt fs n .at) 8
+    eqb (at (frameAt fs n) END) top
+    && (rises (frameAt fs n .at) END
     && (partsOk (frameAt fs n)
     && (leb (first (frameAt fs n)) b
-    && (chained bs (first (frameAt fs n)) (b - first (frameAt fs n)) (at (frameAt fs n) 1) (at (frameAt fs n) 2)
+    && (chained bs (first (frameAt fs n)) (b - first (frameAt fs n)) (at (frameAt fs n) BINDINGS) (at (frameAt fs n) BASE)
     && (kindOk (frameAt fs n .kind) (frameAt fs n) w && stands (frameAt fs n .kind) fs n)))))
 
 -- ---- all elements
@@ -89,7 +90,7 @@ elementOk fs bs w n top b =
 -- n elements outside Literal content, end to end from the start base up to top, with bindings up to b
 unfoldable pub framesOk : List ℕ → List ℕ → List ℕ → ℕ → ℕ → ℕ → ℕ → Bool
 framesOk fs bs w base zero top b = eqb base top && eqb b 0
-framesOk fs bs w base (suc n) top b = elementOk fs bs w n top b && framesOk fs bs w base n (at (frameAt fs n) 0) (first (frameAt fs n))
+framesOk fs bs w base (suc n) top b = elementOk fs bs w n top b && framesOk fs bs w base n (at (frameAt fs n) NAME) (first (frameAt fs n))
 
 -- where inner element n ends
 unfoldable pub ceiling : List ℕ → ℕ → ℕ
@@ -114,7 +115,7 @@ countsOk r =
 
 unfoldable pub lengthsOk : List ℕ → List ℕ → List ℕ → List ℕ → Bool
 lengthsOk fs bs is w =
-    eqb (length fs) (mostOpenElements * 18) && (eqb (length bs) (mostBindings * 3) && (eqb (length is) (mostOpenElements * 3) && eqb (length w) workStoreBytes))
+    eqb (length fs) (mostOpenElements * FRAME) && (eqb (length bs) (mostBindings * 3) && (eqb (length is) (mostOpenElements * 3) && eqb (length w) workStoreBytes))
 
 unfoldable pub validState : Registers → List ℕ → List ℕ → List ℕ → List ℕ → Bool
 validState r fs bs is w =
@@ -124,22 +125,22 @@ validState r fs bs is w =
 -- ---- the same as facts
 
 pub record Rising (f : Frame) : Type 0 where
-  pub name : at f 0 ≤ at f 1
-  pub bindings : at f 1 ≤ at f 2
-  pub base : at f 2 ≤ at f 3
-  pub tag : at f 3 ≤ at f 4
-  pub main : at f 4 ≤ at f 5
-  pub id : at f 5 ≤ at f 6
-  pub type : at f 6 ≤ at f 7
-  pub tail : at f 7 ≤ at f 8
+  pub name : at f NAME ≤ at f BINDINGS
+  pub bindings : at f BINDINGS ≤ at f BASE
+  pub base : at f BASE ≤ at f TAG
+  pub tag : at f TAG ≤ at f MAIN
+  pub main : at f MAIN ≤ at f ID
+  pub id : at f ID ≤ at f DATATYPE
+  pub type : at f DATATYPE ≤ at f TAIL
+  pub tail : at f TAIL ≤ at f END
 
 -- element f is number n, ends at top, and has bindings up to b
 pub record Sound (fs bs w : List ℕ) (f : Frame) (n top b : ℕ) : Type 0 where
-  pub ends : at f 8 ≡ top
-  pub up : rises (f .at) 8 ≡ true
+  pub ends : at f END ≡ top
+  pub up : rises (f .at) END ≡ true
   pub parts : partsOk f ≡ true
   pub least : first f ≤ b
-  pub bound : chained bs (first f) (b - first f) (at f 1) (at f 2) ≡ true
+  pub bound : chained bs (first f) (b - first f) (at f BINDINGS) (at f BASE) ≡ true
   pub kind : kindOk (f .kind) f w ≡ true
   pub stood : stands (f .kind) fs n ≡ true
 
@@ -150,7 +151,7 @@ pub record Inside (is bs : List ℕ) (r : Row) (n low b : ℕ) : Type 0 where
   pub bound : chained bs (r .more) (b - r .more) (r .at + r .name) (ceiling is n) ≡ true
 
 pub record Valid (r : Registers) (fs bs is w : List ℕ) : Type 0 where
-  pub frameWords : length fs ≡ 1152
+  pub frameWords : length fs ≡ TABLE
   pub bindingWords : length bs ≡ 384
   pub innerWords : length is ≡ 192
   pub store : length w ≡ 65_536
@@ -162,16 +163,16 @@ pub record Valid (r : Registers) (fs bs is w : List ℕ) : Type 0 where
   pub frames : framesOk fs bs w (r .base) (r .depth) (r .top) (r .outer) ≡ true
   pub inners : innersOk is bs (r .outer) (r .inner) (r .low) (r .bindings) ≡ true
 
-pub rising : (f : Frame) → rises (f .at) 8 ≡ true → Rising f
+pub rising : (f : Frame) → rises (f .at) END ≡ true → Rising f
 unfolding rises
 rising f h0 =
-    let h1 = and-right (leb (at f 7) (at f 8)) _ h0 in
-    let h2 = and-right (leb (at f 6) (at f 7)) _ h1 in
-    let h3 = and-right (leb (at f 5) (at f 6)) _ h2 in
-    let h4 = and-right (leb (at f 4) (at f 5)) _ h3 in
-    let h5 = and-right (leb (at f 3) (at f 4)) _ h4 in
-    let h6 = and-right (leb (at f 2) (at f 3)) _ h5 in
-    let h7 = and-right (leb (at f 1) (at f 2)) _ h6 in
+    let h1 = and-right (leb (at f TAIL) (at f END)) _ h0 in
+    let h2 = and-right (leb (at f DATATYPE) (at f TAIL)) _ h1 in
+    let h3 = and-right (leb (at f ID) (at f DATATYPE)) _ h2 in
+    let h4 = and-right (leb (at f MAIN) (at f ID)) _ h3 in
+    let h5 = and-right (leb (at f TAG) (at f MAIN)) _ h4 in
+    let h6 = and-right (leb (at f BASE) (at f TAG)) _ h5 in
+    let h7 = and-right (leb (at f BINDINGS) (at f BASE)) _ h6 in
     record {
       name = leb-true _ _ (and-left _ _ h7);
       bindings = leb-true _ _ (and-left _ _ h6);
@@ -183,29 +184,29 @@ rising f h0 =
       tail = leb-true _ _ (and-left _ _ h0);
     }
 
-pub rises-up : (f : Frame) → Rising f → rises (f .at) 8 ≡ true
+pub rises-up : (f : Frame) → Rising f → rises (f .at) END ≡ true
 unfolding rises
 rises-up f h =
     rw (
-      le-leb (at f 7) (at f 8) (h .tail),
-      le-leb (at f 6) (at f 7) (h .type),
-      le-leb (at f 5) (at f 6) (h .id),
-      le-leb (at f 4) (at f 5) (h .main),
-      le-leb (at f 3) (at f 4) (h .tag),
-      le-leb (at f 2) (at f 3) (h .base),
-      le-leb (at f 1) (at f 2) (h .bindings),
-      le-leb (at f 0) (at f 1) (h .name),
+      le-leb (at f TAIL) (at f END) (h .tail),
+      le-leb (at f DATATYPE) (at f TAIL) (h .type),
+      le-leb (at f ID) (at f DATATYPE) (h .id),
+      le-leb (at f MAIN) (at f ID) (h .main),
+      le-leb (at f TAG) (at f MAIN) (h .tag),
+      le-leb (at f BASE) (at f TAG) (h .base),
+      le-leb (at f BINDINGS) (at f BASE) (h .bindings),
+      le-leb (at f NAME) (at f BINDINGS) (h .name),
     )
 
 module _ (fs bs w : List ℕ) (n top b : ℕ) where
   pub element-sound : elementOk fs bs w n top b ≡ true → Sound fs bs w (frameAt fs n) n top b
   unfolding elementOk
   element-sound h0 =
-      let h1 = and-right (eqb (at (frameAt fs n) 8) top) _ h0 in
-      let h2 = and-right (rises (frameAt fs n .at) 8) _ h1 in
+      let h1 = and-right (eqb (at (frameAt fs n) END) top) _ h0 in
+      let h2 = and-right (rises (frameAt fs n .at) END) _ h1 in
       let h3 = and-right (partsOk (frameAt fs n)) _ h2 in
       let h4 = and-right (leb (first (frameAt fs n)) b) _ h3 in
-      let h5 = and-right (chained bs (first (frameAt fs n)) (b - first (frameAt fs n)) (at (frameAt fs n) 1) (at (frameAt fs n) 2)) _ h4 in
+      let h5 = and-right (chained bs (first (frameAt fs n)) (b - first (frameAt fs n)) (at (frameAt fs n) BINDINGS) (at (frameAt fs n) BASE)) _ h4 in
       record {
         ends = eqb-true _ _ (and-left _ _ h0);
         up = and-left _ _ h1;
@@ -220,7 +221,7 @@ module _ (fs bs w : List ℕ) (n top b : ℕ) where
   unfolding elementOk
   sound-element s =
       rw (
-        eq-eqb (at (frameAt fs n) 8) top (s .ends),
+        eq-eqb (at (frameAt fs n) END) top (s .ends),
         s .up,
         s .parts,
         le-leb (first (frameAt fs n)) b (s .least),
@@ -234,11 +235,11 @@ module _ (fs bs w : List ℕ) (n top b : ℕ) where
     unfolding framesOk
     top-sound = element-sound (and-left (elementOk fs bs w n top b) _ h)
 
-    pub rest-ok : framesOk fs bs w base n (at (frameAt fs n) 0) (first (frameAt fs n)) ≡ true
+    pub rest-ok : framesOk fs bs w base n (at (frameAt fs n) NAME) (first (frameAt fs n)) ≡ true
     unfolding framesOk
     rest-ok = and-right (elementOk fs bs w n top b) _ h
 
-  pub frames-on : (base : ℕ) → Sound fs bs w (frameAt fs n) n top b → framesOk fs bs w base n (at (frameAt fs n) 0) (first (frameAt fs n)) ≡ true
+  pub frames-on : (base : ℕ) → Sound fs bs w (frameAt fs n) n top b → framesOk fs bs w base n (at (frameAt fs n) NAME) (first (frameAt fs n)) ≡ true
       → framesOk fs bs w base (suc n) top b ≡ true
   unfolding framesOk
   frames-on base s h = rw (sound-element s, h)
@@ -270,7 +271,7 @@ module _ (r : Registers) (fs bs is w : List ℕ) where
   unfolding validState countsOk lengthsOk mostOpenElements mostBindings workStoreBytes mostLabels
   valid-is h =
       let l = and-left (lengthsOk fs bs is w) _ h in
-      let l1 = and-right (eqb (length fs) 1152) _ l in
+      let l1 = and-right (eqb (length fs) TABLE) _ l in
       let l2 = and-right (eqb (length bs) 384) _ l1 in
       let h1 = and-right (lengthsOk fs bs is w) _ h in
       let c = and-left (countsOk r) _ h1 in
@@ -296,7 +297,7 @@ module _ (r : Registers) (fs bs is w : List ℕ) where
   unfolding validState countsOk lengthsOk mostOpenElements mostBindings workStoreBytes mostLabels
   is-valid v =
       rw (
-        eq-eqb (length fs) 1152 (v .frameWords),
+        eq-eqb (length fs) TABLE (v .frameWords),
         eq-eqb (length bs) 384 (v .bindingWords),
         eq-eqb (length is) 192 (v .innerWords),
         eq-eqb (length w) 65_536 (v .store),

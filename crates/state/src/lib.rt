@@ -5,6 +5,7 @@ ghost use Prim.Native.Nat.{_+_, _-_, _*_, _≤_, _<_};
 ghost use mathlib.Core.Bool.{true};
 ghost use lib.Dec.{eqb};
 ghost use lib.ListN.{length};
+ghost use Rattle.frames.specs.Parts.{END, FRAME};
 ghost use Rattle.frames.specs.Words.{pick};
 ghost use Rattle.state.specs.Meaning.{at, childSize};
 ghost use Rattle.state.specs.Valid.{rises, emptyOr, partsOk, chained, childrenOk, kindOk, isNode, nodeBelow, stands, elementOk, framesOk, ceiling, innersOk, countsOk, lengthsOk, validState};
@@ -197,7 +198,7 @@ fn frames_ok(
     top: usize,
     outer: usize,
 ) -> bool
-    requires { ⌜ (depth * 18 ≤ length (now frames)) × (outer * 3 ≤ length (now bindings)) × (top ≤ length (now work)) ⌝ }
+    requires { ⌜ (depth * FRAME ≤ length (now frames)) × (outer * 3 ≤ length (now bindings)) × (top ≤ length (now work)) ⌝ }
     ensures { λ r. ⌜ r ≡ framesOk (now (frames .entry)) (now (bindings .entry)) (now (work .entry)) base depth top outer ⌝ }
 {
     let mut i = depth;
@@ -211,8 +212,8 @@ fn frames_ok(
         let f = Frame::load(frames, i);
         let at = f.at;
         let has = f.has;
-        t = wide(at[0]);
-        b = wide(has[7]);
+        t = wide(at[Frame::NAME]);
+        b = wide(has[Frame::FIRST]);
     }
     if base != t {
         return false;
@@ -222,15 +223,15 @@ fn frames_ok(
 
 // One element, which ends at `top` and has bindings up to `b`.
 fn element_ok(frames: &[u32], bindings: &[u32], work: &[u8], n: usize, top: usize, b: usize) -> bool
-    requires { ⌜ (n * 18 + 18 ≤ length (now frames)) × (b * 3 ≤ length (now bindings)) × (top ≤ length (now work)) ⌝ }
+    requires { ⌜ (n * FRAME + FRAME ≤ length (now frames)) × (b * 3 ≤ length (now bindings)) × (top ≤ length (now work)) ⌝ }
     ensures { λ r. ⌜ r ≡ elementOk (now (frames .entry)) (now (bindings .entry)) (now (work .entry)) n top b ⌝ }
 {
     let f = Frame::load(frames, n);
     let kind = f.kind;
     let at = f.at;
     let has = f.has;
-    let first = wide(has[7]);
-    if wide(at[8]) != top {
+    let first = wide(has[Frame::FIRST]);
+    if wide(at[Frame::END]) != top {
         return false;
     }
     if !rises(at) {
@@ -242,7 +243,7 @@ fn element_ok(frames: &[u32], bindings: &[u32], work: &[u8], n: usize, top: usiz
     if b < first {
         return false;
     }
-    if !chained(bindings, first, b - first, wide(at[1]), wide(at[2])) {
+    if !chained(bindings, first, b - first, wide(at[Frame::BINDINGS]), wide(at[Frame::BASE])) {
         return false;
     }
     if !kind_ok(f, work) {
@@ -252,8 +253,8 @@ fn element_ok(frames: &[u32], bindings: &[u32], work: &[u8], n: usize, top: usiz
 }
 
 // Do the nine places go up?
-fn rises(at: [u32; 9]) -> bool
-    ensures { λ r. ⌜ r ≡ rises at 8 ⌝ }
+fn rises(at: [u32; Frame::PLACES]) -> bool
+    ensures { λ r. ⌜ r ≡ rises at END ⌝ }
 {
     let mut k: usize = 8;
     while k > 0 {
@@ -277,10 +278,10 @@ fn parts_ok(f: Frame) -> bool
 {
     let at = f.at;
     let has = f.has;
-    let a = empty_or(has[0], at[2], at[3]);
-    let b = empty_or(has[1], at[3], at[4]);
-    let c = empty_or(has[3], at[5], at[6]);
-    let d = empty_or(has[4], at[6], at[7]);
+    let a = empty_or(has[Frame::BASED], at[Frame::BASE], at[Frame::TAG]);
+    let b = empty_or(has[Frame::TAGGED], at[Frame::TAG], at[Frame::MAIN]);
+    let c = empty_or(has[Frame::IDENTIFIED], at[Frame::ID], at[Frame::DATATYPE]);
+    let d = empty_or(has[Frame::TYPED], at[Frame::DATATYPE], at[Frame::TAIL]);
     a & (b & (c & d))
 }
 
@@ -326,29 +327,29 @@ fn children_ok(work: &[u8], from: usize, n: usize, to: usize) -> bool
 
 // What its kind does not have is empty.
 fn kind_ok(f: Frame, work: &[u8]) -> bool
-    requires { ⌜ at f 8 ≤ length (now work) ⌝ }
+    requires { ⌜ at f END ≤ length (now work) ⌝ }
     ensures { λ r. ⌜ r ≡ kindOk (f .kind) f (now (work .entry)) ⌝ }
 {
     let kind = f.kind;
     let at = f.at;
     let has = f.has;
     match kind {
-        Kind::Rdf => at[4] == at[8],
+        Kind::Rdf => at[Frame::MAIN] == at[Frame::END],
         Kind::NodeElt => {
-            if at[5] != at[8] {
+            if at[Frame::ID] != at[Frame::END] {
                 return false;
             }
-            has[6] as u64 <= BlankNodeIdGenerator::MOST_LABELS
+            has[Frame::COUNT] as u64 <= BlankNodeIdGenerator::MOST_LABELS
         }
-        Kind::PropertyElt => empty_or(has[5], at[7], at[8]),
+        Kind::PropertyElt => empty_or(has[Frame::PENDING], at[Frame::TAIL], at[Frame::END]),
         Kind::ParseTypeCollectionPropertyElt => {
-            if at[6] != at[7] {
+            if at[Frame::DATATYPE] != at[Frame::TAIL] {
                 return false;
             }
-            children_ok(work, wide(at[7]), wide(has[6]), wide(at[8]))
+            children_ok(work, wide(at[Frame::TAIL]), wide(has[Frame::COUNT]), wide(at[Frame::END]))
         }
-        Kind::ParseTypeLiteralPropertyElt => at[6] == at[7],
-        Kind::ParseTypeOtherPropertyElt => at[6] == at[8],
+        Kind::ParseTypeLiteralPropertyElt => at[Frame::DATATYPE] == at[Frame::TAIL],
+        Kind::ParseTypeOtherPropertyElt => at[Frame::DATATYPE] == at[Frame::END],
     }
 }
 
@@ -367,7 +368,7 @@ fn is_node(kind: Kind) -> bool
 
 // Is the element around element `n` a node?
 fn node_below(frames: &[u32], n: usize) -> bool
-    requires { ⌜ n * 18 ≤ length (now frames) ⌝ }
+    requires { ⌜ n * FRAME ≤ length (now frames) ⌝ }
     ensures { λ r. ⌜ r ≡ nodeBelow (now (frames .entry)) n ⌝ }
 {
     if n == 0 {
@@ -380,7 +381,7 @@ fn node_below(frames: &[u32], n: usize) -> bool
 
 // A property stands in a node.
 fn stands(kind: Kind, frames: &[u32], n: usize) -> bool
-    requires { ⌜ n * 18 ≤ length (now frames) ⌝ }
+    requires { ⌜ n * FRAME ≤ length (now frames) ⌝ }
     ensures { λ r. ⌜ r ≡ stands kind (now (frames .entry)) n ⌝ }
 {
     match kind {

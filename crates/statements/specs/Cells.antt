@@ -18,6 +18,7 @@ use Rattle.spec.specs.Document.{Property}
 use Rattle.spec.specs.Productions.{statement}
 use Rattle.spec.specs.EndTag.{cells, headCell}
 use Rattle.copy.specs.Copy.{part}
+use Rattle.frames.specs.Parts.{TAIL, END}
 use Rattle.frames.specs.declared.Kind.the-variants.{ParseTypeCollectionPropertyElt}
 use Rattle.frames.specs.declared.Frame.{Frame}
 use Rattle.frames.specs.Words.{pick}
@@ -55,7 +56,7 @@ list-some first m e = rw (ne-eqb m first e)
 -- a Collection whose cells can all have a label
 pub record Listed (f : Frame) (w : List ℕ) (n : ℕ) : Type 0 where
   pub children : kindOk ParseTypeCollectionPropertyElt f w ≡ true
-  pub ends : at f 8 ≤ length w
+  pub ends : at f END ≤ length w
   pub few : n + count f ≤ 99_999_999
 
 -- ---- the next label
@@ -86,13 +87,13 @@ pub record Celled (w : List ℕ) (first : ℕ) (on : Bool) (d d′ : List ℕ) (
   pub put : Put on d d′ 0 to done
   pub rest : done ++ write (cells n (listAt first n) (childrenOf w i e)) ≡ write (cells first nil (childrenOf w k z))
 
-pub celled-begins : {f : Frame} {w : List ℕ} {first : ℕ} {on : Bool} {d : List ℕ} {e i : ℕ} → Listed f w first → e ≡ at f 8 → i ≡ count f → Celled w first on d d e i 0 e i first
+pub celled-begins : {f : Frame} {w : List ℕ} {first : ℕ} {on : Bool} {d : List ℕ} {e i : ℕ} → Listed f w first → e ≡ at f END → i ≡ count f → Celled w first on d d e i 0 e i first
 celled-begins {f} {w} {first} {on} {d} {e} {i} l p q =
     record {
       counts = refl;
       few = rw q (l .few);
       from = omega arith;
-      floor = at f 7;
+      floor = at f TAIL;
       children = rw (p, q) (collected f w (l .children) .children);
       ends = rw p (l .ends);
       done = [];
@@ -131,7 +132,7 @@ module _ {w : List ℕ} {first : ℕ} {on : Bool} {d d′ : List ℕ} {z k to e 
         rest = rw (r .starts, add-one n, append-assoc, more) before;
       }
 
-  pub celled-done : i ≤ 0 → (f : Frame) → z ≡ at f 8 → k ≡ count f → Put on d d′ 0 to (write (cells first nil (childrenOf w (count f) (at f 8))))
+  pub celled-done : i ≤ 0 → (f : Frame) → z ≡ at f END → k ≡ count f → Put on d d′ 0 to (write (cells first nil (childrenOf w (count f) (at f END))))
   unfolding childrenOf cells write
   celled-done l f p q =
       let y : i ≡ 0 = omega arith in
@@ -151,9 +152,9 @@ head-list first m (c ∷ cs) l =
     let e : suc m + length cs ≡ m + suc (length cs) = omega arith in
     rw (list-some first (suc m) (λ z. omega arith)) (head-list first (suc m) cs (omega arith) ∙ ap (listAt first) e)
 
-pub head-is : (f : Frame) (w : List ℕ) (first : ℕ) → listAt first (first + count f) ≡ headCell first nil (childrenOf w (count f) (at f 8))
+pub head-is : (f : Frame) (w : List ℕ) (first : ℕ) → listAt first (first + count f) ≡ headCell first nil (childrenOf w (count f) (at f END))
 head-is f w first =
-    sym (rw (list-none first first refl) (head-list first first (childrenOf w (count f) (at f 8)) (omega arith) ∙ rw (length-children w (count f) (at f 8))))
+    sym (rw (list-none first first refl) (head-list first first (childrenOf w (count f) (at f END)) (omega arith) ∙ rw (length-children w (count f) (at f END))))
 
 -- cells, and then the statement
 pub write-both : (ts us : List Triple) → write ts ++ write us ≡ write (ts ++ us)
@@ -162,6 +163,6 @@ write-both [] us = refl
 write-both (t ∷ ts) us = append-assoc (line t) (write ts) (write us) ∙ ap (λ (x : Bytes). line t ++ x) (write-both ts us)
 
 pub listed : (f : Frame) (w : List ℕ) (first : ℕ) (p : Property) {o : N.Term} → o ≡ node (listAt first (first + count f))
-    → write (cells first nil (childrenOf w (count f) (at f 8))) ++ write (statement p o)
-    ≡ write (cells first nil (childrenOf w (count f) (at f 8)) ++ statement p (node (headCell first nil (childrenOf w (count f) (at f 8)))))
-listed f w first p q = rw (q, head-is f w first) (write-both (cells first nil (childrenOf w (count f) (at f 8))) _)
+    → write (cells first nil (childrenOf w (count f) (at f END))) ++ write (statement p o)
+    ≡ write (cells first nil (childrenOf w (count f) (at f END)) ++ statement p (node (headCell first nil (childrenOf w (count f) (at f END)))))
+listed f w first p q = rw (q, head-is f w first) (write-both (cells first nil (childrenOf w (count f) (at f END))) _)

@@ -13,6 +13,7 @@ use Rattle.spec.specs.Productions.{literalOf, statement}
 use Rattle.spec.specs.Document.{Property, noObject, textObject}
 use Rattle.spec.specs.EndTag.{objectTerm}
 use Rattle.copy.specs.Copy.{part}
+use Rattle.frames.specs.Parts.{MAIN, ID, DATATYPE, TAIL, END, BLANK, IDENTIFIED, TYPED, PENDING}
 use Rattle.frames.specs.declared.Frame.{Frame}
 use Rattle.frames.specs.Words.{pick}
 use Rattle.state.specs.Meaning.{at, has, span, optional, nodeOf, objectOf, subjectOf, propertyOf}
@@ -27,11 +28,11 @@ use Rattle.ntriples.specs.Terms as T
 -- the statement of a default property of frame f, in the node of frame n, where language l is in force
 abbrev pub propertyLines : Frame → Frame → Found → List ℕ → List Triple
 propertyLines n f l w =
-    statement (propertyOf f w (subjectOf n w)) (objectTerm (optional (has f 4) (span w (at f 6) (at f 7))) (found l w) (objectOf (has f 5) (span w (at f 7) (at f 8))))
+    statement (propertyOf f w (subjectOf n w)) (objectTerm (optional (has f TYPED) (span w (at f DATATYPE) (at f TAIL))) (found l w) (objectOf (has f PENDING) (span w (at f TAIL) (at f END))))
 
 -- that of a Literal property
 abbrev pub literalLines : Frame → Frame → List ℕ → List Triple
-literalLines n f w = statement (propertyOf f w (subjectOf n w)) (typed (span w (at f 7) (at f 8)) (rdf "XMLLiteral"))
+literalLines n f w = statement (propertyOf f w (subjectOf n w)) (typed (span w (at f TAIL) (at f END)) (rdf "XMLLiteral"))
 
 -- ---- what kind of term it is, whatever its bytes are
 
@@ -118,27 +119,27 @@ lent-marked h a z e = e ∙ rw (ne-eqb h 0 z)
 -- ---- the statement of a property
 
 property-marked : (f : Frame) (w : List ℕ) (s : Subject)
-    → T.propertyOf (not (eqb (has f 3) 0)) (span w (at f 5) (at f 6)) s (span w (at f 4) (at f 5)) ≡ propertyOf f w s
+    → T.propertyOf (not (eqb (has f IDENTIFIED) 0)) (span w (at f ID) (at f DATATYPE)) s (span w (at f MAIN) (at f ID)) ≡ propertyOf f w s
 unfolding T.propertyOf T.idOf propertyOf optional
-property-marked f w s = go (eqb (has f 3) 0)
+property-marked f w s = go (eqb (has f IDENTIFIED) 0)
   where
     go : (t : Bool)
-        → _≡_ {A = Property} (record { subject = s; iri = span w (at f 4) (at f 5); id = T.idOf (not t) (span w (at f 5) (at f 6)) })
-        (record { subject = s; iri = span w (at f 4) (at f 5); id = pick t none (some (span w (at f 5) (at f 6))) })
+        → _≡_ {A = Property} (record { subject = s; iri = span w (at f MAIN) (at f ID); id = T.idOf (not t) (span w (at f ID) (at f DATATYPE)) })
+        (record { subject = s; iri = span w (at f MAIN) (at f ID); id = pick t none (some (span w (at f ID) (at f DATATYPE))) })
     go true = refl
     go false = refl
 
 pub stated : {id s iri : List ℕ} {node : Node} (n f : Frame) (w front extra : List ℕ) (term : Term)
-    → NodeFor (not (eqb (has n 2) 0)) node → s ≡ span w (at n 4) (at n 5) → iri ≡ span w (at f 4) (at f 5) → id ≡ span w (at f 5) (at f 6)
-    → write (statement (T.propertyOf (not (eqb (has f 3) 0)) id (T.subjectOf node s) (iri ++ [])) (T.termOf term (front ++ []) extra))
+    → NodeFor (not (eqb (has n BLANK) 0)) node → s ≡ span w (at n MAIN) (at n ID) → iri ≡ span w (at f MAIN) (at f ID) → id ≡ span w (at f ID) (at f DATATYPE)
+    → write (statement (T.propertyOf (not (eqb (has f IDENTIFIED) 0)) id (T.subjectOf node s) (iri ++ [])) (T.termOf term (front ++ []) extra))
     ≡ write (statement (propertyOf f w (subjectOf n w)) (T.termOf term front extra))
 unfolding subjectOf
 stated {s = s} {iri = iri} n f w front extra term x p q i =
-    rw (append-nil front, append-nil iri, q, i, node-marked (has n 2) x s, p, property-marked f w (nodeOf (has n 2) (span w (at n 4) (at n 5))))
+    rw (append-nil front, append-nil iri, q, i, node-marked (has n BLANK) x s, p, property-marked f w (nodeOf (has n BLANK) (span w (at n MAIN) (at n ID))))
 
-pub said : {text extra : List ℕ} {term : Term} (f : Frame) (w : List ℕ) (l : Found) (p : Property) → TermFor (has f 5) (has f 4) (l .there) term
-    → text ≡ pick (eqb (has f 5) 0) [] (span w (at f 7) (at f 8)) → extra ≡ pick (eqb (has f 4) 0) (part w (l .at) (l .len)) (span w (at f 6) (at f 7))
+pub said : {text extra : List ℕ} {term : Term} (f : Frame) (w : List ℕ) (l : Found) (p : Property) → TermFor (has f PENDING) (has f TYPED) (l .there) term
+    → text ≡ pick (eqb (has f PENDING) 0) [] (span w (at f TAIL) (at f END)) → extra ≡ pick (eqb (has f TYPED) 0) (part w (l .at) (l .len)) (span w (at f DATATYPE) (at f TAIL))
     → write (statement p (T.termOf term text extra))
-    ≡ write (statement p (objectTerm (optional (has f 4) (span w (at f 6) (at f 7))) (found l w) (objectOf (has f 5) (span w (at f 7) (at f 8)))))
+    ≡ write (statement p (objectTerm (optional (has f TYPED) (span w (at f DATATYPE) (at f TAIL))) (found l w) (objectOf (has f PENDING) (span w (at f TAIL) (at f END)))))
 unfolding found
-said f w l p t x y = rw (x, y, t .says (span w (at f 7) (at f 8)) (span w (at f 6) (at f 7)) (part w (l .at) (l .len)))
+said f w l p t x y = rw (x, y, t .says (span w (at f TAIL) (at f END)) (span w (at f DATATYPE) (at f TAIL)) (part w (l .at) (l .len)))

@@ -15,6 +15,7 @@ use Rattle.spec.specs.Document.{noObject, nodeObject, textObject}
 use Rattle.spec.specs.Productions.{literalOf, statement}
 use Rattle.spec.specs.EndTag.{objectTerm}
 use Rattle.copy.specs.Copy.{part}
+use Rattle.frames.specs.Parts.{MAIN, ID, DATATYPE, TAIL, END, BLANK, IDENTIFIED, TYPED, PENDING}
 use Rattle.frames.specs.declared.Frame.{Frame}
 use Rattle.frames.specs.Words.{pick}
 use Rattle.state.specs.Meaning.{at, has, span, optional, nodeOf, objectOf, subjectOf, propertyOf}
@@ -47,36 +48,36 @@ pub record StatementFits (n f : Frame) (object room : ℕ) : Type 0 where
 
 -- its own line
 abbrev pub lineRoom : Frame → Frame → ℕ → ℕ
-lineRoom n f object = 6 * (at n 5 - at n 4) + 6 * (at f 5 - at f 4) + object + 15
+lineRoom n f object = 6 * (at n ID - at n MAIN) + 6 * (at f ID - at f MAIN) + object + 15
 
 own-line : (n f : Frame) (object : ℕ) (w : List ℕ) (o : Term) → length (writeTerm o) ≤ object + 6
-    → length (writeSubject (subjectOf n w)) + 6 * length (span w (at f 4) (at f 5)) + length (writeTerm o) + 7 ≤ lineRoom n f object
+    → length (writeSubject (subjectOf n w)) + 6 * length (span w (at f MAIN) (at f ID)) + length (writeTerm o) + 7 ≤ lineRoom n f object
 unfolding subjectOf
 own-line n f object w o h =
-    let s : Bytes = span w (at n 4) (at n 5) in
-    omega (arith, length-node-of (has n 2) s, span-at-most w (at n 4) (at n 5), span-at-most w (at f 4) (at f 5))
+    let s : Bytes = span w (at n MAIN) (at n ID) in
+    omega (arith, length-node-of (has n BLANK) s, span-at-most w (at n MAIN) (at n ID), span-at-most w (at f MAIN) (at f ID))
 
 module _ {n f : Frame} {object room : ℕ} where
-  pub fits-one : has f 3 ≡ 0 → lineRoom n f object ≤ room → StatementFits n f object room
+  pub fits-one : has f IDENTIFIED ≡ 0 → lineRoom n f object ≤ room → StatementFits n f object room
   unfolding propertyOf optional statementRoom
   fits-one z l =
       record {
         fits = λ w o h.
-            rw (eq-eqb (has f 3) 0 z)
-            (omega (arith, length-statement (subjectOf n w) (span w (at f 4) (at f 5)) o none (own-line n f object w o h)));
+            rw (eq-eqb (has f IDENTIFIED) 0 z)
+            (omega (arith, length-statement (subjectOf n w) (span w (at f MAIN) (at f ID)) o none (own-line n f object w o h)));
       }
 
   -- and the four of an rdf:ID
-  pub fits-five : (has f 3 ≡ 0 → ⊥) → 2 * lineRoom n f object + 24 * (at f 6 - at f 5) + 1533 ≤ room → StatementFits n f object room
+  pub fits-five : (has f IDENTIFIED ≡ 0 → ⊥) → 2 * lineRoom n f object + 24 * (at f DATATYPE - at f ID) + 1533 ≤ room → StatementFits n f object room
   unfolding propertyOf optional statementRoom
   fits-five z l =
       record {
         fits = λ w o h.
-            rw (ne-eqb (has f 3) 0 z)
+            rw (ne-eqb (has f IDENTIFIED) 0 z)
             (omega (
               arith,
-              span-at-most w (at f 5) (at f 6),
-              length-statement (subjectOf n w) (span w (at f 4) (at f 5)) o (some (span w (at f 5) (at f 6)))
+              span-at-most w (at f ID) (at f DATATYPE),
+              length-statement (subjectOf n w) (span w (at f MAIN) (at f ID)) o (some (span w (at f ID) (at f DATATYPE)))
                   (own-line n f object w o h),
             ));
       }
@@ -128,16 +129,16 @@ size-found l w = go (l .there)
     go false = omega arith
 
 pub property-fits : {n f : Frame} {room : ℕ} (l : Found)
-    → StatementFits n f (objectRoom (has f 5) (at f 8 - at f 7) + 6 * (at f 7 - at f 6) + l .len) room
+    → StatementFits n f (objectRoom (has f PENDING) (at f END - at f TAIL) + 6 * (at f TAIL - at f DATATYPE) + l .len) room
     → (w : List ℕ) → length (write (propertyLines n f l w)) ≤ room
 property-fits {f = f} l p w =
-    let d : Bytes = span w (at f 6) (at f 7) in
+    let d : Bytes = span w (at f DATATYPE) (at f TAIL) in
     p .fits w _
     (omega (
       arith,
-      length-object (optional (has f 4) d) (found l w) (has f 5) (span w (at f 7) (at f 8)) (span-at-most w (at f 7) (at f 8)),
-      size-optional (has f 4) d,
-      span-at-most w (at f 6) (at f 7),
+      length-object (optional (has f TYPED) d) (found l w) (has f PENDING) (span w (at f TAIL) (at f END)) (span-at-most w (at f TAIL) (at f END)),
+      size-optional (has f TYPED) d,
+      span-at-most w (at f DATATYPE) (at f TAIL),
       size-found l w,
     ))
 
@@ -147,8 +148,8 @@ length-datatype : length (rdf "XMLLiteral") ≡ 53
 unfolding rdf ascii
 length-datatype = refl
 
-pub literal-fits : {n f : Frame} {room : ℕ} → StatementFits n f (2 * (at f 8 - at f 7) + 6 * 53) room
+pub literal-fits : {n f : Frame} {room : ℕ} → StatementFits n f (2 * (at f END - at f TAIL) + 6 * 53) room
     → (w : List ℕ) → length (write (literalLines n f w)) ≤ room
 literal-fits {f = f} p w =
-    let s : Bytes = span w (at f 7) (at f 8) in
-    p .fits w _ (omega (arith, length-typed s (rdf "XMLLiteral"), length-datatype, span-at-most w (at f 7) (at f 8)))
+    let s : Bytes = span w (at f TAIL) (at f END) in
+    p .fits w _ (omega (arith, length-typed s (rdf "XMLLiteral"), length-datatype, span-at-most w (at f TAIL) (at f END)))

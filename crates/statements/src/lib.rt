@@ -11,6 +11,7 @@ ghost use Rattle.spec.specs.NTriples.{node, label, write};
 ghost use Rattle.spec.specs.Productions.{statement};
 ghost use Rattle.spec.specs.EndTag.{cells, headCell};
 ghost use Rattle.copy.specs.Copy.{part};
+ghost use Rattle.frames.specs.Parts.{DATATYPE, TAIL, END, TYPED, PENDING};
 ghost use Rattle.frames.specs.Words.{pick};
 ghost use Rattle.state.specs.Meaning.{at, has, count, span, childrenOf, subjectOf, propertyOf};
 ghost use Rattle.nodes.specs.Laws.{childNode};
@@ -51,7 +52,7 @@ pub fn property_lines(
     ensures { λ r. ⌜ Put on (now (out .entry)) (now (out .exit)) 0 r (write (propertyLines n f language (now (work .entry)))) ⌝ }
 {
     let has = f.has;
-    let term = object_term(has[5], has[4], language.there);
+    let term = object_term(has[Frame::PENDING], has[Frame::TYPED], language.there);
     let text = object_text(work, f);
     let extra = type_or_tag(work, f, language);
     statement(out, 0, on, n, f, work, term, text, extra)
@@ -65,12 +66,12 @@ pub fn property_fits(room: usize, n: Frame, f: Frame, language: Found) -> bool
     if language.len > MOST_TAG {
         return false;
     }
-    let text = object_room(has[5], part_size(f, 7));
+    let text = object_room(has[Frame::PENDING], part_size(f, Frame::TAIL));
     statement_fits(
         room,
         n,
         f,
-        text + iriref::MOST * part_size(f, 6) + language.len,
+        text + iriref::MOST * part_size(f, Frame::DATATYPE) + language.len,
     )
 }
 
@@ -78,7 +79,7 @@ pub fn property_fits(room: usize, n: Frame, f: Frame, language: Found) -> bool
 pub fn literal_lines(out: &mut [u8], on: bool, n: Frame, f: Frame, work: &[u8]) -> usize
     ensures { λ r. ⌜ Put on (now (out .entry)) (now (out .exit)) 0 r (write (literalLines n f (now (work .entry)))) ⌝ }
 {
-    let text = part_of(work, f, 7);
+    let text = part_of(work, f, Frame::TAIL);
     statement(
         out,
         0,
@@ -100,15 +101,15 @@ pub fn literal_fits(room: usize, n: Frame, f: Frame) -> bool
         room,
         n,
         f,
-        quoted::MOST * part_size(f, 7) + iriref::MOST * ntriples::RDF_XML_LITERAL.len(),
+        quoted::MOST * part_size(f, Frame::TAIL) + iriref::MOST * ntriples::RDF_XML_LITERAL.len(),
     )
 }
 
 // How many bytes its XML text has.
 pub fn tail_size(f: Frame, work: &[u8]) -> usize
-    ensures { λ r. ⌜ r ≡ length (span (now (work .entry)) (at f 7) (at f 8)) ⌝ }
+    ensures { λ r. ⌜ r ≡ length (span (now (work .entry)) (at f TAIL) (at f END)) ⌝ }
 {
-    let text = part_of(work, f, 7);
+    let text = part_of(work, f, Frame::TAIL);
     text.len()
 }
 
@@ -122,10 +123,10 @@ pub fn collection_lines(
     work: &[u8],
 ) -> usize
     requires { ⌜ Listed f (now work) labels ⌝ }
-    ensures { λ r. ⌜ Put on (now (out .entry)) (now (out .exit)) 0 r (write (cells labels nil (childrenOf (now (work .entry)) (count f) (at f 8)) ++ statement (propertyOf f (now (work .entry)) (subjectOf n (now (work .entry)))) (node (headCell labels nil (childrenOf (now (work .entry)) (count f) (at f 8)))))) ⌝ }
+    ensures { λ r. ⌜ Put on (now (out .entry)) (now (out .exit)) 0 r (write (cells labels nil (childrenOf (now (work .entry)) (count f) (at f END)) ++ statement (propertyOf f (now (work .entry)) (subjectOf n (now (work .entry)))) (node (headCell labels nil (childrenOf (now (work .entry)) (count f) (at f END)))))) ⌝ }
 {
     let has = f.has;
-    let children = has[6];
+    let children = has[Frame::COUNT];
     let to = cells(out, on, f, labels, work);
     if children == 0 {
         return statement(
@@ -148,13 +149,13 @@ pub fn collection_lines(
 // Children last to first, each takes the next label.
 fn cells(out: &mut [u8], on: bool, f: Frame, labels: u64, work: &[u8]) -> usize
     requires { ⌜ Listed f (now work) labels ⌝ }
-    ensures { λ r. ⌜ Put on (now (out .entry)) (now (out .exit)) 0 r (write (cells labels nil (childrenOf (now (work .entry)) (count f) (at f 8)))) ⌝ }
+    ensures { λ r. ⌜ Put on (now (out .entry)) (now (out .exit)) 0 r (write (cells labels nil (childrenOf (now (work .entry)) (count f) (at f END)))) ⌝ }
 {
     let at = f.at;
     let has = f.has;
     let mut to: usize = 0;
-    let mut e = wide(at[8]);
-    let mut i = has[6];
+    let mut e = wide(at[Frame::END]);
+    let mut i = has[Frame::COUNT];
     let mut n = labels;
     while i > 0 {
         let c = nodes::child_at(work, e);
@@ -219,11 +220,11 @@ fn statement(
 {
     let marks = n.has;
     let has = f.has;
-    let node = node_of(marks[2] != 0);
-    let s = part_of(work, n, 4);
-    let iri = part_of(work, f, 4);
-    let id = part_of(work, f, 5);
-    let reified = has[3] != 0;
+    let node = node_of(marks[Frame::BLANK] != 0);
+    let s = part_of(work, n, Frame::MAIN);
+    let iri = part_of(work, f, Frame::MAIN);
+    let id = part_of(work, f, Frame::ID);
+    let reified = has[Frame::IDENTIFIED] != 0;
     ntriples::statement(
         out,
         at,
@@ -247,14 +248,14 @@ fn statement_fits(room: usize, n: Frame, f: Frame, object: usize) -> bool
     ensures { λ r. ⌜ (r ≡ true → StatementFits n f object room) ⌝ }
 {
     let has = f.has;
-    let line = iriref::MOST * part_size(n, 4)
-        + iriref::MOST * part_size(f, 4)
+    let line = iriref::MOST * part_size(n, Frame::MAIN)
+        + iriref::MOST * part_size(f, Frame::MAIN)
         + object
         + MOST_MARKS;
-    if has[3] == 0 {
+    if has[Frame::IDENTIFIED] == 0 {
         return line <= room;
     }
-    2 * line + 4 * (iriref::MOST * part_size(f, 5)) + MOST_RDF <= room
+    2 * line + 4 * (iriref::MOST * part_size(f, Frame::ID)) + MOST_RDF <= room
 }
 
 // The most bytes that an object of `size` bytes takes beside its marks: an IRI, or else a label or a text.
@@ -296,29 +297,29 @@ fn new_literal(datatype: u32, language: bool) -> Term
 
 // The bytes of the object so far.
 fn object_text(work: &[u8], f: Frame) -> &[u8]
-    ensures { λ r. ⌜ now r ≡ pick (eqb (has f 5) 0) [] (span (now (work .entry)) (at f 7) (at f 8)) ⌝ }
+    ensures { λ r. ⌜ now r ≡ pick (eqb (has f PENDING) 0) [] (span (now (work .entry)) (at f TAIL) (at f END)) ⌝ }
 {
     let has = f.has;
-    if has[5] == 0 {
+    if has[Frame::PENDING] == 0 {
         return names::piece(work, 0, 0);
     }
-    part_of(work, f, 7)
+    part_of(work, f, Frame::TAIL)
 }
 
 // What stands beside a literal's text: its datatype, or else the language in force.
 fn type_or_tag(work: &[u8], f: Frame, language: Found) -> &[u8]
-    ensures { λ r. ⌜ now r ≡ pick (eqb (has f 4) 0) (part (now (work .entry)) (language .at) (language .len)) (span (now (work .entry)) (at f 6) (at f 7)) ⌝ }
+    ensures { λ r. ⌜ now r ≡ pick (eqb (has f TYPED) 0) (part (now (work .entry)) (language .at) (language .len)) (span (now (work .entry)) (at f DATATYPE) (at f TAIL)) ⌝ }
 {
     let has = f.has;
-    if has[4] == 0 {
+    if has[Frame::TYPED] == 0 {
         return names::piece(work, language.at, language.len);
     }
-    part_of(work, f, 6)
+    part_of(work, f, Frame::DATATYPE)
 }
 
 // Part `k` of a frame.
 fn part_of(work: &[u8], f: Frame, k: usize) -> &[u8]
-    requires { ⌜ k < 8 ⌝ }
+    requires { ⌜ k < END ⌝ }
     ensures { λ r. ⌜ now r ≡ span (now (work .entry)) (at f k) (at f (k + 1)) ⌝ }
 {
     let at = f.at;
@@ -332,7 +333,7 @@ fn part_of(work: &[u8], f: Frame, k: usize) -> &[u8]
 
 // How many bytes it has.
 fn part_size(f: Frame, k: usize) -> usize
-    requires { ⌜ k < 8 ⌝ }
+    requires { ⌜ k < END ⌝ }
     ensures { λ r. ⌜ (r ≡ at f (k + 1) - at f k) × (r < 4294967296) ⌝ }
 {
     let at = f.at;

@@ -200,7 +200,7 @@ fn pushed(r: Registers, frames: &mut [u32], kind: Kind, at: u32) -> Registers {
 }
 
 // The places of an element with a name of one byte at `at`, and a main part of one byte behind it.
-fn places(at: u32) -> [u32; 9] {
+fn places(at: u32) -> [u32; Frame::PLACES] {
     let name = std::num::wrapping_add_u32(at, 1);
     let main = std::num::wrapping_add_u32(at, 2);
     [at, name, name, name, name, main, main, main, main]

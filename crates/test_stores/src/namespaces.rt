@@ -2,6 +2,7 @@
 use crate::printing::answer;
 use crate::printing::number;
 use crate::printing::text;
+use frames::Frame;
 use names::Class;
 use names::Found;
 
@@ -42,7 +43,7 @@ const SPANS: [u32; 28] = [
 // The open elements bind a, then q, then q again.
 const WORK: [u8; 34] = *b"ahttp://old/qhttp://q/qhttp://new/";
 
-const ROWS: [u32; 9] = [0, 1, 11, 12, 1, 9, 22, 1, 11];
+const ROWS: [u32; Frame::PLACES] = [0, 1, 11, 12, 1, 9, 22, 1, 11];
 
 // A declaration, and one name twice.
 const TWICE: [u8; 14] = *b"xmlns:cdcdxcdx";

@@ -16,6 +16,7 @@ use Rattle.spec.specs.Document as D
 use Rattle.spec.specs.Document.{default, collection, literal, other, Kind as What, rdfRDF, nodeElement, propertyElement, xmlElement, Frame as Element, withKind, onValue, isXmlElement, changeValue, objectBytes, valueBytes, kindBytes, frameBytes, withFrames, placeIn}
 use Rattle.spec.specs.RdfXml.{onEvent, onText, isBlank, takesText}
 use Rattle.copy.specs.Copy.{storedAt, length-stored}
+use Rattle.frames.specs.Parts.{TAIL, END, PENDING, FRAME}
 use Rattle.frames.specs.declared.Kind.{Kind}
 use Rattle.frames.specs.declared.Kind.the-variants.{Rdf, NodeElt, PropertyElt, ParseTypeCollectionPropertyElt, ParseTypeLiteralPropertyElt, ParseTypeOtherPropertyElt}
 use Rattle.frames.specs.declared.Frame.{Frame}
@@ -105,8 +106,8 @@ property-top r fs h = go (eqb (r .inner) 0) (eqb (r .depth) 0) (loadFrame fs (r 
 module _ {r : Registers} {fs bs is w : List ℕ} (v : Valid r fs bs is w) (k : sameKind (topFrame r fs .kind) PropertyElt ≡ true) where
   record Bottom : Type 0 where
     depth : 0 < r .depth
-    room : (r .depth - 1) * 18 + 18 ≤ length fs
-    up : at (topFrame r fs) 7 ≤ r .top
+    room : (r .depth - 1) * FRAME + FRAME ≤ length fs
+    up : at (topFrame r fs) TAIL ≤ r .top
     low : r .low ≤ 65_536
     places : length (topFrame r fs .at) ≡ 9
     marks : length (topFrame r fs .has) ≡ 8
@@ -118,7 +119,7 @@ module _ {r : Registers} {fs bs is w : List ℕ} (v : Valid r fs bs is w) (k : s
       let n : ℕ = r .depth - 1 in
       let s = top-frame v n (t .depth) in
       let u = rising (frameAt fs n) (s .up) in
-      let h : at (frameAt fs n) 7 ≤ r .top = omega (arith, s .ends) in
+      let h : at (frameAt fs n) TAIL ≤ r .top = omega (arith, s .ends) in
       record {
         depth = d;
         room = t .room;
@@ -128,7 +129,7 @@ module _ {r : Registers} {fs bs is w : List ℕ} (v : Valid r fs bs is w) (k : s
         marks = rw (t .frame) (length-has fs n (t .room));
       }
 
-  may-text : (n : ℕ) → at (topFrame r fs) 7 + n ≤ r .low → mayTail r fs w (at (topFrame r fs) 7) n ≡ true
+  may-text : (n : ℕ) → at (topFrame r fs) TAIL + n ≤ r .low → mayTail r fs w (at (topFrame r fs) TAIL) n ≡ true
   unfolding mayTail L.all
   may-text n h =
       let b = bottom in
@@ -136,18 +137,18 @@ module _ {r : Registers} {fs bs is w : List ℕ} (v : Valid r fs bs is w) (k : s
         lt-ltb 0 (r .depth) (b .depth),
         le-leb (r .low) 65_536 (b .low),
         le-leb (r .low) (length w) (omega (arith, b .low, v .store)),
-        le-leb (at (topFrame r fs) 7 + n) (r .low) h,
-        le-leb ((r .depth - 1) * 18 + 18) (length fs) (b .room),
+        le-leb (at (topFrame r fs) TAIL + n) (r .low) h,
+        le-leb ((r .depth - 1) * FRAME + FRAME) (length fs) (b .room),
       )
 
   -- the same state with an empty text in place of the object
-  emptied : Texts r fs w [] (record { ok = true; registers = toppedTo r (at (topFrame r fs) 7 + 0) })
-      (storedAt fs ((r .depth - 1) * 18) (wordsOf (tailTo (topFrame r fs) (at (topFrame r fs) 7 + 0) 3))) (storedAt w (at (topFrame r fs) 7) [])
+  emptied : Texts r fs w [] (record { ok = true; registers = toppedTo r (at (topFrame r fs) TAIL + 0) })
+      (storedAt fs ((r .depth - 1) * FRAME) (wordsOf (tailTo (topFrame r fs) (at (topFrame r fs) TAIL + 0) 3))) (storedAt w (at (topFrame r fs) TAIL) [])
   emptied =
       let b = bottom in
       let m = may-text 0 (omega (arith, b .up, v .apart)) in
-      let f : Frame = tailTo (topFrame r fs) (at (topFrame r fs) 7 + 0) 3 in
-      let l : length (wordsOf f) ≡ 18 = length-words f (length-set (topFrame r fs .at) 8 (at (topFrame r fs) 7 + 0) ∙ b .places) (length-set (topFrame r fs .has) 5 3 ∙ b .marks) in
+      let f : Frame = tailTo (topFrame r fs) (at (topFrame r fs) TAIL + 0) 3 in
+      let l : length (wordsOf f) ≡ FRAME = length-words f (length-set (topFrame r fs .at) END (at (topFrame r fs) TAIL + 0) ∙ b .places) (length-set (topFrame r fs .has) PENDING 3 ∙ b .marks) in
       record {
         tails =
             λ _.
@@ -157,28 +158,28 @@ module _ {r : Registers} {fs bs is w : List ℕ} (v : Valid r fs bs is w) (k : s
               wrote = λ _. refl;
               moved = λ _. refl;
               kept = λ n. absurd (false≢true (sym n ∙ m));
-              sameWords = length-stored fs ((r .depth - 1) * 18) (wordsOf f) (omega (arith, b .room));
-              sameBytes = length-stored w (at (topFrame r fs) 7) [] (omega (arith, b .up, b .low, v .apart, v .store));
+              sameWords = length-stored fs ((r .depth - 1) * FRAME) (wordsOf f) (omega (arith, b .room));
+              sameBytes = length-stored w (at (topFrame r fs) TAIL) [] (omega (arith, b .up, b .low, v .apart, v .store));
             };
         kept = λ n. absurd (false≢true (sym n ∙ k));
       }
 
   -- what is held with a text in place of the object
   held-text : (s : Bytes) → placeIn (elementsOf r fs bs is w) ≡ D.nodesOrText
-      → heldWith (startOf r w) (changeValue (takesText s) (elementsOf r fs bs is w)) ≡ at (topFrame r fs) 7 + length s + (65_536 - r .low)
+      → heldWith (startOf r w) (changeValue (takesText s) (elementsOf r fs bs is w)) ≡ at (topFrame r fs) TAIL + length s + (65_536 - r .low)
   unfolding heldWith
   held-text s p =
       let b = bottom in
       let h = text-holds v emptied refl in
       let z = held-with h in
-      let y = held-is (toppedTo r (at (topFrame r fs) 7 + 0)) (b .low) (omega (arith, b .up, v .apart)) in
+      let y = held-is (toppedTo r (at (topFrame r fs) TAIL + 0)) (b .low) (omega (arith, b .up, v .apart)) in
       omega (arith, text-bytes s (elementsOf r fs bs is w) p)
 
 -- ---- `text_fits`: the registers with the text on top
 
 -- the registers with a text of n bytes on top
 abbrev pub textTo : Registers → List ℕ → ℕ → Registers
-textTo r fs n = toppedTo r (at (topFrame r fs) 7 + n)
+textTo r fs n = toppedTo r (at (topFrame r fs) TAIL + n)
 
 -- with a top that is too high, all of the store is held
 module _ (r : Registers) where
@@ -203,7 +204,7 @@ module _ (r : Registers) where
   unfolding L.all
   fits-not a n l = sym (lt-leb (heldIn (toppedTo r (a + n))) 49_152 (held-large (a + n) (omega arith)))
 
-  pub fits-top : {f : Frame} {q : Registers} {b : Bool} {a : ℕ} (fs : List ℕ) (n : ℕ) → f ≡ topFrame r fs → a ≡ at f 7 → q ≡ toppedTo r (a + n) → b ≡ leb (heldIn q) mostHeldBytes
+  pub fits-top : {f : Frame} {q : Registers} {b : Bool} {a : ℕ} (fs : List ℕ) (n : ℕ) → f ≡ topFrame r fs → a ≡ at f TAIL → q ≡ toppedTo r (a + n) → b ≡ leb (heldIn q) mostHeldBytes
       → b ≡ leb (heldIn (textTo r fs n)) mostHeldBytes
   fits-top fs n e g i h = h ∙ rw (i, g, e)
 
@@ -222,11 +223,11 @@ stands v p = place-read v ∙ rw p
 record Weighed (r : Registers) (fs bs is w : List ℕ) (s : Bytes) : Type 0 where
   fits : heldIn (textTo r fs (length s)) ≤ 49_152 → heldWith (startOf r w) (changeValue (takesText s) (elementsOf r fs bs is w)) ≤ 49_152
   over : 49_152 < heldIn (textTo r fs (length s)) → 49_152 < heldWith (startOf r w) (changeValue (takesText s) (elementsOf r fs bs is w))
-  low : heldIn (textTo r fs (length s)) ≤ 49_152 → at (topFrame r fs) 7 + length s ≤ r .low
+  low : heldIn (textTo r fs (length s)) ≤ 49_152 → at (topFrame r fs) TAIL + length s ≤ r .low
 
 weighed : {r : Registers} {fs bs is w : List ℕ} (s : Bytes) → Valid r fs bs is w → placeAt r fs ≡ NodesOrText → Weighed r fs bs is w s
 weighed {r} {fs} {bs} {is} {w} s v p =
-    let t : ℕ = at (topFrame r fs) 7 + length s in
+    let t : ℕ = at (topFrame r fs) TAIL + length s in
     let h = held-text v (property-top r fs p) s (stands v p) in
     let o = room v .low in
     by (leb t (r .low))

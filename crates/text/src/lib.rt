@@ -13,6 +13,7 @@ ghost use Rattle.text.specs.Object.{TakesText, textTo};
 use event::Done;
 use event::Outcome;
 use event::Place;
+use frames::Frame;
 use frames::wide;
 use spec::Refusal;
 use state::Registers;
@@ -90,5 +91,5 @@ fn text_fits(r: Registers, frames: &[u32], n: usize) -> bool
     }
     let f = stack::top(r, frames);
     let at = f.at;
-    inside::holds_no_more(stack::with_top(r, wide(at[7]) + n))
+    inside::holds_no_more(stack::with_top(r, wide(at[Frame::TAIL]) + n))
 }
