@@ -54,14 +54,14 @@ ids-fit {count} {used} {ia} {il} {st} v (Made i n) e a h =
     record { few = omega (arith, length-ids ia il st count, r .few); small = omega (arith, total-ids v, r .bytes) }
 
 module _ {x : Start} {r : Registers} {count used : ℕ} {fs bs is w ia il st out e v : List ℕ} {m k : ℕ} {a cs rs : List ℕ} (y : Lawful r count used (lent fs bs is w ia il st out))
-    (z : r .inner ≡ 0) (g : Goes x (docIn r count (lent fs bs is w ia il st out)) r fs bs w e v m k a cs rs count used) where
+    (z : r .counts .inner ≡ 0) (g : Goes x (docIn r count (lent fs bs is w ia il st out)) r fs bs w e v m k a cs rs count used) where
   -- the lines and the document behind it
   abbrev pub step : Step
   step = opened (g .tag) (docIn r count (lent fs bs is w ia il st out)) (g .what)
 
   -- the element that it opens
   abbrev new : Element
-  new = newElement e v m k a (x .plan .parts) (subjectBelow fs w (r .depth))
+  new = newElement e v m k a (x .plan .parts) (subjectBelow fs w (r .counts .depth))
 
   -- the document from what was planned
   abbrev planned : Doc
@@ -83,7 +83,7 @@ module _ {x : Start} {r : Registers} {count used : ℕ} {fs bs is w ia il st out
   behind-fits =
       rw (← behind, fits-held planned (ids-fit (y .table) (x .id) e a (g .room)))
       (le-leb (heldBytes planned) 49_152
-      (omega (arith, held-with (y .valid) z (g .tag .iri) new, g .granted .ready .room (subjectBelow fs w (r .depth)))))
+      (omega (arith, held-with (y .valid) z (g .tag .iri) new, g .granted .ready .room (subjectBelow fs w (r .counts .depth)))))
 
   handled-is : handled (opening (take m e) (attributesOf e v k)) (length out) (docIn r count (lent fs bs is w ia il st out)) ≡ concluded (length out) (good step)
   unfolding onEvent
@@ -102,7 +102,7 @@ module _ {x : Start} {r : Registers} {count used : ℕ} {fs bs is w ia il st out
         rw (p .kept n) (stopped (handled-is ∙ no-room (length out) step behind-fits t))
 
     -- done
-    pub act-done : {q : Registers} {t : Added} {fs′ bs′ w′ ia′ il′ st′ : List ℕ} → r .closed ≡ false → s .fits ≡ true
+    pub act-done : {q : Registers} {t : Added} {fs′ bs′ w′ ia′ il′ st′ : List ℕ} → r .flags .closed ≡ false → s .fits ≡ true
         → Commits r fs bs w e v m k a (x .plan .parts) (x .li) (x .plan .labels) q fs′ bs′ w′ → Enters (maybe (x .id) e a) count ia il st t ia′ il′ st′
         → HandlesAll (opening (take m e) (attributesOf e v k)) r count (Did (record { written = s .written; registers = q; count = t .count; used = t .used }))
         (lent fs bs is w ia il st out) (lent fs′ bs′ is w′ ia′ il′ st′ out′)

@@ -194,19 +194,19 @@ top-none : (w : List ℕ) → subjectOf noFrame w ≡ named []
 unfolding subjectOf nodeOf span part
 top-none w = refl
 
-below-top : (r : Registers) (fs w : List ℕ) → r .depth * FRAME ≤ length fs → subjectOf (topFrame r fs) w ≡ subjectBelow fs w (r .depth)
+below-top : (r : Registers) (fs w : List ℕ) → r .counts .depth * FRAME ≤ length fs → subjectOf (topFrame r fs) w ≡ subjectBelow fs w (r .counts .depth)
 unfolding topFrame subjectBelow
-below-top r fs w h = go (r .depth) refl
+below-top r fs w h = go (r .counts .depth) refl
   where
-    go : (n : ℕ) → r .depth ≡ n → subjectOf (topFrame r fs) w ≡ subjectBelow fs w (r .depth)
-    go zero z = rw (eq-eqb (r .depth) 0 z, z) (top-none w)
-    go (suc n) z = let q : r .depth - 1 ≡ n = omega arith in rw (ne-eqb (r .depth) 0 (λ i. omega arith), q, load-frame fs n (omega arith), z)
+    go : (n : ℕ) → r .counts .depth ≡ n → subjectOf (topFrame r fs) w ≡ subjectBelow fs w (r .counts .depth)
+    go zero z = rw (eq-eqb (r .counts .depth) 0 z, z) (top-none w)
+    go (suc n) z = let q : r .counts .depth - 1 ≡ n = omega arith in rw (ne-eqb (r .counts .depth) 0 (λ i. omega arith), q, load-frame fs n (omega arith), z)
 
 pub lines-are : {x : Start} {d : Doc} {r : Registers} {fs bs is w e v : List ℕ} {m k : ℕ} {a cs rs : List ℕ} {count used : ℕ} → Valid r fs bs is w → d .frames ≡ elementsOf r fs bs is w
     → (g : Goes x d r fs bs w e v m k a cs rs count used) → linesOf x (topFrame r fs) (languageIn r fs) w e v k a cs rs ≡ g .what .lines
 unfolding linesOf
 lines-are {x} {d} {r} {fs} {bs} {is} {w} {e} {v} {m} {k} {a} {cs} {rs} y f g =
-    let deep : r .depth * FRAME ≤ length fs = omega (arith, y .frameWords, y .deep) in
+    let deep : r .counts .depth * FRAME ≤ length fs = omega (arith, y .frameWords, y .deep) in
     let l : orElse (maybe (x .plan .parts .tag) e a) (found (languageIn r fs) w) ≡ g .tag .language =
     rw (language-read y, ← f, g .ownTag) (sym (g .language)) in
     rw (below-top r fs w deep, l, ← g .attributes, g .kind, g .type) (sym (g .lines))

@@ -56,7 +56,7 @@ pub fn act<'a>(
     roles: &[u8],
     out: &mut [u8],
 ) -> Progress
-    requires { ⌜ Lawful r count used (lent (now frames) (now bindings) (now inners) (now work) (now «id_at») (now «id_len») (now ids) (now out)) × (r .closed ≡ false) × (r .inner ≡ 0) × Goes x (docIn r count (lent (now frames) (now bindings) (now inners) (now work) (now «id_at») (now «id_len») (now ids) (now out))) r (now frames) (now bindings) (now work) (now scratch) (now spans) m k (now area) (now classes) (now roles) count used ⌝ }
+    requires { ⌜ Lawful r count used (lent (now frames) (now bindings) (now inners) (now work) (now «id_at») (now «id_len») (now ids) (now out)) × (r .flags .closed ≡ false) × (r .counts .inner ≡ 0) × Goes x (docIn r count (lent (now frames) (now bindings) (now inners) (now work) (now «id_at») (now «id_len») (now ids) (now out))) r (now frames) (now bindings) (now work) (now scratch) (now spans) m k (now area) (now classes) (now roles) count used ⌝ }
     ensures { λ o. ⌜ HandlesAll (opening (take m (now (scratch .entry))) (attributesOf (now (scratch .entry)) (now (spans .entry)) k)) r count o (lent (now (frames .entry)) (now (bindings .entry)) (now (inners .entry)) (now (work .entry)) (now («id_at» .entry)) (now («id_len» .entry)) (now (ids .entry)) (now (out .entry))) (lent (now (frames .exit)) (now (bindings .exit)) (now (inners .entry)) (now (work .exit)) (now («id_at» .exit)) (now («id_len» .exit)) (now (ids .exit)) (now (out .exit))) ⌝ }
 {
     let said = say(

@@ -46,9 +46,9 @@ topName r fs w = span w (at (topFrame r fs) NAME) (at (topFrame r fs) BINDINGS)
 -- it is of kind q, in a state of an open document, with nothing open inside Literal content
 pub record Closing (q : Kind) (r : Registers) (fs bs is w : List ℕ) : Type 0 where
   pub valid : Valid r fs bs is w
-  pub mark : r .closed ≡ false
-  pub flat : r .inner ≡ 0
-  pub deep : 0 < r .depth
+  pub mark : r .flags .closed ≡ false
+  pub flat : r .counts .inner ≡ 0
+  pub deep : 0 < r .counts .depth
   pub kind : topFrame r fs .kind ≡ q
 
 -- its end tag is handled, whatever the bindings are
@@ -64,34 +64,34 @@ ends-as e k x = rw (ap (λ (g : Frame). g .kind) (sym e) ∙ k) x
 
 -- the document without it
 unfoldable pub without : Registers → List ℕ → List ℕ → List ℕ → List ℕ → List Bytes → Doc
-without r fs bs is w ids = withFrames (framesOf fs bs w (r .depth - 1) (first (topFrame r fs))) (docOf r fs bs is w ids)
+without r fs bs is w ids = withFrames (framesOf fs bs w (r .counts .depth - 1) (first (topFrame r fs))) (docOf r fs bs is w ids)
 
 -- by its kind
 abbrev pub ended : Kind → Registers → List ℕ → List ℕ → List ℕ → List ℕ → List Bytes → Answer Step
 ended q r fs bs is w ids =
-    endKind (whatOf q (topFrame r fs) w (subjectBelow fs w (r .depth - 1))) (topName r fs w) (languageInForce (elementsOf r fs bs is w)) (without r fs bs is w ids)
+    endKind (whatOf q (topFrame r fs) w (subjectBelow fs w (r .counts .depth - 1))) (topName r fs w) (languageInForce (elementsOf r fs bs is w)) (without r fs bs is w ids)
 
 -- the end tag of the first element
 close-first : (n : Bytes) (e : Element) (es fs : List Element) (d : Doc) → fs ≡ e ∷ es → n ≡ e .name → closeElement n fs d ≡ endKind (e .kind) n (languageInForce fs) (withFrames es d)
 unfolding closeElement _>>_ require_or_
 close-first n e es fs d p q = rw (p, q, same-refl (e .name))
 
-flat-elements : (r : Registers) (fs bs is w : List ℕ) → r .inner ≡ 0 → elementsOf r fs bs is w ≡ framesOf fs bs w (r .depth) (r .outer)
+flat-elements : (r : Registers) (fs bs is w : List ℕ) → r .counts .inner ≡ 0 → elementsOf r fs bs is w ≡ framesOf fs bs w (r .counts .depth) (r .counts .outer)
 unfolding elementsOf innersOf
 flat-elements r fs bs is w z = rw z
 
 module _ {q : Kind} {r : Registers} {fs bs is w : List ℕ} (c : Closing q r fs bs is w) where
   -- it and the others
   pub top-first : elementsOf r fs bs is w
-      ≡ elementOf (topFrame r fs) (bindingsOf bs w (first (topFrame r fs)) (r .outer - first (topFrame r fs))) w (subjectBelow fs w (r .depth - 1))
-      ∷ framesOf fs bs w (r .depth - 1) (first (topFrame r fs))
-  top-first = let k = topmost (c .valid) (c .deep) in flat-elements r fs bs is w (c .flat) ∙ (rw (← k .frame) at (top-element (c .valid) (r .depth - 1) (k .depth)))
+      ≡ elementOf (topFrame r fs) (bindingsOf bs w (first (topFrame r fs)) (r .counts .outer - first (topFrame r fs))) w (subjectBelow fs w (r .counts .depth - 1))
+      ∷ framesOf fs bs w (r .counts .depth - 1) (first (topFrame r fs))
+  top-first = let k = topmost (c .valid) (c .deep) in flat-elements r fs bs is w (c .flat) ∙ (rw (← k .frame) at (top-element (c .valid) (r .counts .depth - 1) (k .depth)))
 
   pub matches : (ids : List Bytes) → onEvent (closing (topName r fs w)) (docOf r fs bs is w ids) ≡ ended q r fs bs is w ids
   unfolding onEvent without docOf elementOf
   matches ids =
       close-first (topName r fs w) _ _ (elementsOf r fs bs is w) (docOf r fs bs is w ids) top-first refl
-      ∙ ap (λ (k : Kind). endKind (whatOf k (topFrame r fs) w (subjectBelow fs w (r .depth - 1))) (topName r fs w) (languageInForce (elementsOf r fs bs is w)) (without r fs bs is w ids)) (c .kind)
+      ∙ ap (λ (k : Kind). endKind (whatOf k (topFrame r fs) w (subjectBelow fs w (r .counts .depth - 1))) (topName r fs w) (languageInForce (elementsOf r fs bs is w)) (without r fs bs is w ids)) (c .kind)
 
 -- ---- what is left behind it
 
@@ -99,7 +99,7 @@ module _ {q : Kind} {r : Registers} {fs bs is w : List ℕ} (c : Closing q r fs 
 pub record Leaves (q : Kind) (r p : Registers) (fs bs is w gs v : List ℕ) (lines : List Triple) : Type 0 where
   pub answer : (ids : List Bytes) → ended q r fs bs is w ids ≡ good (lines, docOf p gs bs is v ids)
   pub valid : Valid p gs bs is v
-  pub mark : p .closed ≡ false
+  pub mark : p .flags .closed ≡ false
 
 -- the same where only the registers change, whatever the bindings are
 pub record Tells (q : Kind) (r p : Registers) (fs w : List ℕ) (lines : List Triple) : Type 0 where
@@ -130,7 +130,7 @@ module _ {q : Kind} {r : Registers} {fs bs is w out : List ℕ} (c : Closing q r
       pub refused-room : leb (length (write lines)) (length out) ≡ false → Handles (closing (topName r fs w)) r (Stop NoRoom) fs bs is w out fs bs is w out
       refused-room l = record { result = λ ids i. stopped (concludes c (length out) ids (e ids) ∙ no-room (length out) (lines, d ids) (h ids i) l) }
 
-      pub accepted : {p : Registers} {gs v out′ : List ℕ} {k : ℕ} → Wrote out out′ 0 k (write lines) → Valid p gs bs is v → p .closed ≡ false
+      pub accepted : {p : Registers} {gs v out′ : List ℕ} {k : ℕ} → Wrote out out′ 0 k (write lines) → Valid p gs bs is v → p .flags .closed ≡ false
           → ((ids : List Bytes) → docOf p gs bs is v ids ≡ d ids) → Handles (closing (topName r fs w)) r (Did (record { written = k; registers = p })) fs bs is w out gs bs is v out′
       accepted wr x m y =
           record {

@@ -43,17 +43,17 @@ use Rattle.closing.specs.Ends.{Closing, Ends, Tells, without, refused}
 module _ {q : Kind} {r : Registers} {fs bs is w : List ℕ} (c : Closing q r fs bs is w) where
   pub pops : mayPop r ≡ true
   unfolding mayPop
-  pops = rw (eq-eqb (r .inner) 0 (c .flat), lt-ltb 0 (r .depth) (c .deep))
+  pops = rw (eq-eqb (r .counts .inner) 0 (c .flat), lt-ltb 0 (r .counts .depth) (c .deep))
 
   -- what is known of the frame on top
-  pub top-stands : Sound fs bs w (topFrame r fs) (r .depth - 1) (r .top) (r .outer)
-  top-stands = let k = topmost (c .valid) (c .deep) in rw (k .frame) (top-frame (c .valid) (r .depth - 1) (k .depth))
+  pub top-stands : Sound fs bs w (topFrame r fs) (r .counts .depth - 1) (r .store .top) (r .counts .outer)
+  top-stands = let k = topmost (c .valid) (c .deep) in rw (k .frame) (top-frame (c .valid) (r .counts .depth - 1) (k .depth))
 
   module _ {u : Registers} (e : u ≡ N.without r fs) where
-    pub pop-is : Holds u fs bs is w (startOf r w) (framesOf fs bs w (r .depth - 1) (first (topFrame r fs))) (r .rooted) (r .labels)
+    pub pop-is : Holds u fs bs is w (startOf r w) (framesOf fs bs w (r .counts .depth - 1) (first (topFrame r fs))) (r .flags .rooted) (r .counts .labels)
     pop-is =
         let k = topmost (c .valid) (c .deep) in
-        rw (e, load-frame fs (r .depth - 1) (k .room), k .frame) (popped (c .valid) (r .depth - 1) (k .depth) (c .flat))
+        rw (e, load-frame fs (r .counts .depth - 1) (k .room), k .frame) (popped (c .valid) (r .counts .depth - 1) (k .depth) (c .flat))
 
     pub pop-doc : (ids : List Bytes) → without r fs bs is w ids ≡ docOf u fs bs is w ids
     unfolding without withFrames docOf
@@ -64,11 +64,11 @@ module _ {q : Kind} {r : Registers} {fs bs is w : List ℕ} (c : Closing q r fs 
     unfolding without withFrames withLabels docOf
     pop-labelled n h ids = sym (holds-doc (labelled-holds pop-is h) ids)
 
-    pub pop-mark : u .closed ≡ false
-    pop-mark = ap (λ (x : Registers). x .closed) e ∙ c .mark
+    pub pop-mark : u .flags .closed ≡ false
+    pop-mark = ap (λ (x : Registers). x .flags .closed) e ∙ c .mark
 
-    pub pop-depth : u .depth ≡ r .depth - 1
-    pop-depth = ap (λ (x : Registers). x .depth) e
+    pub pop-depth : u .counts .depth ≡ r .counts .depth - 1
+    pop-depth = ap (λ (x : Registers). x .counts .depth) e
 
     below-there : (n : ℕ) → nodeBelow fs n ≡ true → 0 < n
     unfolding nodeBelow
@@ -81,16 +81,16 @@ module _ {q : Kind} {r : Registers} {fs bs is w : List ℕ} (c : Closing q r fs 
     below-is (suc n) h = let p : suc n - 1 ≡ n = omega arith in rw p
 
     -- the subject of a property is the node around it
-    pub around : nodeBelow fs (r .depth - 1) ≡ true → subjectOf (topFrame u fs) w ≡ subjectBelow fs w (r .depth - 1)
+    pub around : nodeBelow fs (r .counts .depth - 1) ≡ true → subjectOf (topFrame u fs) w ≡ subjectBelow fs w (r .counts .depth - 1)
     around h =
-        let d : 0 < r .depth - 1 = below-there (r .depth - 1) h in
+        let d : 0 < r .counts .depth - 1 = below-there (r .counts .depth - 1) h in
         let k = topmost (pop-is .valid) (rw pop-depth d) in
-        rw (k .frame, pop-depth) (sym (below-is (r .depth - 1) d))
+        rw (k .frame, pop-depth) (sym (below-is (r .counts .depth - 1) d))
 
-    stood : stands q fs (r .depth - 1) ≡ true
-    stood = ap (λ (g : Kind). stands g fs (r .depth - 1)) (sym (c .kind)) ∙ top-stands .stood
+    stood : stands q fs (r .counts .depth - 1) ≡ true
+    stood = ap (λ (g : Kind). stands g fs (r .counts .depth - 1)) (sym (c .kind)) ∙ top-stands .stood
 
-labels-of : (r : Registers) (fs bs is w : List ℕ) (ids : List Bytes) → without r fs bs is w ids .labels ≡ r .labels
+labels-of : (r : Registers) (fs bs is w : List ℕ) (ids : List Bytes) → without r fs bs is w ids .labels ≡ r .counts .labels
 unfolding without withFrames docOf
 labels-of r fs bs is w ids = refl
 
@@ -172,9 +172,9 @@ module _ {r : Registers} {fs w : List ℕ} {p : Changed} (o : Pops r fs p) where
 
   -- ---- a Collection
 
-  pub collection-tells : {n f : Frame} {u : Registers} → f ≡ topFrame r fs → u ≡ labelledTo (p .registers) (r .labels + count f) → n ≡ topFrame u fs → r .labels + count f ≤ 99_999_999
+  pub collection-tells : {n f : Frame} {u : Registers} → f ≡ topFrame r fs → u ≡ labelledTo (p .registers) (r .counts .labels + count f) → n ≡ topFrame u fs → r .counts .labels + count f ≤ 99_999_999
       → Tells ParseTypeCollectionPropertyElt r u fs w
-      (cells (r .labels) nil (childrenOf w (count f) (at f END)) ++ statement (propertyOf f w (subjectOf n w)) (node (headCell (r .labels) nil (childrenOf w (count f) (at f END)))))
+      (cells (r .counts .labels) nil (childrenOf w (count f) (at f END)) ++ statement (propertyOf f w (subjectOf n w)) (node (headCell (r .counts .labels) nil (childrenOf w (count f) (at f END)))))
   unfolding whatOf endKind stands
   collection-tells {n} {f} {u} x y z h =
       record {
@@ -182,16 +182,16 @@ module _ {r : Registers} {fs w : List ℕ} {p : Changed} (o : Pops r fs p) where
             λ bs is c.
             let e = o .moved (pops c) in
             let cs : List Subject = childrenOf w (count f) (at f END) in
-            let m : n ≡ topFrame (p .registers) fs = z ∙ (ap (λ (v : Registers). topFrame v fs) y ∙ same-top (p .registers) (r .labels + count f) fs) in
+            let m : n ≡ topFrame (p .registers) fs = z ∙ (ap (λ (v : Registers). topFrame v fs) y ∙ same-top (p .registers) (r .counts .labels + count f) fs) in
             record {
               answer =
                   λ ids.
                   rw (m, y, ← x, around c e (stood c e))
-                  (collection-ends (propertyOf f w (subjectBelow fs w (r .depth - 1))) cs (languageInForce (elementsOf r fs bs is w)) (without r fs bs is w ids) (r .labels) (count f)
+                  (collection-ends (propertyOf f w (subjectBelow fs w (r .counts .depth - 1))) cs (languageInForce (elementsOf r fs bs is w)) (without r fs bs is w ids) (r .counts .labels) (count f)
                   (sym (labels-of r fs bs is w ids)) (sym (length-children w (count f) (at f END))) h
-                  ∙ ap (λ (d : Doc). good (cells (r .labels) nil cs ++ statement (propertyOf f w (subjectBelow fs w (r .depth - 1))) (node (headCell (r .labels) nil cs)), d)) (pop-labelled c e (r .labels + count f) h ids));
+                  ∙ ap (λ (d : Doc). good (cells (r .counts .labels) nil cs ++ statement (propertyOf f w (subjectBelow fs w (r .counts .depth - 1))) (node (headCell (r .counts .labels) nil cs)), d)) (pop-labelled c e (r .counts .labels + count f) h ids));
               valid = rw y (labelled-holds (pop-is c e) h .valid);
-              mark = ap (λ (v : Registers). v .closed) y ∙ pop-mark c e;
+              mark = ap (λ (v : Registers). v .flags .closed) y ∙ pop-mark c e;
             };
       }
 
@@ -200,7 +200,7 @@ pub literal-empty : {r : Registers} {fs w out : List ℕ} {f : Frame} → f ≡ 
 unfolding whatOf endKind endValue _>>_ require_or_
 literal-empty x z = record { handles = λ bs is c. refused c EmptyLiteral (λ ids. rw (rw x at z)) }
 
-pub labels-spent : {r : Registers} {fs w out : List ℕ} {f : Frame} → f ≡ topFrame r fs → 99_999_999 < r .labels + count f
+pub labels-spent : {r : Registers} {fs w out : List ℕ} {f : Frame} → f ≡ topFrame r fs → 99_999_999 < r .counts .labels + count f
     → Ends ParseTypeCollectionPropertyElt r (Stop LabelsSpent) fs w out fs w out
 unfolding whatOf endKind
 labels-spent {r} {fs} {w} {out} {f} x h =
@@ -210,7 +210,7 @@ labels-spent {r} {fs} {w} {out} {f} x h =
           refused c LabelsSpent
           (λ ids.
           rw (← x)
-          (collection-spent (propertyOf f w (subjectBelow fs w (r .depth - 1))) (childrenOf w (count f) (at f END)) (languageInForce (elementsOf r fs bs is w)) (without r fs bs is w ids) (r .labels) (count f)
+          (collection-spent (propertyOf f w (subjectBelow fs w (r .counts .depth - 1))) (childrenOf w (count f) (at f END)) (languageInForce (elementsOf r fs bs is w)) (without r fs bs is w ids) (r .counts .labels) (count f)
           (sym (labels-of r fs bs is w ids)) (sym (length-children w (count f) (at f END))) h));
     }
 
@@ -220,7 +220,7 @@ labels-spent {r} {fs} {w} {out} {f} x h =
 pub record Whole (r : Registers) (fs w : List ℕ) : Type 0 where
   pub kind : kindOk (topFrame r fs .kind) (topFrame r fs) w ≡ true
   pub ends : at (topFrame r fs) END ≤ length w
-  pub labels : r .labels ≤ 99_999_999
+  pub labels : r .counts .labels ≤ 99_999_999
 
 pub whole : {q : Kind} {r : Registers} {fs bs is w : List ℕ} → Closing q r fs bs is w → Whole r fs w
 whole {q} {r} {fs} {bs} {is} {w} c =
@@ -228,7 +228,7 @@ whole {q} {r} {fs} {bs} {is} {w} c =
     let t = top-stands c in
     record { kind = t .kind; ends = omega (arith, t .ends, x .apart, x .store, room x .low); labels = x .labels }
 
-pub listed : {r : Registers} {fs w : List ℕ} {f : Frame} → Whole r fs w → f ≡ topFrame r fs → topFrame r fs .kind ≡ ParseTypeCollectionPropertyElt → r .labels + count f ≤ 99_999_999 → Listed f w (r .labels)
+pub listed : {r : Registers} {fs w : List ℕ} {f : Frame} → Whole r fs w → f ≡ topFrame r fs → topFrame r fs .kind ≡ ParseTypeCollectionPropertyElt → r .counts .labels + count f ≤ 99_999_999 → Listed f w (r .counts .labels)
 listed {r} {fs} {w} {f} h e k l =
     record {
       children = rw e (sym (ap (λ (g : Kind). kindOk g (topFrame r fs) w) k) ∙ h .kind);

@@ -111,11 +111,11 @@ pub record HeldAfter (r : Registers) (fs : List ℕ) (n : ℕ) : Type 0 where
       → heldBytes (withFrames (closedNode (elementsOf r fs bs is w)) (docOf r fs bs is w ids)) ≡ n
 
 module _ {r : Registers} {fs bs is w : List ℕ} (c : Closing NodeElt r fs bs is w) where
-  node-closed : closedNode (elementsOf r fs bs is w) ≡ changeValue (takesNode (subjectOf (topFrame r fs) w)) (framesOf fs bs w (r .depth - 1) (first (topFrame r fs)))
+  node-closed : closedNode (elementsOf r fs bs is w) ≡ changeValue (takesNode (subjectOf (topFrame r fs) w)) (framesOf fs bs w (r .counts .depth - 1) (first (topFrame r fs)))
   unfolding elementOf whatOf
   node-closed =
       ap closedNode (top-first c)
-      ∙ closed-node _ _ (subjectOf (topFrame r fs) w) (count (topFrame r fs)) (ap (λ (k : Kind). whatOf k (topFrame r fs) w (subjectBelow fs w (r .depth - 1))) (c .kind))
+      ∙ closed-node _ _ (subjectOf (topFrame r fs) w) (count (topFrame r fs)) (ap (λ (k : Kind). whatOf k (topFrame r fs) w (subjectBelow fs w (r .counts .depth - 1))) (c .kind))
 
   node-ends : (ids : List Bytes) → ended NodeElt r fs bs is w ids ≡ good ([], withFrames (closedNode (elementsOf r fs bs is w)) (docOf r fs bs is w ids))
   unfolding whatOf endKind without withFrames
@@ -125,8 +125,8 @@ module _ {r : Registers} {fs bs is w : List ℕ} (c : Closing NodeElt r fs bs is
   record Placed : Type 0 where
     start : at (topFrame r fs) NAME ≤ at (topFrame r fs) MAIN
     main : at (topFrame r fs) MAIN ≤ at (topFrame r fs) ID
-    end : at (topFrame r fs) ID ≤ r .top
-    store : r .top ≤ 65_536
+    end : at (topFrame r fs) ID ≤ r .store .top
+    store : r .store .top ≤ 65_536
 
   placed : Placed
   placed =
@@ -141,46 +141,46 @@ module _ {r : Registers} {fs bs is w : List ℕ} (c : Closing NodeElt r fs bs is
       }
 
   module _ {u : Registers} (e : u ≡ N.without r fs) where
-    popped-top : (u .top ≡ at (topFrame r fs) NAME) × (u .outer ≡ first (topFrame r fs))
+    popped-top : (u .store .top ≡ at (topFrame r fs) NAME) × (u .counts .outer ≡ first (topFrame r fs))
     popped-top =
         let k = topmost (c .valid) (c .deep) in
-        let f : loadFrame fs (r .depth - 1) ≡ topFrame r fs = load-frame fs (r .depth - 1) (k .room) ∙ sym (k .frame) in
-        (ap (λ (x : Registers). x .top) e ∙ ap (λ (g : Frame). at g NAME) f, ap (λ (x : Registers). x .outer) e ∙ ap (λ (g : Frame). first g) f)
+        let f : loadFrame fs (r .counts .depth - 1) ≡ topFrame r fs = load-frame fs (r .counts .depth - 1) (k .room) ∙ sym (k .frame) in
+        (ap (λ (x : Registers). x .store .top) e ∙ ap (λ (g : Frame). at g NAME) f, ap (λ (x : Registers). x .counts .outer) e ∙ ap (λ (g : Frame). first g) f)
 
-    popped-flat : u .low ≡ 65_536
-    popped-flat = flat (pop-is c e .valid) (ap (λ (y : Registers). y .inner) e ∙ c .flat) .low
+    popped-flat : u .store .low ≡ 65_536
+    popped-flat = flat (pop-is c e .valid) (ap (λ (y : Registers). y .counts .inner) e ∙ c .flat) .low
 
-    popped-held : (ids : List Bytes) → heldBytes (withFrames (framesOf fs bs w (r .depth - 1) (first (topFrame r fs))) (docOf r fs bs is w ids)) ≡ u .top
+    popped-held : (ids : List Bytes) → heldBytes (withFrames (framesOf fs bs w (r .counts .depth - 1) (first (topFrame r fs))) (docOf r fs bs is w ids)) ≡ u .store .top
     unfolding without
     popped-held ids = ap heldBytes (pop-doc c e ids) ∙ omega (arith, held (pop-is c e .valid) ids, popped-flat)
 
-    popped-frames : framesOf fs bs w (r .depth - 1) (first (topFrame r fs)) ≡ framesOf fs bs w (u .depth) (u .outer)
+    popped-frames : framesOf fs bs w (r .counts .depth - 1) (first (topFrame r fs)) ≡ framesOf fs bs w (u .counts .depth) (u .counts .outer)
     popped-frames = rw (pop-depth c e, popped-top .1)
 
     -- the element around it
     record Around : Type 0 where
-      ends : at (topFrame u fs) END ≡ u .top
+      ends : at (topFrame u fs) END ≡ u .store .top
       up : Rising (topFrame u fs)
       kind : kindOk (topFrame u fs .kind) (topFrame u fs) w ≡ true
 
-    around-is : 0 < u .depth → Around
+    around-is : 0 < u .counts .depth → Around
     around-is d =
         let x = pop-is c e .valid in
         let k = topmost x d in
-        let t = rw (← k .frame) at (top-frame x (u .depth - 1) (k .depth)) in
+        let t = rw (← k .frame) at (top-frame x (u .counts .depth - 1) (k .depth)) in
         record { ends = t .ends; up = rising (topFrame u fs) (t .up); kind = t .kind }
 
-    held-by : 0 < u .depth → (ids : List Bytes)
-        → heldBytes (withFrames (closedNode (elementsOf r fs bs is w)) (docOf r fs bs is w ids)) + kindBytes (whatOf (topFrame u fs .kind) (topFrame u fs) w (subjectBelow fs w (u .depth - 1)))
-        ≡ u .top + kindBytes (onValue (takesNode (subjectOf (topFrame r fs) w)) (whatOf (topFrame u fs .kind) (topFrame u fs) w (subjectBelow fs w (u .depth - 1))))
+    held-by : 0 < u .counts .depth → (ids : List Bytes)
+        → heldBytes (withFrames (closedNode (elementsOf r fs bs is w)) (docOf r fs bs is w ids)) + kindBytes (whatOf (topFrame u fs .kind) (topFrame u fs) w (subjectBelow fs w (u .counts .depth - 1)))
+        ≡ u .store .top + kindBytes (onValue (takesNode (subjectOf (topFrame r fs) w)) (whatOf (topFrame u fs .kind) (topFrame u fs) w (subjectBelow fs w (u .counts .depth - 1))))
     unfolding elementOf
     held-by d ids =
         let x = pop-is c e .valid in
         let k = topmost x d in
-        let es = popped-frames ∙ (rw (← k .frame) at (top-element x (u .depth - 1) (k .depth))) in
+        let es = popped-frames ∙ (rw (← k .frame) at (top-element x (u .counts .depth - 1) (k .depth))) in
         let q = held-changed (takesNode (subjectOf (topFrame r fs) w))
-        (elementOf (topFrame u fs) (bindingsOf bs w (first (topFrame u fs)) (u .outer - first (topFrame u fs))) w (subjectBelow fs w (u .depth - 1)))
-        (framesOf fs bs w (u .depth - 1) (first (topFrame u fs))) (docOf r fs bs is w ids) (what-outside (topFrame u fs .kind) (topFrame u fs) w (subjectBelow fs w (u .depth - 1))) in
+        (elementOf (topFrame u fs) (bindingsOf bs w (first (topFrame u fs)) (u .counts .outer - first (topFrame u fs))) w (subjectBelow fs w (u .counts .depth - 1)))
+        (framesOf fs bs w (u .counts .depth - 1) (first (topFrame u fs))) (docOf r fs bs is w ids) (what-outside (topFrame u fs .kind) (topFrame u fs) w (subjectBelow fs w (u .counts .depth - 1))) in
         rw node-closed (rw (← es, popped-held ids) at q)
 
     -- ---- by the kind of the element around it
@@ -189,7 +189,7 @@ module _ {r : Registers} {fs bs is w : List ℕ} (c : Closing NodeElt r fs bs is
     subject-size = let p = placed in size-subject (topFrame r fs) w (p .main) (omega (arith, p .end, p .store, c .valid .store))
 
     module _ (o : sameKind (topFrame u fs .kind) PropertyElt ≡ true) where
-      in-property : 0 < u .depth
+      in-property : 0 < u .counts .depth
       in-property = top-deep u fs (λ i. false≢true (ap (λ (g : Kind). sameKind g PropertyElt) (sym i) ∙ o))
 
       held-object : (ids : List Bytes) → heldBytes (withFrames (closedNode (elementsOf r fs bs is w)) (docOf r fs bs is w ids)) ≡ at (topFrame u fs) TAIL + mainSize (topFrame r fs)
@@ -207,7 +207,7 @@ module _ {r : Registers} {fs bs is w : List ℕ} (c : Closing NodeElt r fs bs is
 
     module _ (y : sameKind (topFrame u fs .kind) PropertyElt ≡ false) where
       module _ (o : sameKind (topFrame u fs .kind) ParseTypeCollectionPropertyElt ≡ true) where
-        in-collection : 0 < u .depth
+        in-collection : 0 < u .counts .depth
         in-collection = top-deep u fs (λ i. false≢true (ap (λ (g : Kind). sameKind g ParseTypeCollectionPropertyElt) (sym i) ∙ o))
 
         held-child : (ids : List Bytes) → heldBytes (withFrames (closedNode (elementsOf r fs bs is w)) (docOf r fs bs is w ids)) ≡ at (topFrame u fs) END + mainSize (topFrame r fs) + 4
@@ -219,16 +219,16 @@ module _ {r : Registers} {fs bs is w : List ℕ} (c : Closing NodeElt r fs bs is
             omega (arith, q, a .ends, subject-size)
 
       held-none : sameKind (topFrame u fs .kind) ParseTypeCollectionPropertyElt ≡ false
-          → (ids : List Bytes) → heldBytes (withFrames (closedNode (elementsOf r fs bs is w)) (docOf r fs bs is w ids)) ≡ u .top
+          → (ids : List Bytes) → heldBytes (withFrames (closedNode (elementsOf r fs bs is w)) (docOf r fs bs is w ids)) ≡ u .store .top
       unfolding changeValue framesOf
       held-none o ids =
-          by (eqb (u .depth) 0)
+          by (eqb (u .counts .depth) 0)
           (λ z.
-          let n : framesOf fs bs w (r .depth - 1) (first (topFrame r fs)) ≡ [] = popped-frames ∙ rw (eqb-true (u .depth) 0 z) in
+          let n : framesOf fs bs w (r .counts .depth - 1) (first (topFrame r fs)) ≡ [] = popped-frames ∙ rw (eqb-true (u .counts .depth) 0 z) in
           rw (node-closed, n) (rw n at (popped-held ids)))
           (λ z.
-          let d : 0 < u .depth = positive (u .depth) (eqb-false (u .depth) 0 z) in
-          omega (arith, held-by d ids, none-bytes (topFrame u fs .kind) (topFrame u fs) w (subjectOf (topFrame r fs) w) (subjectBelow fs w (u .depth - 1)) y o))
+          let d : 0 < u .counts .depth = positive (u .counts .depth) (eqb-false (u .counts .depth) 0 z) in
+          omega (arith, held-by d ids, none-bytes (topFrame u fs .kind) (topFrame u fs) w (subjectOf (topFrame r fs) w) (subjectBelow fs w (u .counts .depth - 1)) y o))
 
 -- ---- the law of `held_after`
 
@@ -242,16 +242,16 @@ module _ {r : Registers} {fs : List ℕ} {p : Changed} {f n : Frame} {size : ℕ
     after-child k z =
         record { holds = λ bs is w c ids. rw (z, s, x, y) (held-child c (o .moved (pops c)) (rw y at j) (rw y at k) ids) }
 
-    pub after-none : sameKind (f .kind) ParseTypeCollectionPropertyElt ≡ false → HeldAfter r fs (p .registers .top)
+    pub after-none : sameKind (f .kind) ParseTypeCollectionPropertyElt ≡ false → HeldAfter r fs (p .registers .store .top)
     after-none k = record { holds = λ bs is w c ids. held-none c (o .moved (pops c)) (rw y at j) (rw y at k) ids }
 
 -- ---- nothing stands in its way
 
-may-take : (r : Registers) (words from to len end : ℕ) → to ≤ from → from + len ≤ 65_536 → end ≤ r .low → r .low ≤ 65_536 → 0 < r .depth → r .depth ≤ words / FRAME
+may-take : (r : Registers) (words from to len end : ℕ) → to ≤ from → from + len ≤ 65_536 → end ≤ r .store .low → r .store .low ≤ 65_536 → 0 < r .counts .depth → r .counts .depth ≤ words / FRAME
     → mayTake r words from to len end ≡ true
 unfolding L.all mayTake
 may-take r words from to len end a b d e f g =
-    rw (le-leb to from a, le-leb (from + len) 65_536 b, le-leb end (r .low) d, le-leb (r .low) 65_536 e, lt-ltb 0 (r .depth) f, le-leb (r .depth) (words / FRAME) g)
+    rw (le-leb to from a, le-leb (from + len) 65_536 b, le-leb end (r .store .low) d, le-leb (r .store .low) 65_536 e, lt-ltb 0 (r .counts .depth) f, le-leb (r .counts .depth) (words / FRAME) g)
 
 module _ {r : Registers} {fs bs is w : List ℕ} {n : ℕ} (c : Closing NodeElt r fs bs is w) (h : HeldAfter r fs n) (l : n ≤ 49_152) where
   takes : mayTakeNode (N.without r fs) (length fs) (topFrame (N.without r fs) fs) (topFrame r fs) ≡ true
@@ -261,7 +261,7 @@ module _ {r : Registers} {fs bs is w : List ℕ} {n : ℕ} (c : Closing NodeElt 
       let pl = placed c in
       let tp = popped-top c refl .0 in
       let fl = popped-flat c refl in
-      let dp : u .depth ≤ length fs / FRAME = omega (arith, c .valid .deep, c .valid .frameWords) in
+      let dp : u .counts .depth ≤ length fs / FRAME = omega (arith, c .valid .deep, c .valid .frameWords) in
       by (sameKind (topFrame u fs .kind) PropertyElt)
       (λ o.
       let d = in-property c refl o in
@@ -298,7 +298,7 @@ module _ {r : Registers} {fs bs is w : List ℕ} {n : ℕ} (c : Closing NodeElt 
       rw (eq-eqb (length w) 65_536 (c .valid .store), k, pops c, takes)
 
 -- the mark stays
-closed-mark : {r : Registers} {fs w gs v : List ℕ} {t : Changed} → ClosesNode r fs w t gs v → mayClose r fs w ≡ true → t .registers .closed ≡ r .closed
+closed-mark : {r : Registers} {fs w gs v : List ℕ} {t : Changed} → ClosesNode r fs w t gs v → mayClose r fs w ≡ true → t .registers .flags .closed ≡ r .flags .closed
 unfolding L.all
 closed-mark {r} {fs} {w} {gs} {v} {t} p m =
     let u : Registers = N.without r fs in
@@ -309,15 +309,15 @@ closed-mark {r} {fs} {w} {gs} {v} {t} p m =
     by (sameKind (f .kind) PropertyElt)
     (λ o.
     by (mayTake u (length fs) (at n MAIN) (at f TAIL) (mainSize n) (at f TAIL + mainSize n))
-    (λ y. ap (λ (x : Registers). x .closed) (k .object o .takes y .moved))
+    (λ y. ap (λ (x : Registers). x .flags .closed) (k .object o .takes y .moved))
     (λ y. absurd (false≢true (sym (k .object o .kept y .ok) ∙ ok))))
     (λ z.
     by (sameKind (f .kind) ParseTypeCollectionPropertyElt)
     (λ o.
     by (mayChild u (length fs) f n)
-    (λ y. ap (λ (x : Registers). x .closed) (k .child z o .takes y .moved))
+    (λ y. ap (λ (x : Registers). x .flags .closed) (k .child z o .takes y .moved))
     (λ y. absurd (false≢true (sym (k .child z o .kept y .ok) ∙ ok))))
-    (λ o. ap (λ (x : Registers). x .closed) (k .none z o .0)))
+    (λ o. ap (λ (x : Registers). x .flags .closed) (k .none z o .0)))
 
 -- ---- the law of `end_node`
 

@@ -67,7 +67,7 @@ module _ {r : Registers} {fs bs is w : List ℕ} (a : Asks r fs bs is w) (name :
       pub other-name : {out : List ℕ} → same name s ≡ false → Handles (closing name) r (Stop NotWellFormed) fs bs is w out fs bs is w out
       other-name h = no-match (λ ids. close-other name s (elementsOf r fs bs is w) (docOf r fs bs is w ids) first-is h)
 
-      pub is-closing : r .inner ≡ 0 → Closing (topFrame r fs .kind) r fs bs is w
+      pub is-closing : r .counts .inner ≡ 0 → Closing (topFrame r fs .kind) r fs bs is w
       is-closing z =
           record {
             valid = a .valid;
@@ -77,12 +77,12 @@ module _ {r : Registers} {fs bs is w : List ℕ} (a : Asks r fs bs is w) (name :
             kind = refl;
           }
 
-      named-so : r .inner ≡ 0 → firstName (elementsOf r fs bs is w) ≡ some (topName r fs w)
+      named-so : r .counts .inner ≡ 0 → firstName (elementsOf r fs bs is w) ≡ some (topName r fs w)
       unfolding firstName elementOf
       named-so z = rw (top-first (is-closing z))
 
       -- ---- it matches
-      pub matched : {o : Outcome} {out gs v out′ : List ℕ} → r .inner ≡ 0 → same name s ≡ true → Ends (topFrame r fs .kind) r o fs w out gs v out′ → Handles (closing name) r o fs bs is w out gs bs is v out′
+      pub matched : {o : Outcome} {out gs v out′ : List ℕ} → r .counts .inner ≡ 0 → same name s ≡ true → Ends (topFrame r fs .kind) r o fs w out gs v out′ → Handles (closing name) r o fs bs is w out gs bs is v out′
       matched z h x =
           let y : some s ≡ some (topName r fs w) = first-is ∙ named-so z in
           let n : name ≡ topName r fs w = same-true name s h ∙ (cc) in

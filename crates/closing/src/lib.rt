@@ -33,7 +33,7 @@ pub fn end_outside(
     name: &[u8],
     out: &mut [u8],
 ) -> Outcome
-    requires { ⌜ Asks r (now frames) (now bindings) (now inners) (now work) × (r .inner ≡ 0) ⌝ }
+    requires { ⌜ Asks r (now frames) (now bindings) (now inners) (now work) × (r .counts .inner ≡ 0) ⌝ }
     ensures { λ o. ⌜ Handles (closing (now (name .entry))) r o (now (frames .entry)) (now (bindings .entry)) (now (inners .entry)) (now (work .entry)) (now (out .entry)) (now (frames .exit)) (now (bindings .entry)) (now (inners .entry)) (now (work .exit)) (now (out .exit)) ⌝ }
 {
     let own = inside::name(r, frames, inners);
@@ -195,7 +195,7 @@ fn end_collection(r: Registers, frames: &[u32], work: &[u8], out: &mut [u8]) -> 
 {
     let f = stack::top(r, frames);
     let has = f.has;
-    let had = r.labels;
+    let had = r.counts.labels;
     let labels = had + wide(has[Frame::COUNT]) as u64;
     if labels > BlankNodeIdGenerator::MOST_LABELS {
         return Outcome::Stop(Refusal::LabelsSpent);
@@ -233,7 +233,7 @@ fn held_after(r: Registers, frames: &[u32]) -> usize
     if stack::same_kind(kind, Kind::ParseTypeCollectionPropertyElt) {
         return wide(at[Frame::END]) + size + 4;
     }
-    behind.top
+    behind.store.top
 }
 
 // The size of a node's subject.

@@ -41,7 +41,7 @@ pub record Forms (b : Bool) (r : Registers) (fs bs w e v : List ℕ) (k : ℕ) :
 -- ---- a second root
 
 abbrev pub isSecond : Registers → Bool
-isSecond r = (r .rooted && eqb (r .depth) 0) && eqb (r .inner) 0
+isSecond r = (r .flags .rooted && eqb (r .counts .depth) 0) && eqb (r .counts .inner) 0
 
 no-elements : (es : List Frame) → isEmpty es ≡ eqb (length es) 0
 unfolding isEmpty
@@ -55,7 +55,7 @@ both-zero true (suc m) n = rw (ne-eqb (suc m + n) 0 (λ z. omega arith), ne-eqb 
 
 second-read : (r : Registers) (fs bs is w : List ℕ) (ids : List Bytes) → isSecondRoot (docOf r fs bs is w ids) ≡ isSecond r
 unfolding isSecondRoot docOf
-second-read r fs bs is w ids = rw (no-elements (elementsOf r fs bs is w), H.depth r fs bs is w) (both-zero (r .rooted) (r .depth) (r .inner))
+second-read r fs bs is w ids = rw (no-elements (elementsOf r fs bs is w), H.depth r fs bs is w) (both-zero (r .flags .rooted) (r .counts .depth) (r .counts .inner))
 
 -- ---- where it stands
 
@@ -84,7 +84,7 @@ module _ {r : Registers} {fs bs w : List ℕ} (e v : List ℕ) (k : ℕ) {p : Pl
   unfolding repeated if_then_else_
   repeats-written t h = record { is = λ x ids. rw (xml-read x, t) h }
 
-  pub repeats-expanded : i ≡ false → Splits e v k → {b : Bool} → Finds e v k w bs (r .bindings) b → Repeats b r fs bs w e v k
+  pub repeats-expanded : i ≡ false → Splits e v k → {b : Bool} → Finds e v k w bs (r .counts .bindings) b → Repeats b r fs bs w e v k
   unfolding repeated if_then_else_ docOf scope
   repeats-expanded t s f = record { is = λ x ids. rw (xml-read x, t, in-scope x) (f .is ∙ expanded-means (f .are) s) }
 

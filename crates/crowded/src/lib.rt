@@ -83,7 +83,7 @@ fn is_well_formed<'a>(
 fn is_second_root(r: Registers) -> bool
     ensures { λ b. ⌜ b ≡ isSecond r ⌝ }
 {
-    r.rooted & (r.depth == 0) & (r.inner == 0)
+    r.flags.rooted & (r.counts.depth == 0) & (r.counts.inner == 0)
 }
 
 // Do two attributes repeat: as written in Literal content, else by expanded name?
@@ -128,13 +128,13 @@ fn repeats_expanded<'a>(
     k: usize,
 ) -> bool
     requires { ⌜ Within (now spans) k × (k ≤ 8_192) ⌝ }
-    ensures { λ b. ⌜ Finds (now (scratch .entry)) (now (spans .entry)) k (now (work .entry)) (now (bindings .entry)) (r .bindings) b ⌝ }
+    ensures { λ b. ⌜ Finds (now (scratch .entry)) (now (spans .entry)) k (now (work .entry)) (now (bindings .entry)) (r .counts .bindings) b ⌝ }
 {
     if FEW < k {
-        return crate::own::repeated_expanded(scratch, spans, k, work, bindings, r.bindings);
+        return crate::own::repeated_expanded(scratch, spans, k, work, bindings, r.counts.bindings);
     }
     let mut classes = [0usize; FEW * Class::WORDS];
-    names::classify(scratch, spans, k, work, bindings, r.bindings, &mut classes);
+    names::classify(scratch, spans, k, work, bindings, r.counts.bindings, &mut classes);
     names::repeated_expanded(scratch, spans, k, work, &classes)
 }
 

@@ -43,40 +43,40 @@ pub record Ready (r : Registers) (fs bs w e s : List ℕ) (m k : ℕ) (a : List 
   pub frameWords : length fs ≡ TABLE
   pub bindingWords : length bs ≡ 384
   pub store : length w ≡ 65_536
-  pub inner : r .inner ≡ 0
-  pub depth : r .depth < 64
-  pub bindings : r .outer + length (declared (attributesOf e s k)) ≤ 128
-  pub room : (t : Subject) → r .top + frameBytes (newElement e s m k a p t) ≤ 49_152
+  pub inner : r .counts .inner ≡ 0
+  pub depth : r .counts .depth < 64
+  pub bindings : r .counts .outer + length (declared (attributesOf e s k)) ≤ 128
+  pub room : (t : Subject) → r .store .top + frameBytes (newElement e s m k a p t) ≤ 49_152
   pub fitting : Fitting p
-  pub stood : stands (p .kind) fs (r .depth) ≡ true
+  pub stood : stands (p .kind) fs (r .counts .depth) ≡ true
 
 -- one more element, which is the new one
 pub record Opens (r : Registers) (fs bs w e s : List ℕ) (m k : ℕ) (a : List ℕ) (p : Parts) (q : Registers) (gs cs v : List ℕ) : Type 0 where
   pub holds : (is : List ℕ) → Valid r fs bs is w
-      → Holds q gs cs is v (startOf r w) (newElement e s m k a p (subjectBelow fs w (r .depth)) ∷ elementsOf r fs bs is w) true (r .labels)
-  pub closed : q .closed ≡ r .closed
+      → Holds q gs cs is v (startOf r w) (newElement e s m k a p (subjectBelow fs w (r .counts .depth)) ∷ elementsOf r fs bs is w) true (r .counts .labels)
+  pub closed : q .flags .closed ≡ r .flags .closed
   pub frames : length gs ≡ length fs
   pub bindings : length cs ≡ length bs
   pub work : length v ≡ length w
 
 -- where the bindings go of an element with name n
 abbrev pub behindName : Registers → Bytes → Next
-behindName r n = record { at = r .top + length n; row = r .outer }
+behindName r n = record { at = r .store .top + length n; row = r .counts .outer }
 
-may-push : (r : Registers) (fs : List ℕ) → r .inner ≡ 0 → r .depth < 64 → length fs ≡ TABLE → mayPush r fs ≡ true
+may-push : (r : Registers) (fs : List ℕ) → r .counts .inner ≡ 0 → r .counts .depth < 64 → length fs ≡ TABLE → mayPush r fs ≡ true
 unfolding L.all mayPush
-may-push r fs z d l = rw (eq-eqb (r .inner) 0 z, lt-ltb (r .depth) 64 d, le-leb (r .depth * FRAME + FRAME) (length fs) (omega arith))
+may-push r fs z d l = rw (eq-eqb (r .counts .inner) 0 z, lt-ltb (r .counts .depth) 64 d, le-leb (r .counts .depth * FRAME + FRAME) (length fs) (omega arith))
 
 module _ {r : Registers} {fs bs w e s : List ℕ} {m k : ℕ} {a : List ℕ} {p : Parts} (y : Ready r fs bs w e s m k a p) where
-  sum : r .top + (length (part e 0 m) + total bindingBytes (declared (attributesOf e s k)) + partsBytes p e a) ≤ 49_152
+  sum : r .store .top + (length (part e 0 m) + total bindingBytes (declared (attributesOf e s k)) + partsBytes p e a) ≤ 49_152
   sum = omega (arith, measured e s m k a p (y .fitting) refl refl refl .bytes (named []), y .room (named []))
 
   -- n is the element's name
   module _ {n : Bytes} (i : n ≡ part e 0 m) where
-    pub name-room : r .top + length n ≤ 49_152
+    pub name-room : r .store .top + length n ≤ 49_152
     name-room = omega (arith, sum, ap length i)
 
-    module _ {u : List ℕ} {t : Bool} (g : Put w (r .top) n u t) where
+    module _ {u : List ℕ} {t : Bool} (g : Put w (r .store .top) n u t) where
       pub bind-room : Fits u bs (behindName r n) (total bindingBytes (declared (attributesOf e s k))) (length (declared (attributesOf e s k)))
       bind-room =
           record {
@@ -85,11 +85,11 @@ module _ {r : Registers} {fs bs w e s : List ℕ} {m k : ℕ} {a : List ℕ} {p 
             words = omega (arith, y .bindingWords, y .bindings);
           }
 
-      name-wrote : Wrote w u (r .top) (r .top + length n) n
+      name-wrote : Wrote w u (r .store .top) (r .store .top + length n) n
       name-wrote = put-fits g (omega (arith, y .store, name-room))
 
       module _ {x cs : List ℕ} {q : Next} (h : Entered u bs x cs (behindName r n) q (declared (attributesOf e s k))) where
-        pub lay-room : Spread x e a p (r .top) (r .top + length n) (q .at)
+        pub lay-room : Spread x e a p (r .store .top) (r .store .top + length n) (q .at)
         lay-room =
             record {
               store = omega (arith, h .sameBytes, g .same, y .store);
@@ -98,49 +98,49 @@ module _ {r : Registers} {fs bs w e s : List ℕ} {m k : ℕ} {a : List ℕ} {p 
               room = omega (arith, h .sameBytes, g .same, y .store, h .ends, sum, ap length i);
             }
 
-        module _ {v pl : List ℕ} (l : Lays x v e a p (r .top) (r .top + length n) (q .at) pl) where
+        module _ {v pl : List ℕ} (l : Lays x v e a p (r .store .top) (r .store .top + length n) (q .at) pl) where
           above : Kept x v 0 (q .at)
           above = rw (l .baseAt) at (kept-before (l .wrote))
 
           name-is : span v (getD pl NAME 0) (getD pl BINDINGS 0) ≡ take m e
           unfolding span part
           name-is =
-              let d : r .top + length n - r .top ≡ length n = omega arith in
-              let j : part v (r .top) (length n) ≡ part x (r .top) (length n) = above .parts (r .top) (length n) (omega arith) (omega (arith, h .ends)) in
-              let o : part x (r .top) (length n) ≡ part u (r .top) (length n) = h .before .parts (r .top) (length n) (omega arith) (omega arith) in
+              let d : r .store .top + length n - r .store .top ≡ length n = omega arith in
+              let j : part v (r .store .top) (length n) ≡ part x (r .store .top) (length n) = above .parts (r .store .top) (length n) (omega arith) (omega (arith, h .ends)) in
+              let o : part x (r .store .top) (length n) ≡ part u (r .store .top) (length n) = h .before .parts (r .store .top) (length n) (omega arith) (omega arith) in
               ap (λ (z : ℕ). span v z (getD pl BINDINGS 0)) (l .nameAt)
-              ∙ (ap (span v (r .top)) (l .boundAt) ∙ (ap (part v (r .top)) d ∙ (j ∙ (o ∙ (wrote-part name-wrote ∙ i)))))
+              ∙ (ap (span v (r .store .top)) (l .boundAt) ∙ (ap (part v (r .store .top)) d ∙ (j ∙ (o ∙ (wrote-part name-wrote ∙ i)))))
 
-          bound-is : Bound cs v (r .outer) (q .row - r .outer) (getD pl BINDINGS 0) (getD pl BASE 0) (declared (attributesOf e s k))
+          bound-is : Bound cs v (r .counts .outer) (q .row - r .counts .outer) (getD pl BINDINGS 0) (getD pl BASE 0) (declared (attributesOf e s k))
           bound-is =
-              let d : q .row - r .outer ≡ length (declared (attributesOf e s k)) = omega (arith, h .rows) in
+              let d : q .row - r .counts .outer ≡ length (declared (attributesOf e s k)) = omega (arith, h .rows) in
               rw (d, l .boundAt, l .baseAt)
               (record {
                 chain = h .bound .chain;
                 are =
-                    bindings-kept (kept-all {w = cs} {lo = 0} {hi = (r .outer + length (declared (attributesOf e s k))) * 3}) above
-                    (r .outer) (length (declared (attributesOf e s k))) (r .top + length n) (q .at) (omega arith) (omega arith) (omega arith) (omega arith) (h .bound .chain)
+                    bindings-kept (kept-all {w = cs} {lo = 0} {hi = (r .counts .outer + length (declared (attributesOf e s k))) * 3}) above
+                    (r .counts .outer) (length (declared (attributesOf e s k))) (r .store .top + length n) (q .at) (omega arith) (omega arith) (omega arith) (omega arith) (h .bound .chain)
                     ∙ h .bound .are;
               })
 
-          element-is : (t : Subject) → elementOf (frameIs p pl (r .outer)) (declared (attributesOf e s k)) v t ≡ newElement e s m k a p t
+          element-is : (t : Subject) → elementOf (frameIs p pl (r .counts .outer)) (declared (attributesOf e s k)) v t ≡ newElement e s m k a p t
           unfolding elementOf newElement
           element-is t =
-              let j = lays-laid l (r .outer) in
+              let j = lays-laid l (r .counts .outer) in
               rw (
                 name-is,
                 j .ownBase,
                 j .ownTag,
                 optional-is e a (p .base),
                 optional-is e a (p .tag),
-                lays-what l (r .outer) (p .kind) (y .fitting .lacks) t,
+                lays-what l (r .counts .outer) (p .kind) (y .fitting .lacks) t,
               )
 
           ends-low : getD pl END 0 ≤ 49_152
           ends-low =
               omega (arith, l .baseAt, l .tagAt, l .mainAt, l .idAt, l .typeAt, l .tailAt, l .endAt, h .ends, sum, ap length i)
 
-          rising-is : Rising (frameIs p pl (r .outer))
+          rising-is : Rising (frameIs p pl (r .counts .outer))
           rising-is =
               record {
                 name = omega (arith, l .nameAt, l .boundAt);
@@ -153,7 +153,7 @@ module _ {r : Registers} {fs bs w e s : List ℕ} {m k : ℕ} {a : List ℕ} {p 
                 tail = omega (arith, l .endAt);
               }
 
-          new-is : {is : List ℕ} → Valid r fs bs is w → New r fs bs w cs v (frameIs p pl (r .outer)) (q .row) (declared (attributesOf e s k))
+          new-is : {is : List ℕ} → Valid r fs bs is w → New r fs bs w cs v (frameIs p pl (r .counts .outer)) (q .row) (declared (attributesOf e s k))
           new-is x′ =
               record {
                 places = l .size;
@@ -171,19 +171,19 @@ module _ {r : Registers} {fs bs w e s : List ℕ} {m k : ℕ} {a : List ℕ} {p 
                 least = omega (arith, h .rows);
                 most = omega (arith, h .rows, y .bindings);
                 bindings = bound-is;
-                parts = lays-parts l (r .outer);
-                kind = lays-kind l (r .outer) (p .kind) (y .fitting .lacks);
+                parts = lays-parts l (r .counts .outer);
+                kind = lays-kind l (r .counts .outer) (p .kind) (y .fitting .lacks);
                 stood = y .stood;
               }
 
-          pub opens : {hs gs : List ℕ} {c : Changed} → hs ≡ marksOf p (r .outer) → Pushes r fs (frameOf (p .kind) pl hs) (q .row) c gs
+          pub opens : {hs gs : List ℕ} {c : Changed} → hs ≡ marksOf p (r .counts .outer) → Pushes r fs (frameOf (p .kind) pl hs) (q .row) c gs
               → Opens r fs bs w e s m k a p (c .registers) gs cs v
           opens {hs} {gs} {c} j o =
-              let o′ : Pushes r fs (frameIs p pl (r .outer)) (q .row) c gs = rw j at o in
+              let o′ : Pushes r fs (frameIs p pl (r .counts .outer)) (q .row) c gs = rw j at o in
               let ok : mayPush r fs ≡ true = may-push r fs (y .inner) (y .depth) (y .frameWords) in
               record {
-                holds = λ is x′. rw (← element-is (subjectBelow fs w (r .depth))) (push-holds x′ o′ (o .answer ∙ ok) (new-is x′));
-                closed = ap (λ (z : Registers). z .closed) (o .moved ok);
+                holds = λ is x′. rw (← element-is (subjectBelow fs w (r .counts .depth))) (push-holds x′ o′ (o .answer ∙ ok) (new-is x′));
+                closed = ap (λ (z : Registers). z .flags .closed) (o .moved ok);
                 frames = o .same;
                 bindings = h .sameWords;
                 work = l .same ∙ (h .sameBytes ∙ g .same);
@@ -191,13 +191,13 @@ module _ {r : Registers} {fs bs w e s : List ℕ} {m k : ℕ} {a : List ℕ} {p 
 
 -- ---- how a caller comes to be ready
 
-top-is : (r : Registers) (fs : List ℕ) → 0 < r .depth → (r .depth - 1) * FRAME + FRAME ≤ length fs → topFrame r fs ≡ frameAt fs (r .depth - 1)
+top-is : (r : Registers) (fs : List ℕ) → 0 < r .counts .depth → (r .counts .depth - 1) * FRAME + FRAME ≤ length fs → topFrame r fs ≡ frameAt fs (r .counts .depth - 1)
 unfolding topFrame
-top-is r fs d h = rw (ne-eqb (r .depth) 0 (λ z. omega arith)) (load-frame fs (r .depth - 1) h)
+top-is r fs d h = rw (ne-eqb (r .counts .depth) 0 (λ z. omega arith)) (load-frame fs (r .counts .depth - 1) h)
 
 -- of a valid state, with the size as `size` gives it
-pub ready-valid : {r : Registers} {fs bs is w e s : List ℕ} {m k : ℕ} {a : List ℕ} {p : Parts} {n : ℕ} → Valid r fs bs is w → r .inner ≡ 0 → r .depth < 64
-    → r .outer + length (declared (attributesOf e s k)) ≤ 128 → Measures e s m k a p n → r .top + n ≤ 49_152 → Fitting p → stands (p .kind) fs (r .depth) ≡ true
+pub ready-valid : {r : Registers} {fs bs is w e s : List ℕ} {m k : ℕ} {a : List ℕ} {p : Parts} {n : ℕ} → Valid r fs bs is w → r .counts .inner ≡ 0 → r .counts .depth < 64
+    → r .counts .outer + length (declared (attributesOf e s k)) ≤ 128 → Measures e s m k a p n → r .store .top + n ≤ 49_152 → Fitting p → stands (p .kind) fs (r .counts .depth) ≡ true
     → Ready r fs bs w e s m k a p
 ready-valid x z d b me ro f st =
     record {
@@ -213,19 +213,19 @@ ready-valid x z d b me ro f st =
     }
 
 -- any element may stand in a node
-pub stands-in : (r : Registers) (fs : List ℕ) → topFrame r fs .kind ≡ NodeElt → r .depth ≤ 64 → length fs ≡ TABLE → (q : Kind) → stands q fs (r .depth) ≡ true
+pub stands-in : (r : Registers) (fs : List ℕ) → topFrame r fs .kind ≡ NodeElt → r .counts .depth ≤ 64 → length fs ≡ TABLE → (q : Kind) → stands q fs (r .counts .depth) ≡ true
 unfolding stands nodeBelow isNode
 stands-in r fs h d l = go
   where
-    deep : 0 < r .depth
+    deep : 0 < r .counts .depth
     deep = top-deep r fs (λ i. false≢true (ap isNode (sym i ∙ h)))
 
-    node : nodeBelow fs (r .depth) ≡ true
+    node : nodeBelow fs (r .counts .depth) ≡ true
     node =
-        let e : r .depth ≡ suc (r .depth - 1) = omega (arith, deep) in
+        let e : r .counts .depth ≡ suc (r .counts .depth - 1) = omega (arith, deep) in
         rw e (rw (← top-is r fs deep (omega (arith, deep)), h))
 
-    go : (q : Kind) → stands q fs (r .depth) ≡ true
+    go : (q : Kind) → stands q fs (r .counts .depth) ≡ true
     go Rdf = refl
     go NodeElt = refl
     go PropertyElt = node
@@ -247,8 +247,8 @@ count-bytes i [] = refl
 count-bytes i (f ∷ es) = rw (counted-bytes i (f .kind))
 
 -- held bytes, as the element would leave them
-pub held-with : {r : Registers} {fs bs is w : List ℕ} → Valid r fs bs is w → r .inner ≡ 0 → (i : Bytes) (f : Element)
-    → sizeOf (startOf r w) + total frameBytes (f ∷ countLi i (elementsOf r fs bs is w)) ≡ r .top + frameBytes f
+pub held-with : {r : Registers} {fs bs is w : List ℕ} → Valid r fs bs is w → r .counts .inner ≡ 0 → (i : Bytes) (f : Element)
+    → sizeOf (startOf r w) + total frameBytes (f ∷ countLi i (elementsOf r fs bs is w)) ≡ r .store .top + frameBytes f
 unfolding heldBytes docOf total
 held-with {r} {fs} {bs} {is} {w} x z i f = omega (arith, held x [], count-bytes i (elementsOf r fs bs is w), flat x z .low)
 
@@ -263,8 +263,8 @@ pub record Granted (r : Registers) (fs bs w e s : List ℕ) (m k : ℕ) (a : Lis
 -- one more element, counted in the node around it where it is an rdf:li
 pub record Commits (r : Registers) (fs bs w e s : List ℕ) (m k : ℕ) (a : List ℕ) (p : Parts) (li : Bool) (labels : ℕ) (q : Registers) (gs cs v : List ℕ) : Type 0 where
   pub holds : (is : List ℕ) → Valid r fs bs is w → (i : Bytes) → isLi i ≡ li
-      → Holds q gs cs is v (startOf r w) (newElement e s m k a p (subjectBelow fs w (r .depth)) ∷ countLi i (elementsOf r fs bs is w)) true labels
-  pub closed : q .closed ≡ r .closed
+      → Holds q gs cs is v (startOf r w) (newElement e s m k a p (subjectBelow fs w (r .counts .depth)) ∷ countLi i (elementsOf r fs bs is w)) true labels
+  pub closed : q .flags .closed ≡ r .flags .closed
   pub frames : length gs ≡ length fs
   pub bindings : length cs ≡ length bs
   pub work : length v ≡ length w
@@ -313,22 +313,22 @@ module _ {r : Registers} {fs bs w e s : List ℕ} {m k : ℕ} {a : List ℕ} {p 
         stood = stays li refl ∙ y .ready .stood;
       }
     where
-      stays : (t : Bool) → li ≡ t → stands (p .kind) fs1 (r .depth) ≡ stands (p .kind) fs (r .depth)
+      stays : (t : Bool) → li ≡ t → stands (p .kind) fs1 (r .counts .depth) ≡ stands (p .kind) fs (r .counts .depth)
       stays true t = li-stands (c .yes t) (may t) (p .kind)
       stays false t = rw (c .no t)
 
   module _ {q : Registers} {gs cs v : List ℕ} (o : Opens r fs1 bs w e s m k a p q gs cs v) where
     opened-holds : (is : List ℕ) → Valid r fs bs is w → (i : Bytes) → isLi i ≡ li
-        → Holds q gs cs is v (startOf r w) (newElement e s m k a p (subjectBelow fs w (r .depth)) ∷ countLi i (elementsOf r fs bs is w)) true (r .labels)
+        → Holds q gs cs is v (startOf r w) (newElement e s m k a p (subjectBelow fs w (r .counts .depth)) ∷ countLi i (elementsOf r fs bs is w)) true (r .counts .labels)
     opened-holds is x i j = go li refl
       where
         go : (t : Bool) → li ≡ t
-            → Holds q gs cs is v (startOf r w) (newElement e s m k a p (subjectBelow fs w (r .depth)) ∷ countLi i (elementsOf r fs bs is w)) true (r .labels)
+            → Holds q gs cs is v (startOf r w) (newElement e s m k a p (subjectBelow fs w (r .counts .depth)) ∷ countLi i (elementsOf r fs bs is w)) true (r .counts .labels)
         go true t =
             let h = li-holds x (y .ready .inner) (c .yes t) (may t) i (j ∙ t) in
             rw (← li-below (c .yes t) (may t) w, ← h .elements) (o .holds is (h .valid))
         go false t =
-            let h : Holds q gs cs is v (startOf r w) (newElement e s m k a p (subjectBelow fs w (r .depth)) ∷ elementsOf r fs bs is w) true (r .labels) =
+            let h : Holds q gs cs is v (startOf r w) (newElement e s m k a p (subjectBelow fs w (r .counts .depth)) ∷ elementsOf r fs bs is w) true (r .counts .labels) =
             rw (c .no t) at (o .holds is (rw (c .no t) x)) in
             rw (no-li i (j ∙ t) (elementsOf r fs bs is w)) h
 
@@ -336,7 +336,7 @@ module _ {r : Registers} {fs bs w e s : List ℕ} {m k : ℕ} {a : List ℕ} {p 
     commits {q′} e′ =
         record {
           holds = λ is x i j. rw e′ (labelled-holds (opened-holds is x i j) (y .few));
-          closed = ap (λ (z : Registers). z .closed) e′ ∙ o .closed;
+          closed = ap (λ (z : Registers). z .flags .closed) e′ ∙ o .closed;
           frames = o .frames ∙ c .same;
           bindings = o .bindings;
           work = o .work;

@@ -118,16 +118,16 @@ pub fn open<'a>(
     requires { ⌜ Ready r (now frames) (now bindings) (now work) (now scratch) (now spans) m k (now area) parts ⌝ }
     ensures { λ q. ⌜ Opens r (now (frames .entry)) (now (bindings .entry)) (now (work .entry)) (now (scratch .entry)) (now (spans .entry)) m k (now (area .entry)) parts q (now (frames .exit)) (now (bindings .exit)) (now (work .exit)) ⌝ }
 {
-    let top = r.top;
+    let top = r.store.top;
     let name = names::piece(scratch, 0, m);
     copy::put(work, top, name);
     let from = Next {
         at: top + name.len(),
-        row: r.outer,
+        row: r.counts.outer,
     };
     let next = bind_all(work, bindings, from, scratch, spans, k);
     let at = lay(work, top, from.at, next.at, scratch, area, parts);
-    let has = marks(parts, r.outer);
+    let has = marks(parts, r.counts.outer);
     let kind = parts.kind;
     let c = stack::push(r, frames, kind, at, has, next.row);
     c.registers

@@ -28,7 +28,7 @@ placeOf ParseTypeLiteralPropertyElt = Xml
 placeOf ParseTypeOtherPropertyElt = Xml
 
 unfoldable pub placeAt : Registers → List ℕ → Place
-placeAt r fs = pick (eqb (r .inner) 0) (pick (eqb (r .depth) 0) Outside (placeOf (loadFrame fs (r .depth - 1) .kind))) Xml
+placeAt r fs = pick (eqb (r .counts .inner) 0) (pick (eqb (r .counts .depth) 0) Outside (placeOf (loadFrame fs (r .counts .depth - 1) .kind))) Xml
 
 -- ---- in the definitions' words
 
@@ -51,45 +51,45 @@ kind-place ParseTypeOtherPropertyElt f w s = refl
 
 -- the frame on top, if there is one
 abbrev pub topOf : Registers → List ℕ → Frame
-topOf r fs = frameAt fs (r .depth - 1)
+topOf r fs = frameAt fs (r .counts .depth - 1)
 
 module _ {r : Registers} {fs bs is w : List ℕ} (x : Valid r fs bs is w) where
-  in-xml : (n : ℕ) → r .inner ≡ suc n → D.placeIn (elementsOf r fs bs is w) ≡ D.xml
+  in-xml : (n : ℕ) → r .counts .inner ≡ suc n → D.placeIn (elementsOf r fs bs is w) ≡ D.xml
   unfolding D.placeIn elementsOf innersOf innerOf D.inKind
   in-xml n d = rw d
 
-  in-frame : r .inner ≡ 0 → (n : ℕ) → r .depth ≡ suc n
+  in-frame : r .counts .inner ≡ 0 → (n : ℕ) → r .counts .depth ≡ suc n
       → D.placeIn (elementsOf r fs bs is w) ≡ placeIs (placeOf (frameAt fs n .kind)) (subjectOf (frameAt fs n) w) (count (frameAt fs n))
   unfolding D.placeIn elementsOf innersOf framesOf elementOf
   in-frame z n d = rw (z, d) (kind-place (frameAt fs n .kind) (frameAt fs n) w _)
 
-  in-nothing : r .inner ≡ 0 → r .depth ≡ 0 → D.placeIn (elementsOf r fs bs is w) ≡ D.outside
+  in-nothing : r .counts .inner ≡ 0 → r .counts .depth ≡ 0 → D.placeIn (elementsOf r fs bs is w) ≡ D.outside
   unfolding D.placeIn elementsOf innersOf framesOf
   in-nothing z d = rw (z, d)
 
   pub place-read : D.placeIn (elementsOf r fs bs is w) ≡ placeIs (placeAt r fs) (subjectOf (topOf r fs) w) (count (topOf r fs))
   unfolding placeAt placeIs
-  place-read = go (r .inner) refl (r .depth) refl
+  place-read = go (r .counts .inner) refl (r .counts .depth) refl
     where
-      go : (i : ℕ) → r .inner ≡ i → (d : ℕ) → r .depth ≡ d
+      go : (i : ℕ) → r .counts .inner ≡ i → (d : ℕ) → r .counts .depth ≡ d
           → D.placeIn (elementsOf r fs bs is w) ≡ placeIs (placeAt r fs) (subjectOf (topOf r fs) w) (count (topOf r fs))
-      go (suc i) p d q = rw (ne-eqb (r .inner) 0 (λ z. omega arith)) (in-xml i p)
-      go zero p zero q = rw (eq-eqb (r .inner) 0 p, eq-eqb (r .depth) 0 q) (in-nothing p q)
+      go (suc i) p d q = rw (ne-eqb (r .counts .inner) 0 (λ z. omega arith)) (in-xml i p)
+      go zero p zero q = rw (eq-eqb (r .counts .inner) 0 p, eq-eqb (r .counts .depth) 0 q) (in-nothing p q)
       go zero p (suc d) q =
-          let e : r .depth - 1 ≡ d = omega arith in
-          rw (eq-eqb (r .inner) 0 p, ne-eqb (r .depth) 0 (λ z. omega arith), e, load-frame fs d (omega (arith, x .frameWords, x .deep))) (in-frame p d q)
+          let e : r .counts .depth - 1 ≡ d = omega arith in
+          rw (eq-eqb (r .counts .inner) 0 p, ne-eqb (r .counts .depth) 0 (λ z. omega arith), e, load-frame fs d (omega (arith, x .frameWords, x .deep))) (in-frame p d q)
 
 -- ---- how `place_at` comes to its answer
 
 module _ (r : Registers) (fs : List ℕ) where
-  pub place-inside : (r .inner ≡ 0 → ⊥) → Xml ≡ placeAt r fs
+  pub place-inside : (r .counts .inner ≡ 0 → ⊥) → Xml ≡ placeAt r fs
   unfolding placeAt
-  place-inside h = rw (ne-eqb (r .inner) 0 h)
+  place-inside h = rw (ne-eqb (r .counts .inner) 0 h)
 
-  pub place-outside : r .inner ≡ 0 → r .depth ≡ 0 → Outside ≡ placeAt r fs
+  pub place-outside : r .counts .inner ≡ 0 → r .counts .depth ≡ 0 → Outside ≡ placeAt r fs
   unfolding placeAt
-  place-outside z d = rw (eq-eqb (r .inner) 0 z, eq-eqb (r .depth) 0 d)
+  place-outside z d = rw (eq-eqb (r .counts .inner) 0 z, eq-eqb (r .counts .depth) 0 d)
 
-  pub place-there : {f : Frame} {p : Place} → r .inner ≡ 0 → (r .depth ≡ 0 → ⊥) → f ≡ loadFrame fs (r .depth - 1) → p ≡ placeOf (f .kind) → p ≡ placeAt r fs
+  pub place-there : {f : Frame} {p : Place} → r .counts .inner ≡ 0 → (r .counts .depth ≡ 0 → ⊥) → f ≡ loadFrame fs (r .counts .depth - 1) → p ≡ placeOf (f .kind) → p ≡ placeAt r fs
   unfolding placeAt
-  place-there z d e q = q ∙ rw (eq-eqb (r .inner) 0 z, ne-eqb (r .depth) 0 d, e)
+  place-there z d e q = q ∙ rw (eq-eqb (r .counts .inner) 0 z, ne-eqb (r .counts .depth) 0 d, e)

@@ -53,7 +53,7 @@ pub record Advanced (a : Answer Step) (d : Advance) (l l′ : Lent) : Type 0 whe
   pub answer : a ≡ good step
   pub wrote : Wrote (l .out) (l′ .out) 0 (d .written) (write (step .0))
   pub lawful : Lawful (d .registers) (d .count) (d .used) l′
-  pub mark : d .registers .closed ≡ false
+  pub mark : d .registers .flags .closed ≡ false
   pub doc : docIn (d .registers) (d .count) l′ ≡ step .1
 
 abbrev pub Cases : Answer Step → Progress → Lent → Lent → Type 0

@@ -118,7 +118,7 @@ fits-held d i = rw (le-leb (length (d .ids)) 512 (i .few), le-leb (total length 
 -- a valid state of an open document, and what it means
 pub record Means (r : Registers) (fs bs is w : List ℕ) (ids : List Bytes) (d : Doc) : Type 0 where
   pub valid : Valid r fs bs is w
-  pub mark : r .closed ≡ false
+  pub mark : r .flags .closed ≡ false
   pub doc : docOf r fs bs is w ids ≡ d
 
 -- refused: nothing that was lent has changed
@@ -189,4 +189,4 @@ pub record Handles (e : Event) (r : Registers) (o : Outcome) (fs bs is w out fs�
 -- what a handler asks of the state
 pub record Asks (r : Registers) (fs bs is w : List ℕ) : Type 0 where
   pub valid : Valid r fs bs is w
-  pub mark : r .closed ≡ false
+  pub mark : r .flags .closed ≡ false

@@ -44,13 +44,13 @@ pub enum Place {
 pub fn place_at(r: Registers, frames: &[u32]) -> Place
     ensures { λ p. ⌜ p ≡ placeAt r (now (frames .entry)) ⌝ }
 {
-    if r.inner != 0 {
+    if r.counts.inner != 0 {
         return Place::Xml;
     }
-    if r.depth == 0 {
+    if r.counts.depth == 0 {
         return Place::Outside;
     }
-    let f = Frame::load(frames, r.depth - 1);
+    let f = Frame::load(frames, r.counts.depth - 1);
     let kind = f.kind;
     place_of(kind)
 }

@@ -25,17 +25,17 @@ flag false = 0
 -- its numbers, in the order of their places
 unfoldable pub numbersOf : State → List ℕ
 numbersOf s =
-    flag (s .registers .closed)
-    ∷ flag (s .registers .rooted)
-    ∷ flag (s .registers .based)
-    ∷ s .registers .base
-    ∷ s .registers .depth
-    ∷ s .registers .inner
-    ∷ s .registers .outer
-    ∷ s .registers .bindings
-    ∷ s .registers .top
-    ∷ s .registers .low
-    ∷ s .registers .labels
+    flag (s .registers .flags .closed)
+    ∷ flag (s .registers .flags .rooted)
+    ∷ flag (s .registers .flags .based)
+    ∷ s .registers .store .base
+    ∷ s .registers .counts .depth
+    ∷ s .registers .counts .inner
+    ∷ s .registers .counts .outer
+    ∷ s .registers .counts .bindings
+    ∷ s .registers .store .top
+    ∷ s .registers .store .low
+    ∷ s .registers .counts .labels
     ∷ s .ids .count
     ∷ s .ids .used
     ∷ []
@@ -53,17 +53,9 @@ stateBytes = 11_112
 unfoldable pub registersOf : List ℕ → Registers
 registersOf ns =
     record {
-      closed = eqb (getD ns 0 0) 1;
-      rooted = eqb (getD ns 1 0) 1;
-      based = eqb (getD ns 2 0) 1;
-      base = getD ns 3 0;
-      depth = getD ns 4 0;
-      inner = getD ns 5 0;
-      outer = getD ns 6 0;
-      bindings = getD ns 7 0;
-      top = getD ns 8 0;
-      low = getD ns 9 0;
-      labels = getD ns 10 0;
+      flags = record { closed = eqb (getD ns 0 0) 1; rooted = eqb (getD ns 1 0) 1; based = eqb (getD ns 2 0) 1 };
+      store = record { base = getD ns 3 0; top = getD ns 8 0; low = getD ns 9 0 };
+      counts = record { depth = getD ns 4 0; inner = getD ns 5 0; outer = getD ns 6 0; bindings = getD ns 7 0; labels = getD ns 10 0 };
     }
 
 -- of these numbers and the tables in b
@@ -119,7 +111,7 @@ flag-back false = refl
 
 flags-good : (s : State) → flagsOk (numbersOf s) ≡ true
 unfolding flagsOk numbersOf
-flags-good s = go (s .registers .closed) (s .registers .rooted) (s .registers .based)
+flags-good s = go (s .registers .flags .closed) (s .registers .flags .rooted) (s .registers .flags .based)
   where
     low : (f : Bool) → leb (flag f) 1 ≡ true
     low true = refl
@@ -158,9 +150,9 @@ module _ (s : State) (h : Typed s) where
   unfolding stateOf registersOf numbersOf
   state-back =
       rw (
-        flag-back (s .registers .closed),
-        flag-back (s .registers .rooted),
-        flag-back (s .registers .based),
+        flag-back (s .registers .flags .closed),
+        flag-back (s .registers .flags .rooted),
+        flag-back (s .registers .flags .based),
         table-back first (h .frames),
         table-back second (h .bindings),
         table-back third (h .inners),

@@ -46,7 +46,7 @@ mark-first false r t = refl
 
 encode-closed : (s : State) → encode (closedState s) ≡ closedBytes (encode s)
 unfolding encode numbersOf rows
-encode-closed s = mark-first (s .registers .closed) _ _
+encode-closed s = mark-first (s .registers .flags .closed) _ _
 
 encode-marked : (k : Refusal) (s : State) → encode (marked k s) ≡ markedBytes (number k) (encode s)
 unfolding marked

@@ -15,7 +15,10 @@ use frames::Frame;
 use frames::Row;
 use ids::IdTable;
 use report::State;
+use state::Counts;
+use state::Flags;
 use state::Registers;
+use state::Store;
 
 // A state as it was read from bytes, if they stand for one. There it has fixed places: its numbers, eight bytes each, then its tables,
 // four bytes a word, the low byte first.
@@ -206,17 +209,17 @@ fn numbers_of(s: State) -> [usize; Image::NUMBERS]
     let r = s.registers;
     let ids = s.ids;
     [
-        flag(r.closed),
-        flag(r.rooted),
-        flag(r.based),
-        r.base,
-        r.depth,
-        r.inner,
-        r.outer,
-        r.bindings,
-        r.top,
-        r.low,
-        r.labels as usize,
+        flag(r.flags.closed),
+        flag(r.flags.rooted),
+        flag(r.flags.based),
+        r.store.base,
+        r.counts.depth,
+        r.counts.inner,
+        r.counts.outer,
+        r.counts.bindings,
+        r.store.top,
+        r.store.low,
+        r.counts.labels as usize,
         ids.count,
         ids.used,
     ]
@@ -239,17 +242,23 @@ fn registers_of(ns: [usize; Image::NUMBERS]) -> Registers
     ensures { λ r. ⌜ r ≡ registersOf ns ⌝ }
 {
     Registers {
-        closed: ns[0] == 1,
-        rooted: ns[1] == 1,
-        based: ns[2] == 1,
-        base: ns[3],
-        depth: ns[4],
-        inner: ns[5],
-        outer: ns[6],
-        bindings: ns[7],
-        top: ns[8],
-        low: ns[9],
-        labels: ns[10] as u64,
+        flags: Flags {
+            closed: ns[0] == 1,
+            rooted: ns[1] == 1,
+            based: ns[2] == 1,
+        },
+        store: Store {
+            base: ns[3],
+            top: ns[8],
+            low: ns[9],
+        },
+        counts: Counts {
+            depth: ns[4],
+            inner: ns[5],
+            outer: ns[6],
+            bindings: ns[7],
+            labels: ns[10] as u64,
+        },
     }
 }
 

@@ -27,10 +27,10 @@ pub fn open_inside(
         ok: false,
         registers: r,
     };
-    if r.depth > Frame::MOST {
+    if r.counts.depth > Frame::MOST {
         return no;
     }
-    if r.inner >= Frame::MOST - r.depth {
+    if r.counts.inner >= Frame::MOST - r.counts.depth {
         return no;
     }
     if at > Registers::STORE {
@@ -39,20 +39,20 @@ pub fn open_inside(
     if name > Registers::STORE {
         return no;
     }
-    if r.bindings > Row::MOST_BINDINGS {
+    if r.counts.bindings > Row::MOST_BINDINGS {
         return no;
     }
     let row = Row {
         at: at as u32,
         name: name as u32,
-        more: r.bindings as u32,
+        more: r.counts.bindings as u32,
     };
-    if !Row::store(inners, r.inner, row) {
+    if !Row::store(inners, r.counts.inner, row) {
         return no;
     }
     Changed {
         ok: true,
-        registers: inside(r, r.inner + 1, at, bound),
+        registers: inside(r, r.counts.inner + 1, at, bound),
     }
 }
 
@@ -60,13 +60,13 @@ pub fn open_inside(
 pub fn close_inside(r: Registers, inners: &[u32]) -> Changed
     ensures { λ c. ⌜ Closes r (now (inners .entry)) c ⌝ }
 {
-    if r.inner == 0 {
+    if r.counts.inner == 0 {
         return Changed {
             ok: false,
             registers: r,
         };
     }
-    let n = r.inner - 1;
+    let n = r.counts.inner - 1;
     let row = Row::load(inners, n);
     Changed {
         ok: true,
@@ -78,22 +78,22 @@ pub fn close_inside(r: Registers, inners: &[u32]) -> Changed
 pub fn name(r: Registers, frames: &[u32], inners: &[u32]) -> Found
     ensures { λ f. ⌜ f ≡ nameIn r (now (frames .entry)) (now (inners .entry)) ⌝ }
 {
-    if r.inner != 0 {
-        let row = Row::load(inners, r.inner - 1);
+    if r.counts.inner != 0 {
+        let row = Row::load(inners, r.counts.inner - 1);
         return Found {
             there: true,
             at: wide(row.at),
             len: wide(row.name),
         };
     }
-    if r.depth == 0 {
+    if r.counts.depth == 0 {
         return Found {
             there: false,
             at: 0,
             len: 0,
         };
     }
-    let f = Frame::load(frames, r.depth - 1);
+    let f = Frame::load(frames, r.counts.depth - 1);
     let at = f.at;
     between(wide(at[Frame::NAME]), wide(at[Frame::BINDINGS]))
 }
@@ -102,14 +102,14 @@ pub fn name(r: Registers, frames: &[u32], inners: &[u32]) -> Found
 pub fn base_in_force(r: Registers, frames: &[u32]) -> Found
     ensures { λ f. ⌜ f ≡ baseIn r (now (frames .entry)) ⌝ }
 {
-    let f = innermost(frames, r.depth, Frame::BASED, Frame::BASE);
+    let f = innermost(frames, r.counts.depth, Frame::BASED, Frame::BASE);
     if f.there {
         return f;
     }
     Found {
-        there: r.based,
+        there: r.flags.based,
         at: 0,
-        len: r.base,
+        len: r.store.base,
     }
 }
 
@@ -117,20 +117,20 @@ pub fn base_in_force(r: Registers, frames: &[u32]) -> Found
 pub fn language_in_force(r: Registers, frames: &[u32]) -> Found
     ensures { λ f. ⌜ f ≡ languageIn r (now (frames .entry)) ⌝ }
 {
-    innermost(frames, r.depth, Frame::TAGGED, Frame::TAG)
+    innermost(frames, r.counts.depth, Frame::TAGGED, Frame::TAG)
 }
 
 // Held bytes.
 pub fn held(r: Registers) -> usize
     ensures { λ n. ⌜ n ≡ heldIn r ⌝ }
 {
-    if r.low > Registers::STORE {
+    if r.store.low > Registers::STORE {
         return Registers::STORE;
     }
-    if r.top > r.low {
+    if r.store.top > r.store.low {
         return Registers::STORE;
     }
-    r.top + (Registers::STORE - r.low)
+    r.store.top + (Registers::STORE - r.store.low)
 }
 
 // May an event leave this much held?
@@ -193,17 +193,9 @@ fn ceiling(inners: &[u32], i: usize) -> usize
 fn inside(r: Registers, inner: usize, low: usize, bound: usize) -> Registers
     ensures { λ q. ⌜ q ≡ insideTo r inner low bound ⌝ }
 {
-    Registers {
-        closed: r.closed,
-        rooted: r.rooted,
-        based: r.based,
-        base: r.base,
-        depth: r.depth,
-        inner,
-        outer: r.outer,
-        bindings: bound,
-        top: r.top,
-        low,
-        labels: r.labels,
-    }
+    let mut q = r;
+    q.store.low = low;
+    q.counts.inner = inner;
+    q.counts.bindings = bound;
+    q
 }

@@ -61,7 +61,7 @@ pub record Over (r : Registers) (fs bs is w : List ℕ) (x : Bytes) (more : ℕ)
 pub record Grown (r : Registers) (fs bs is w : List ℕ) (x : Bytes) (more : ℕ) (d : Done) (fs′ w′ : List ℕ) : Type 0 where
   pub top : ℕ
   pub moved : d ≡ record { written = 0; registers = toppedTo r top }
-  pub holds : Holds (toppedTo r top) fs′ bs is w′ (startOf r w) (withXml r fs bs is w x) (r .rooted) (r .labels)
+  pub holds : Holds (toppedTo r top) fs′ bs is w′ (startOf r w) (withXml r fs bs is w x) (r .flags .rooted) (r .counts .labels)
   pub fits : heldWith (startOf r w) (withXml r fs bs is w x) + more ≤ 49_152
 
 abbrev pub Grows : Outcome → Registers → List ℕ → List ℕ → List ℕ → List ℕ → Bytes → ℕ → List ℕ → List ℕ → Type 0
@@ -132,18 +132,18 @@ literal-room : {r : Registers} {fs bs is w : List ℕ} → Valid r fs bs is w �
     → (n : ℕ) → heldIn r + n ≤ 49_152 → mayTail r fs w (at (topFrame r fs) END) n ≡ true
 unfolding mayTail L.all
 literal-room {r} {fs} {bs} {is} {w} v y n h =
-    let d : 0 < r .depth = top-deep r fs (λ i. false≢true (ap (λ (g : Kind). sameKind g ParseTypeLiteralPropertyElt) (sym i) ∙ y)) in
+    let d : 0 < r .counts .depth = top-deep r fs (λ i. false≢true (ap (λ (g : Kind). sameKind g ParseTypeLiteralPropertyElt) (sym i) ∙ y)) in
     let t = topmost v d in
-    let e : at (topFrame r fs) END ≡ r .top = rw (t .frame) (top-frame v (r .depth - 1) (t .depth) .ends) in
+    let e : at (topFrame r fs) END ≡ r .store .top = rw (t .frame) (top-frame v (r .counts .depth - 1) (t .depth) .ends) in
     let o = room v in
     let s = held-is r (o .low) (v .apart) in
     rw (
-      lt-ltb 0 (r .depth) d,
-      le-leb (r .low) 65_536 (o .low),
-      le-leb (r .low) (length w) (omega (arith, o .low, v .store)),
+      lt-ltb 0 (r .counts .depth) d,
+      le-leb (r .store .low) 65_536 (o .low),
+      le-leb (r .store .low) (length w) (omega (arith, o .low, v .store)),
       e,
-      le-leb (r .top + n) (r .low) (omega (arith, o .low, v .apart)),
-      le-leb ((r .depth - 1) * FRAME + FRAME) (length fs) (t .room),
+      le-leb (r .store .top + n) (r .store .low) (omega (arith, o .low, v .apart)),
+      le-leb ((r .counts .depth - 1) * FRAME + FRAME) (length fs) (t .room),
     )
 
 -- nothing changes where nothing is kept
@@ -160,7 +160,7 @@ module _ {r : Registers} {fs w area : List ℕ} {n more g : ℕ} {c : Changed} {
   grown-none z =
       let u = unchanged p z in
       record {
-        top = r .top;
+        top = r .store .top;
         moved = rw (u .0);
         holds = rw (u .1, u .2, adds-nothing x (elementsOf r fs bs is w) (keeps-read v ∙ z)) (holds-self v);
         fits = omega (arith, held-more v x, kept-none r fs (length x) z, kept-none r fs n z);
@@ -193,7 +193,7 @@ add-done {r} {fs} k l a p =
 
 -- e is handled in state r₀; what it leaves open but for the XML text is what state r holds
 pub adds-quietly : {e : Event} {r₀ r : Registers} {fs bs is w area : List ℕ} {n : ℕ} {x : Bytes} {es : List Element} {o : Outcome} {fs′ w′ : List ℕ}
-    → Asks r₀ fs bs is w → r .closed ≡ false → Holds r fs bs is w (startOf r₀ w) es (r₀ .rooted) (r₀ .labels) → Quiet e r₀ fs bs is w (changeValue (takesXml x) es)
+    → Asks r₀ fs bs is w → r .flags .closed ≡ false → Holds r fs bs is w (startOf r₀ w) es (r₀ .flags .rooted) (r₀ .counts .labels) → Quiet e r₀ fs bs is w (changeValue (takesXml x) es)
     → Adds r fs w area n 0 o fs′ w′ → XmlIn area n x → Quietly e r₀ o fs bs is w fs′ bs is w′
 adds-quietly {e} {r₀} {r} {fs} {bs} {is} {w} {area} {n} {x} {es} {o} {fs′} {w′} a m h q p i = go o (p .grows bs is x (h .valid) i)
   where

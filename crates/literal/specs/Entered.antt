@@ -48,32 +48,32 @@ pub record Room (r : Registers) (bs w : List ℕ) (n : Bytes) (all : List Bindin
   pub store : length w ≡ 65_536
   pub words : length bs ≡ 384
   pub size : more ≡ ownBytes n all
-  pub low : r .low ≤ 65_536
-  pub fits : more ≤ r .low
-  pub rows : length all + r .bindings ≤ 128
+  pub low : r .store .low ≤ 65_536
+  pub fits : more ≤ r .store .low
+  pub rows : length all + r .counts .bindings ≤ 128
 
 -- what `enter` does to a valid state: q, cs, js and v are behind it
 pub record Enters (r : Registers) (bs is w : List ℕ) (n : Bytes) (all : List Binding) (more : ℕ) (q : Registers) (cs js v : List ℕ) : Type 0 where
-  pub holds : {fs : List ℕ} → Valid r fs bs is w → r .top + more ≤ r .low → r .depth + r .inner < 64
-      → Holds q fs cs js v (startOf r w) (record { name = n; bindings = all; ownBase = none; ownTag = none; kind = xmlElement } ∷ elementsOf r fs bs is w) (r .rooted) (r .labels)
-  pub mark : {fs : List ℕ} → Valid r fs bs is w → r .depth + r .inner < 64 → q .closed ≡ r .closed
+  pub holds : {fs : List ℕ} → Valid r fs bs is w → r .store .top + more ≤ r .store .low → r .counts .depth + r .counts .inner < 64
+      → Holds q fs cs js v (startOf r w) (record { name = n; bindings = all; ownBase = none; ownTag = none; kind = xmlElement } ∷ elementsOf r fs bs is w) (r .flags .rooted) (r .counts .labels)
+  pub mark : {fs : List ℕ} → Valid r fs bs is w → r .counts .depth + r .counts .inner < 64 → q .flags .closed ≡ r .flags .closed
 
 -- ---- how `enter` comes to its answer
 
-may-open : {r : Registers} {fs bs is w : List ℕ} → Valid r fs bs is w → r .depth + r .inner < 64 → (a n : ℕ) → a ≤ 65_536 → n ≤ 65_536 → mayOpen r is a n ≡ true
+may-open : {r : Registers} {fs bs is w : List ℕ} → Valid r fs bs is w → r .counts .depth + r .counts .inner < 64 → (a n : ℕ) → a ≤ 65_536 → n ≤ 65_536 → mayOpen r is a n ≡ true
 unfolding mayOpen L.all
 may-open {r} {fs} {bs} {is} {w} x d a n l m =
     rw (
-      lt-ltb (r .depth + r .inner) 64 d,
+      lt-ltb (r .counts .depth + r .counts .inner) 64 d,
       le-leb a 65_536 l,
       le-leb n 65_536 m,
-      le-leb (r .bindings) 128 (x .bound),
-      le-leb (r .inner * 3 + 3) (length is) (omega (arith, x .innerWords)),
+      le-leb (r .counts .bindings) 128 (x .bound),
+      le-leb (r .counts .inner * 3 + 3) (length is) (omega (arith, x .innerWords)),
     )
 
 module _ {r : Registers} {bs w : List ℕ} {n : Bytes} {all : List Binding} {more : ℕ} (o : Room r bs w n all more) where
   -- the bindings have room behind the name
-  pub rows-fit : {u : List ℕ} {b : Bool} → Put w (r .low - more) n u b → Fits u bs (record { at = r .low - more + length n; row = r .bindings }) (total bindingBytes all) (length all)
+  pub rows-fit : {u : List ℕ} {b : Bool} → Put w (r .store .low - more) n u b → Fits u bs (record { at = r .store .low - more + length n; row = r .counts .bindings }) (total bindingBytes all) (length all)
   rows-fit p =
       record {
         store = omega (arith, p .same, o .store);
@@ -81,13 +81,13 @@ module _ {r : Registers} {bs w : List ℕ} {n : Bytes} {all : List Binding} {mor
         words = omega (arith, o .words, o .rows);
       }
 
-  module _ {is u v cs js : List ℕ} {b : Bool} {q : Next} {c : Changed} (p : Put w (r .low - more) n u b)
-      (e : Entered u bs v cs (record { at = r .low - more + length n; row = r .bindings }) q all) (h : Opens r is (r .low - more) (length n) (q .row) c js) where
-    written : r .top + more ≤ r .low → Written r bs w cs v (r .low - more) (length n) (q .row) n all
+  module _ {is u v cs js : List ℕ} {b : Bool} {q : Next} {c : Changed} (p : Put w (r .store .low - more) n u b)
+      (e : Entered u bs v cs (record { at = r .store .low - more + length n; row = r .counts .bindings }) q all) (h : Opens r is (r .store .low - more) (length n) (q .row) c js) where
+    written : r .store .top + more ≤ r .store .low → Written r bs w cs v (r .store .low - more) (length n) (q .row) n all
     written l =
-        let g : Wrote w u (r .low - more) (r .low - more + length n) n = put-fits p (omega (arith, o .store, o .size, o .low, o .fits)) in
-        let x : q .row - r .bindings ≡ length all = omega (arith, e .rows) in
-        let y : q .at ≡ r .low = omega (arith, e .ends, o .size, o .fits) in
+        let g : Wrote w u (r .store .low - more) (r .store .low - more + length n) n = put-fits p (omega (arith, o .store, o .size, o .low, o .fits)) in
+        let x : q .row - r .counts .bindings ≡ length all = omega (arith, e .rows) in
+        let y : q .at ≡ r .store .low = omega (arith, e .ends, o .size, o .fits) in
         record {
           words = e .words;
           below = kept-less (kept-then (kept-before g) (kept-less (e .before) (omega arith) (omega arith))) (omega arith) (omega arith);
@@ -97,7 +97,7 @@ module _ {r : Registers} {bs w : List ℕ} {n : Bytes} {all : List Binding} {mor
           clear = omega arith;
           least = omega (arith, e .rows);
           most = omega (arith, e .rows, o .rows);
-          named = e .before .parts (r .low - more) (length n) (omega arith) (omega arith) ∙ wrote-part g;
+          named = e .before .parts (r .store .low - more) (length n) (omega arith) (omega arith) ∙ wrote-part g;
           bindings = rw x (rw y at (e .bound));
         }
 
@@ -107,8 +107,8 @@ module _ {r : Registers} {bs w : List ℕ} {n : Bytes} {all : List Binding} {mor
         let f = o .fits in
         let l = o .low in
         record {
-          holds = λ x t d. open-holds x h (h .answer ∙ may-open x d (r .low - more) (length n) (omega arith) (omega arith)) (written t);
-          mark = λ x d. ap (λ (s : Registers). s .closed) (h .moved (may-open x d (r .low - more) (length n) (omega arith) (omega arith)));
+          holds = λ x t d. open-holds x h (h .answer ∙ may-open x d (r .store .low - more) (length n) (omega arith) (omega arith)) (written t);
+          mark = λ x d. ap (λ (s : Registers). s .flags .closed) (h .moved (may-open x d (r .store .low - more) (length n) (omega arith) (omega arith)));
         }
 
 -- ---- how `copy_element` comes to its answer
@@ -159,7 +159,7 @@ module _ {r : Registers} {fs bs is w e sp : List ℕ} {n : Bytes} {k : ℕ} {are
     registers : d .registers ≡ toppedTo r (grown .top)
     registers = ap (λ (x : Done). x .registers) (grown .moved)
 
-    below : grown .top + more ≤ r .low
+    below : grown .top + more ≤ r .store .low
     below =
         let h = grown .holds in
         let v = h .valid in

@@ -37,17 +37,17 @@ module _ {r : Registers} {fs bs is w : List ℕ} where
 
 -- the elements around the innermost
 abbrev pub around : Registers → List ℕ → List ℕ → List ℕ → List ℕ → List Element
-around r fs bs is w = innersOf is bs w (r .inner - 1) (rowAt is (r .inner - 1) .more) ++ framesOf fs bs w (r .depth) (r .outer)
+around r fs bs is w = innersOf is bs w (r .counts .inner - 1) (rowAt is (r .counts .inner - 1) .more) ++ framesOf fs bs w (r .counts .depth) (r .counts .outer)
 
-module _ {r : Registers} {fs bs is w : List ℕ} (v : Valid r fs bs is w) (d : 0 < r .inner) where
+module _ {r : Registers} {fs bs is w : List ℕ} (v : Valid r fs bs is w) (d : 0 < r .counts .inner) where
   opened : elementsOf r fs bs is w
-      ≡ innerOf (rowAt is (r .inner - 1)) (bindingsOf bs w (rowAt is (r .inner - 1) .more) (r .bindings - rowAt is (r .inner - 1) .more)) w ∷ around r fs bs is w
-  opened = inside-element v (r .inner - 1) (omega arith)
+      ≡ innerOf (rowAt is (r .counts .inner - 1)) (bindingsOf bs w (rowAt is (r .counts .inner - 1) .more) (r .counts .bindings - rowAt is (r .counts .inner - 1) .more)) w ∷ around r fs bs is w
+  opened = inside-element v (r .counts .inner - 1) (omega arith)
 
   -- its name, as `name` finds it
-  named : {f : Found} → f ≡ nameIn r fs is → part w (rowAt is (r .inner - 1) .at) (rowAt is (r .inner - 1) .name) ≡ part w (f .at) (f .len)
+  named : {f : Found} → f ≡ nameIn r fs is → part w (rowAt is (r .counts .inner - 1) .at) (rowAt is (r .counts .inner - 1) .name) ≡ part w (f .at) (f .len)
   unfolding nameIn
-  named e = rw (e, ne-eqb (r .inner) 0 (λ z. omega arith), load-row is (r .inner - 1) (omega (arith, v .innerWords, v .deep)))
+  named e = rw (e, ne-eqb (r .counts .inner) 0 (λ z. omega arith), load-row is (r .counts .inner - 1) (omega (arith, v .innerWords, v .deep)))
 
   module _ {n own : Bytes} {f : Found} (e : f ≡ nameIn r fs is) (o : own ≡ part w (f .at) (f .len)) where
     -- 6
@@ -61,8 +61,8 @@ module _ {r : Registers} {fs bs is w : List ℕ} (v : Valid r fs bs is w) (d : 0
     end-quiet h = record { step = λ ids. rw (opened, named e, ← o, h) }
 
   -- the state without it
-  pub closed-holds : {c : Changed} → Closes r is c → Holds (c .registers) fs bs is w (startOf r w) (around r fs bs is w) (r .rooted) (r .labels)
-  closed-holds p = close-holds v p (p .answer ∙ lt-ltb 0 (r .inner) d)
+  pub closed-holds : {c : Changed} → Closes r is c → Holds (c .registers) fs bs is w (startOf r w) (around r fs bs is w) (r .flags .rooted) (r .counts .labels)
+  closed-holds p = close-holds v p (p .answer ∙ lt-ltb 0 (r .counts .inner) d)
 
-  pub closed-mark : {c : Changed} → Closes r is c → c .registers .closed ≡ r .closed
-  closed-mark p = ap (λ (q : Registers). q .closed) (p .moved d)
+  pub closed-mark : {c : Changed} → Closes r is c → c .registers .flags .closed ≡ r .flags .closed
+  closed-mark p = ap (λ (q : Registers). q .flags .closed) (p .moved d)

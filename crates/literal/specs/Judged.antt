@@ -105,7 +105,7 @@ length-attributes e w j (suc m) = ap suc (length-attributes e w (suc j) m)
 
 -- the tests with the elements of a state open around it
 abbrev judgedIn : Registers → List ℕ → List ℕ → Bytes → List Attribute → Answer (Unit {0})
-judgedIn r bs w n as′ = judgement n as′ (r .depth + r .inner) (bindingsOf bs w 0 (r .bindings))
+judgedIn r bs w n as′ = judgement n as′ (r .counts .depth + r .counts .inner) (bindingsOf bs w 0 (r .counts .bindings))
 
 -- what `judge` answers
 pub record Judges (r : Registers) (bs w : List ℕ) (n : Bytes) (as′ : List Attribute) (j : Judged) : Type 0 where
@@ -128,8 +128,8 @@ module _ {r : Registers} {fs bs is w : List ℕ} (v : Valid r fs bs is w) (p : p
 
 -- what is known of the counts where it goes on
 pub record Counted (r : Registers) (as′ : List Attribute) : Type 0 where
-  pub deep : r .depth + r .inner < 64
-  pub few : length (declared as′) + r .bindings ≤ 128
+  pub deep : r .counts .depth + r .counts .inner < 64
+  pub few : length (declared as′) + r .counts .bindings ≤ 128
 
 abbrev isGood : Answer (Unit {0}) → Bool
 isGood (refuse n) = false
@@ -148,12 +148,12 @@ pub judged-counts : {r : Registers} {bs w : List ℕ} {n : Bytes} {as′ : List 
 unfolding counts L.all
 judged-counts {r} {bs} {w} {n} {as′} h e =
     let g : judgedIn r bs w n as′ ≡ good tt = sym (h .is) ∙ ap decided e in
-    let c = counted n as′ (r .depth + r .inner) (bindingsOf bs w 0 (r .bindings)) g in
-    let b = and-right (leb (length as′) 64) _ (and-right (leb (suc (r .depth + r .inner)) 64) _ c) in
-    let l = length-append (declared as′) (bindingsOf bs w 0 (r .bindings)) in
+    let c = counted n as′ (r .counts .depth + r .counts .inner) (bindingsOf bs w 0 (r .counts .bindings)) g in
+    let b = and-right (leb (length as′) 64) _ (and-right (leb (suc (r .counts .depth + r .counts .inner)) 64) _ c) in
+    let l = length-append (declared as′) (bindingsOf bs w 0 (r .counts .bindings)) in
     record {
-      deep = leb-true (suc (r .depth + r .inner)) 64 (and-left (leb (suc (r .depth + r .inner)) 64) _ c);
-      few = omega (arith, leb-true (length (declared as′ ++ bindingsOf bs w 0 (r .bindings))) 128 b, length-bindings bs w 0 (r .bindings));
+      deep = leb-true (suc (r .counts .depth + r .counts .inner)) 64 (and-left (leb (suc (r .counts .depth + r .counts .inner)) 64) _ c);
+      few = omega (arith, leb-true (length (declared as′ ++ bindingsOf bs w 0 (r .counts .bindings))) 128 b, length-bindings bs w 0 (r .counts .bindings));
     }
 
 -- ---- the tests of `judge`
@@ -180,20 +180,20 @@ module _ {r : Registers} {bs w : List ℕ} {n : Bytes} {as′ : List Attribute} 
     judge-repeats h = record { is = rw (l, h) }
 
     module _ (u : repeatsWritten as′ ≡ false) where
-      pub judge-counts : counts (r .depth + r .inner) (length as′) (length (declared as′ ++ bindingsOf bs w 0 (r .bindings))) ≡ false → Judges r bs w n as′ (Stop OverLimit)
+      pub judge-counts : counts (r .counts .depth + r .counts .inner) (length as′) (length (declared as′ ++ bindingsOf bs w 0 (r .counts .bindings))) ≡ false → Judges r bs w n as′ (Stop OverLimit)
       unfolding judgement _>>_ require_or_
       judge-counts h = record { is = rw (l, u, h) }
 
-      module _ (c : counts (r .depth + r .inner) (length as′) (length (declared as′ ++ bindingsOf bs w 0 (r .bindings))) ≡ true) where
-        pub judge-element : isKnown (declared as′ ++ bindingsOf bs w 0 (r .bindings)) n ≡ false → Judges r bs w n as′ (Stop NoNamespace)
+      module _ (c : counts (r .counts .depth + r .counts .inner) (length as′) (length (declared as′ ++ bindingsOf bs w 0 (r .counts .bindings))) ≡ true) where
+        pub judge-element : isKnown (declared as′ ++ bindingsOf bs w 0 (r .counts .bindings)) n ≡ false → Judges r bs w n as′ (Stop NoNamespace)
         unfolding judgement _>>_ require_or_
         judge-element h = record { is = rw (l, u, c, h) }
 
-        module _ (k : isKnown (declared as′ ++ bindingsOf bs w 0 (r .bindings)) n ≡ true) where
-          pub judge-attributes : allKnown (declared as′ ++ bindingsOf bs w 0 (r .bindings)) as′ ≡ false → Judges r bs w n as′ (Stop NoNamespace)
+        module _ (k : isKnown (declared as′ ++ bindingsOf bs w 0 (r .counts .bindings)) n ≡ true) where
+          pub judge-attributes : allKnown (declared as′ ++ bindingsOf bs w 0 (r .counts .bindings)) as′ ≡ false → Judges r bs w n as′ (Stop NoNamespace)
           unfolding judgement _>>_ require_or_
-          judge-attributes h = record { is = rw (l, u, c, k, each-known (declared as′ ++ bindingsOf bs w 0 (r .bindings)) as′, h) }
+          judge-attributes h = record { is = rw (l, u, c, k, each-known (declared as′ ++ bindingsOf bs w 0 (r .counts .bindings)) as′, h) }
 
-          pub judge-good : allKnown (declared as′ ++ bindingsOf bs w 0 (r .bindings)) as′ ≡ true → Judges r bs w n as′ Go
+          pub judge-good : allKnown (declared as′ ++ bindingsOf bs w 0 (r .counts .bindings)) as′ ≡ true → Judges r bs w n as′ Go
           unfolding judgement _>>_ require_or_
-          judge-good h = record { is = rw (l, u, c, k, each-known (declared as′ ++ bindingsOf bs w 0 (r .bindings)) as′, h) }
+          judge-good h = record { is = rw (l, u, c, k, each-known (declared as′ ++ bindingsOf bs w 0 (r .counts .bindings)) as′, h) }

@@ -40,7 +40,7 @@ pub record Quiet (e : Event) (r : Registers) (fs bs is w : List ℕ) (es : List 
 unfoldable pub heldWith : Option Bytes → List Element → ℕ
 heldWith start es = sizeOf start + total frameBytes es
 
-pub holds-self : {r : Registers} {fs bs is w : List ℕ} → Valid r fs bs is w → Holds r fs bs is w (startOf r w) (elementsOf r fs bs is w) (r .rooted) (r .labels)
+pub holds-self : {r : Registers} {fs bs is w : List ℕ} → Valid r fs bs is w → Holds r fs bs is w (startOf r w) (elementsOf r fs bs is w) (r .flags .rooted) (r .counts .labels)
 holds-self v = record { valid = v; base = refl; elements = refl; root = refl; count = refl }
 
 -- the same, said otherwise
@@ -91,7 +91,7 @@ module _ {e : Event} {r : Registers} {fs bs is w : List ℕ} where
 
     -- done
     pub quiet-done : {r′ : Registers} {fs′ bs′ is′ w′ : List ℕ} → Asks r fs bs is w → heldWith (startOf r w) es ≤ 49_152
-        → Holds r′ fs′ bs′ is′ w′ (startOf r w) es (r .rooted) (r .labels) → r′ .closed ≡ false
+        → Holds r′ fs′ bs′ is′ w′ (startOf r w) es (r .flags .rooted) (r .counts .labels) → r′ .flags .closed ≡ false
         → Quietly e r (Did (record { written = 0; registers = r′ })) fs bs is w fs′ bs′ is′ w′
     unfolding write withFrames docOf
     quiet-done {r′} {fs′} {bs′} {is′} {w′} a l h m =

@@ -90,22 +90,22 @@ past-inners is bs w (suc n) b es = past-inners is bs w n (rowAt is n .more) es
 
 -- the kind of the frame on top tells
 module _ {r : Registers} {fs bs is w : List ℕ} (v : Valid r fs bs is w) where
-  keeps-none : r .depth ≡ 0 → keepsXml (framesOf fs bs w (r .depth) (r .outer)) ≡ sameKind (topFrame r fs .kind) ParseTypeLiteralPropertyElt
+  keeps-none : r .counts .depth ≡ 0 → keepsXml (framesOf fs bs w (r .counts .depth) (r .counts .outer)) ≡ sameKind (topFrame r fs .kind) ParseTypeLiteralPropertyElt
   unfolding keepsXml framesOf topFrame
-  keeps-none p = rw (eq-eqb (r .depth) 0 p, p)
+  keeps-none p = rw (eq-eqb (r .counts .depth) 0 p, p)
 
-  keeps-top : (n : ℕ) → r .depth ≡ suc n → keepsXml (framesOf fs bs w (r .depth) (r .outer)) ≡ sameKind (topFrame r fs .kind) ParseTypeLiteralPropertyElt
+  keeps-top : (n : ℕ) → r .counts .depth ≡ suc n → keepsXml (framesOf fs bs w (r .counts .depth) (r .counts .outer)) ≡ sameKind (topFrame r fs .kind) ParseTypeLiteralPropertyElt
   unfolding keepsXml elementOf if_then_else_
   keeps-top n p =
-      let e : r .depth - 1 ≡ n = omega arith in
+      let e : r .counts .depth - 1 ≡ n = omega arith in
       let t = topmost v (omega arith) in
       let k : topFrame r fs ≡ frameAt fs n = rw e at (t .frame) in
       rw (k, top-element v n p, what-outside (frameAt fs n .kind) (frameAt fs n) w (subjectBelow fs w n)) (literal-kind (frameAt fs n .kind) (frameAt fs n) w (subjectBelow fs w n))
 
   pub keeps-read : keepsXml (elementsOf r fs bs is w) ≡ sameKind (topFrame r fs .kind) ParseTypeLiteralPropertyElt
   unfolding elementsOf
-  keeps-read = past-inners is bs w (r .inner) (r .bindings) (framesOf fs bs w (r .depth) (r .outer)) ∙ go (r .depth) refl
+  keeps-read = past-inners is bs w (r .counts .inner) (r .counts .bindings) (framesOf fs bs w (r .counts .depth) (r .counts .outer)) ∙ go (r .counts .depth) refl
     where
-      go : (d : ℕ) → r .depth ≡ d → keepsXml (framesOf fs bs w (r .depth) (r .outer)) ≡ sameKind (topFrame r fs .kind) ParseTypeLiteralPropertyElt
+      go : (d : ℕ) → r .counts .depth ≡ d → keepsXml (framesOf fs bs w (r .counts .depth) (r .counts .outer)) ≡ sameKind (topFrame r fs .kind) ParseTypeLiteralPropertyElt
       go zero p = keeps-none p
       go (suc n) p = keeps-top n p

@@ -64,7 +64,7 @@ pub fn end_inside(
     area: &mut [u8],
     name: &[u8],
 ) -> Outcome
-    requires { ⌜ Asks r (now frames) (now bindings) (now inners) (now work) × (mostHeldBytes ≤ length (now area)) × (0 < r .inner) ⌝ }
+    requires { ⌜ Asks r (now frames) (now bindings) (now inners) (now work) × (mostHeldBytes ≤ length (now area)) × (0 < r .counts .inner) ⌝ }
     ensures { λ o. ⌜ Quietly (closing (now (name .entry))) r o (now (frames .entry)) (now (bindings .entry)) (now (inners .entry)) (now (work .entry)) (now (frames .exit)) (now (bindings .entry)) (now (inners .entry)) (now (work .exit)) ⌝ }
 {
     let c = inside::close_inside(r, inners);
@@ -181,7 +181,7 @@ fn judge(
     requires { ⌜ Split c (now name) × Splits (now scratch) (now spans) k ⌝ }
     ensures { λ j. ⌜ Judges r (now (bindings .entry)) (now (work .entry)) (now (name .entry)) (attributesOf (now (scratch .entry)) (now (spans .entry)) k) j ⌝ }
 {
-    let n = r.bindings;
+    let n = r.counts.bindings;
     if !names::all_legal(scratch, spans, k) {
         return Judged::Stop(Refusal::NotWellFormed);
     }
@@ -203,21 +203,21 @@ fn judge(
 
 // May one more element be open, with k attributes and the bindings that they declare?
 fn counts_fit(r: Registers, scratch: &[u8], spans: &[u32], k: usize) -> bool
-    ensures { λ b. ⌜ b ≡ counts (r .depth + r .inner) k (length (declared (attributesOf (now (scratch .entry)) (now (spans .entry)) k)) + r .bindings) ⌝ }
+    ensures { λ b. ⌜ b ≡ counts (r .counts .depth + r .counts .inner) k (length (declared (attributesOf (now (scratch .entry)) (now (spans .entry)) k)) + r .counts .bindings) ⌝ }
 {
-    if r.depth >= Frame::MOST {
+    if r.counts.depth >= Frame::MOST {
         return false;
     }
-    if r.inner >= Frame::MOST - r.depth {
+    if r.counts.inner >= Frame::MOST - r.counts.depth {
         return false;
     }
     if k > Class::MOST {
         return false;
     }
-    if r.bindings > Row::MOST_BINDINGS {
+    if r.counts.bindings > Row::MOST_BINDINGS {
         return false;
     }
-    names::count_declared(scratch, spans, k) <= Row::MOST_BINDINGS - r.bindings
+    names::count_declared(scratch, spans, k) <= Row::MOST_BINDINGS - r.counts.bindings
 }
 
 // Are the prefixes of all attributes known?
@@ -342,11 +342,11 @@ fn enter(
     requires { ⌜ Room r (now bindings) (now work) (now name) (declared (attributesOf (now scratch) (now spans) k)) more ⌝ }
     ensures { λ q. ⌜ Enters r (now (bindings .entry)) (now (inners .entry)) (now (work .entry)) (now (name .entry)) (declared (attributesOf (now (scratch .entry)) (now (spans .entry)) k)) more q (now (bindings .exit)) (now (inners .exit)) (now (work .exit)) ⌝ }
 {
-    let at = r.low - more;
+    let at = r.store.low - more;
     copy::put(work, at, name);
     let from = Next {
         at: at + name.len(),
-        row: r.bindings,
+        row: r.counts.bindings,
     };
     let next = element::bind_all(work, bindings, from, scratch, spans, k);
     let c = inside::open_inside(r, inners, at, name.len(), next.row);

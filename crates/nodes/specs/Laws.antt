@@ -176,7 +176,7 @@ node-stays ParseTypeCollectionPropertyElt f w s u p q = absurd (false≢true (sy
 node-stays ParseTypeLiteralPropertyElt f w s u p q = refl
 node-stays ParseTypeOtherPropertyElt f w s u p q = refl
 
-none-open : (r : Registers) (fs bs is w : List ℕ) → r .inner ≡ 0 → r .depth ≡ 0 → elementsOf r fs bs is w ≡ []
+none-open : (r : Registers) (fs bs is w : List ℕ) → r .counts .inner ≡ 0 → r .counts .depth ≡ 0 → elementsOf r fs bs is w ≡ []
 unfolding elementsOf innersOf framesOf
 none-open r fs bs is w z d = rw (z, d)
 
@@ -188,12 +188,12 @@ is-collection ParseTypeCollectionPropertyElt e = refl
 is-collection ParseTypeLiteralPropertyElt e = absurd (false≢true e)
 is-collection ParseTypeOtherPropertyElt e = absurd (false≢true e)
 
-module _ {r : Registers} {fs bs is w gs v : List ℕ} {n : Frame} {c : Changed} (x : Valid r fs bs is w) (flat : r .inner ≡ 0) (t : TakesNode r fs w n c gs v) (y : c .ok ≡ true) where
+module _ {r : Registers} {fs bs is w gs v : List ℕ} {n : Frame} {c : Changed} (x : Valid r fs bs is w) (flat : r .counts .inner ≡ 0) (t : TakesNode r fs w n c gs v) (y : c .ok ≡ true) where
   -- a frame stored on top, with bytes moved down
-  stored-holds : (m : ℕ) (d : r .depth ≡ suc m) {g : Frame} {to end : ℕ} {s : List ℕ} → Alike (frameAt fs m) g → m * FRAME + FRAME ≤ length fs → Taken r fs w g to end s c gs v → at g END ≡ end
-      → at (frameAt fs m) TAIL ≤ to → at (frameAt fs m) TAIL ≤ end → end ≤ r .low → kindOk (frameAt fs m .kind) g v ≡ true
+  stored-holds : (m : ℕ) (d : r .counts .depth ≡ suc m) {g : Frame} {to end : ℕ} {s : List ℕ} → Alike (frameAt fs m) g → m * FRAME + FRAME ≤ length fs → Taken r fs w g to end s c gs v → at g END ≡ end
+      → at (frameAt fs m) TAIL ≤ to → at (frameAt fs m) TAIL ≤ end → end ≤ r .store .low → kindOk (frameAt fs m .kind) g v ≡ true
       → ((u : Subject) → whatOf (frameAt fs m .kind) g v u ≡ onValue (takesNode (subjectOf n w)) (whatOf (frameAt fs m .kind) (frameAt fs m) w u))
-      → Holds (c .registers) gs bs is v (startOf r w) (changeValue (takesNode (subjectOf n w)) (elementsOf r fs bs is w)) (r .rooted) (r .labels)
+      → Holds (c .registers) gs bs is v (startOf r w) (changeValue (takesNode (subjectOf n w)) (elementsOf r fs bs is w)) (r .flags .rooted) (r .counts .labels)
   stored-holds m d {g} {to} {end} {s} al room k e l l′ b kd wt =
       let st : StoredFrame fs m g gs true =
       stored-frame m room (al .places) (al .marks) (k .stored ∙ ap (λ (i : ℕ). storedAt fs (i * FRAME) (wordsOf g)) (omega (arith, d))) in
@@ -201,10 +201,10 @@ module _ {r : Registers} {fs bs is w gs v : List ℕ} {n : Frame} {c : Changed} 
       rw (k .moved, ← e, ← topped-change x m d (takesNode (subjectOf n w))) res
 
   object-holds : sameKind (topFrame r fs .kind) PropertyElt ≡ true
-      → Holds (c .registers) gs bs is v (startOf r w) (changeValue (takesNode (subjectOf n w)) (elementsOf r fs bs is w)) (r .rooted) (r .labels)
+      → Holds (c .registers) gs bs is v (startOf r w) (changeValue (takesNode (subjectOf n w)) (elementsOf r fs bs is w)) (r .flags .rooted) (r .counts .labels)
   object-holds o =
       let k = topmost x (top-deep r fs (λ i. false≢true (ap (λ (g : Kind). sameKind g PropertyElt) (sym i) ∙ o))) in
-      let m : ℕ = r .depth - 1 in
+      let m : ℕ = r .counts .depth - 1 in
       let f : Frame = frameAt fs m in
       let e = k .frame in
       let kind : f .kind ≡ PropertyElt = is-property (f .kind) (rw e at o) in
@@ -227,11 +227,11 @@ module _ {r : Registers} {fs bs is w gs v : List ℕ} {n : Frame} {c : Changed} 
       (λ h. absurd (false≢true (sym (ob .kept h .ok) ∙ y)))
 
   child-holds : sameKind (topFrame r fs .kind) PropertyElt ≡ false → sameKind (topFrame r fs .kind) ParseTypeCollectionPropertyElt ≡ true
-      → Holds (c .registers) gs bs is v (startOf r w) (changeValue (takesNode (subjectOf n w)) (elementsOf r fs bs is w)) (r .rooted) (r .labels)
+      → Holds (c .registers) gs bs is v (startOf r w) (changeValue (takesNode (subjectOf n w)) (elementsOf r fs bs is w)) (r .flags .rooted) (r .counts .labels)
   unfolding L.all mayChild
   child-holds p o =
       let k = topmost x (top-deep r fs (λ i. false≢true (ap (λ (g : Kind). sameKind g ParseTypeCollectionPropertyElt) (sym i) ∙ o))) in
-      let m : ℕ = r .depth - 1 in
+      let m : ℕ = r .counts .depth - 1 in
       let f : Frame = frameAt fs m in
       let e = k .frame in
       let kind : f .kind ≡ ParseTypeCollectionPropertyElt = is-collection (f .kind) (rw e at o) in
@@ -255,22 +255,22 @@ module _ {r : Registers} {fs bs is w gs v : List ℕ} {n : Frame} {c : Changed} 
       (λ h. absurd (false≢true (sym (ch .kept h .ok) ∙ y)))
 
   none-holds : sameKind (topFrame r fs .kind) PropertyElt ≡ false → sameKind (topFrame r fs .kind) ParseTypeCollectionPropertyElt ≡ false
-      → Holds (c .registers) gs bs is v (startOf r w) (changeValue (takesNode (subjectOf n w)) (elementsOf r fs bs is w)) (r .rooted) (r .labels)
+      → Holds (c .registers) gs bs is v (startOf r w) (changeValue (takesNode (subjectOf n w)) (elementsOf r fs bs is w)) (r .flags .rooted) (r .counts .labels)
   unfolding changeValue
   none-holds p o =
       let q = t .none p o in
       let same : changeValue (takesNode (subjectOf n w)) (elementsOf r fs bs is w) ≡ elementsOf r fs bs is w =
-      by (eqb (r .depth) 0)
-      (λ e. rw (none-open r fs bs is w flat (eqb-true (r .depth) 0 e)))
+      by (eqb (r .counts .depth) 0)
+      (λ e. rw (none-open r fs bs is w flat (eqb-true (r .counts .depth) 0 e)))
       (λ e.
-      let k = topmost x (Rattle.state.specs.Tests.positive (r .depth) (borrow.Author.Tests.eqb-false (r .depth) 0 e)) in
-      let m : ℕ = r .depth - 1 in
+      let k = topmost x (Rattle.state.specs.Tests.positive (r .counts .depth) (borrow.Author.Tests.eqb-false (r .counts .depth) 0 e)) in
+      let m : ℕ = r .counts .depth - 1 in
       sym (topped-change x m (k .depth) (takesNode (subjectOf n w)))
       ∙ topped-same x m (k .depth) (onValue (takesNode (subjectOf n w)))
       (node-stays (frameAt fs m .kind) (frameAt fs m) w (subjectOf n w) (subjectBelow fs w m) (rw (k .frame) at p) (rw (k .frame) at o))) in
       rw (q .0, q .1, q .2, same) (record { valid = x; base = refl; elements = refl; root = refl; count = refl })
 
-  taken-holds : Holds (c .registers) gs bs is v (startOf r w) (changeValue (takesNode (subjectOf n w)) (elementsOf r fs bs is w)) (r .rooted) (r .labels)
+  taken-holds : Holds (c .registers) gs bs is v (startOf r w) (changeValue (takesNode (subjectOf n w)) (elementsOf r fs bs is w)) (r .flags .rooted) (r .counts .labels)
   taken-holds =
       by (sameKind (topFrame r fs .kind) PropertyElt)
       object-holds
@@ -309,18 +309,18 @@ closable r fs w m =
     let m2 = and-right (sameKind (topFrame r fs .kind) NodeElt) _ m1 in
     record { node = and-left (sameKind (topFrame r fs .kind) NodeElt) _ m1; pop = and-left (mayPop r) _ m2 }
 
-flat-top : (r : Registers) (fs bs is w : List ℕ) → r .inner ≡ 0 → elementsOf r fs bs is w ≡ framesOf fs bs w (r .depth) (r .outer)
+flat-top : (r : Registers) (fs bs is w : List ℕ) → r .counts .inner ≡ 0 → elementsOf r fs bs is w ≡ framesOf fs bs w (r .counts .depth) (r .counts .outer)
 unfolding elementsOf innersOf
 flat-top r fs bs is w z = rw z
 
 pub close-holds : {r : Registers} {fs bs is w gs v : List ℕ} {c : Changed} → Valid r fs bs is w → ClosesNode r fs w c gs v → c .ok ≡ true
-    → Holds (c .registers) gs bs is v (startOf r w) (closedNode (elementsOf r fs bs is w)) (r .rooted) (r .labels)
+    → Holds (c .registers) gs bs is v (startOf r w) (closedNode (elementsOf r fs bs is w)) (r .flags .rooted) (r .counts .labels)
 close-holds {r} {fs} {bs} {is} {w} {gs} {v} {c} x p y =
     let m : mayClose r fs w ≡ true = sym (p .answer) ∙ y in
     let ca = closable r fs w m in
     let k = may-pop r (ca .pop) in
     let tm = topmost x (k .1) in
-    let i : ℕ = r .depth - 1 in
+    let i : ℕ = r .counts .depth - 1 in
     let n : Frame = frameAt fs i in
     let kind : n .kind ≡ NodeElt = is-node (n .kind) (rw (tm .frame) at (ca .node)) in
     let h = popped x i (tm .depth) (k .0) in

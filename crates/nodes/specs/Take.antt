@@ -25,7 +25,7 @@ use Rattle.nodes.specs.declared.Child.{Child}
 
 unfoldable pub mayTake : Registers → ℕ → ℕ → ℕ → ℕ → ℕ → Bool
 mayTake r words from to len end =
-    leb to from && (leb (from + len) workStoreBytes && (leb end (r .low) && (leb (r .low) workStoreBytes && (ltb 0 (r .depth) && leb (r .depth) (words / FRAME)))))
+    leb to from && (leb (from + len) workStoreBytes && (leb end (r .store .low) && (leb (r .store .low) workStoreBytes && (ltb 0 (r .counts .depth) && leb (r .counts .depth) (words / FRAME)))))
 
 unfoldable pub objectWord : ℕ → ℕ
 objectWord blank = pick (eqb blank 0) 1 2
@@ -56,7 +56,7 @@ pub record Kept (r : Registers) (fs w : List ℕ) (c : Changed) (gs v : List ℕ
 -- frame g is stored on top, s moved down to `to`, and what is held ends at `end`
 pub record Taken (r : Registers) (fs w : List ℕ) (g : Frame) (to end : ℕ) (s : List ℕ) (c : Changed) (gs v : List ℕ) : Type 0 where
   pub ok : c .ok ≡ true
-  pub stored : gs ≡ storedAt fs ((r .depth - 1) * FRAME) (wordsOf g)
+  pub stored : gs ≡ storedAt fs ((r .counts .depth - 1) * FRAME) (wordsOf g)
   pub wrote : Wrote w v to end s
   pub moved : c .registers ≡ toppedTo r end
 
@@ -90,7 +90,7 @@ pub record TakesNode (r : Registers) (fs w : List ℕ) (n : Frame) (c : Changed)
 
 -- without the node on top
 abbrev pub without : Registers → List ℕ → Registers
-without r fs = poppedTo r (at (loadFrame fs (r .depth - 1)) NAME) (first (loadFrame fs (r .depth - 1)))
+without r fs = poppedTo r (at (loadFrame fs (r .counts .depth - 1)) NAME) (first (loadFrame fs (r .counts .depth - 1)))
 
 unfoldable pub mayClose : Registers → List ℕ → List ℕ → Bool
 mayClose r fs w =
@@ -148,25 +148,25 @@ shifted-done {w} {from} {to} {n} {e} {i} h b =
 pub record Movable (r : Registers) (words from to len end : ℕ) : Type 0 where
   pub down : to ≤ from
   pub fits : from + len ≤ 65_536
-  pub below : end ≤ r .low
-  pub low : r .low ≤ 65_536
-  pub deep : 0 < r .depth
-  pub table : (r .depth - 1) * FRAME + FRAME ≤ words
+  pub below : end ≤ r .store .low
+  pub low : r .store .low ≤ 65_536
+  pub deep : 0 < r .counts .depth
+  pub table : (r .counts .depth - 1) * FRAME + FRAME ≤ words
 
 pub movable : (r : Registers) (words from to len end : ℕ) → mayTake r words from to len end ≡ true → Movable r words from to len end
 unfolding L.all mayTake
 movable r words from to len end m =
     let m1 = and-right (leb to from) _ m in
     let m2 = and-right (leb (from + len) 65_536) _ m1 in
-    let m3 = and-right (leb end (r .low)) _ m2 in
-    let m4 = and-right (leb (r .low) 65_536) _ m3 in
-    let d : 0 < r .depth = ltb-true 0 (r .depth) (and-left (ltb 0 (r .depth)) _ m4) in
-    let t : r .depth ≤ words / FRAME = leb-true (r .depth) (words / FRAME) (and-right (ltb 0 (r .depth)) _ m4) in
+    let m3 = and-right (leb end (r .store .low)) _ m2 in
+    let m4 = and-right (leb (r .store .low) 65_536) _ m3 in
+    let d : 0 < r .counts .depth = ltb-true 0 (r .counts .depth) (and-left (ltb 0 (r .counts .depth)) _ m4) in
+    let t : r .counts .depth ≤ words / FRAME = leb-true (r .counts .depth) (words / FRAME) (and-right (ltb 0 (r .counts .depth)) _ m4) in
     record {
       down = leb-true _ _ (and-left (leb to from) _ m);
       fits = leb-true _ _ (and-left (leb (from + len) 65_536) _ m1);
-      below = leb-true _ _ (and-left (leb end (r .low)) _ m2);
-      low = leb-true _ _ (and-left (leb (r .low) 65_536) _ m3);
+      below = leb-true _ _ (and-left (leb end (r .store .low)) _ m2);
+      low = leb-true _ _ (and-left (leb (r .store .low) 65_536) _ m3);
       deep = d;
       table = omega arith;
     }
@@ -186,7 +186,7 @@ module _ {r : Registers} {fs w : List ℕ} {f n : Frame} where
   object-refused h = record { takes = λ y. differ y h; kept = λ _. kept-whole }
 
   pub object-done : {gs v : List ℕ} {q : Bool} {r′ : Registers} → length w ≡ 65_536 → mayTake r (length fs) (at n MAIN) (at f TAIL) (mainSize n) (at f TAIL + mainSize n) ≡ true
-      → StoredFrame fs (r .depth - 1) (objectFrame f n) gs q → v ≡ storedAt w (at f TAIL) (part w (at n MAIN) (mainSize n)) → r′ ≡ toppedTo r (at f TAIL + mainSize n)
+      → StoredFrame fs (r .counts .depth - 1) (objectFrame f n) gs q → v ≡ storedAt w (at f TAIL) (part w (at n MAIN) (mainSize n)) → r′ ≡ toppedTo r (at f TAIL + mainSize n)
       → TakesObject r fs w f n (record { ok = true; registers = r′ }) gs v
   object-done {gs} {v} {q} l m s e k =
       let t = movable r (length fs) (at n MAIN) (at f TAIL) (mainSize n) (at f TAIL + mainSize n) m in
@@ -211,7 +211,7 @@ module _ {r : Registers} {fs w : List ℕ} {f n : Frame} where
     child-too-many h = child-refused (rw (m, le-ltb (count f) 65_536 h))
 
     pub child-done : {gs u v : List ℕ} {q y : Bool} {r′ : Registers} → length w ≡ 65_536 → count f < 65_536
-        → StoredFrame fs (r .depth - 1) (childFrame f n) gs q → u ≡ storedAt w (at f END) (part w (at n MAIN) (mainSize n))
+        → StoredFrame fs (r .counts .depth - 1) (childFrame f n) gs q → u ≡ storedAt w (at f END) (part w (at n MAIN) (mainSize n))
         → Put u (at f END + mainSize n) (markOf (mainSize n) (has n BLANK)) v y → r′ ≡ toppedTo r (at f END + mainSize n + 4)
         → TakesChild r fs w f n (record { ok = true; registers = r′ }) gs v
     unfolding L.all mayChild
@@ -238,7 +238,7 @@ module _ {r : Registers} {fs w : List ℕ} {f n : Frame} {from to len : ℕ} (a 
   object-none b h = object-refused (rw (a, b, l) at h)
 
   pub object-made : {gs v : List ℕ} {q : Bool} {r′ : Registers} {word : ℕ} → to ≡ at f TAIL → word ≡ objectWord (has n BLANK) → length w ≡ 65_536 → mayTake r (length fs) from to len (to + len) ≡ true
-      → StoredFrame fs (r .depth - 1) (record { kind = f .kind; at = set (f .at) END (to + len); has = set (f .has) PENDING word }) gs q
+      → StoredFrame fs (r .counts .depth - 1) (record { kind = f .kind; at = set (f .at) END (to + len); has = set (f .has) PENDING word }) gs q
       → v ≡ storedAt w to (part w from len) → r′ ≡ toppedTo r (to + len) → TakesObject r fs w f n (record { ok = true; registers = r′ }) gs v
   object-made b o z m s e k = object-done z (rw (a, b, l) at m) (rw (b, l, o) at s) (rw (a, b, l) at e) (rw (b, l) at k)
 
@@ -250,7 +250,7 @@ module _ {r : Registers} {fs w : List ℕ} {f n : Frame} {from to len : ℕ} (a 
 
   pub child-made : {gs u v : List ℕ} {q y : Bool} {r′ : Registers} {word : ℕ} → to ≡ at f END → word ≡ blankByte (has n BLANK) → length w ≡ 65_536 → mayTake r (length fs) from to len (to + len + 4) ≡ true
       → count f < 65_536
-      → StoredFrame fs (r .depth - 1) (record { kind = f .kind; at = set (f .at) END (to + len + 4); has = set (f .has) COUNT (count f + 1) }) gs q
+      → StoredFrame fs (r .counts .depth - 1) (record { kind = f .kind; at = set (f .at) END (to + len + 4); has = set (f .has) COUNT (count f + 1) }) gs q
       → u ≡ storedAt w to (part w from len) → Put u (to + len) (len % 256 ∷ len / 256 ∷ word ∷ 0 ∷ []) v y → r′ ≡ toppedTo r (to + len + 4)
       → TakesChild r fs w f n (record { ok = true; registers = r′ }) gs v
   child-made b o z m c s e p k = child-done (rw (a, b, l) at m) z c (rw (b, l) at s) (rw (a, b, l) at e) (rw (b, l, o) at p) (rw (b, l) at k)

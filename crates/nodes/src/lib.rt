@@ -115,7 +115,7 @@ fn take_object(r: Registers, frames: &mut [u32], work: &mut [u8], f: Frame, n: F
     }
     at[Frame::END] = (to + len) as u32;
     has[Frame::PENDING] = object_word(marks[Frame::BLANK]);
-    Frame::store(frames, r.depth - 1, Frame { kind, at, has });
+    Frame::store(frames, r.counts.depth - 1, Frame { kind, at, has });
     shift(work, from, to, len);
     Changed {
         ok: true,
@@ -151,7 +151,7 @@ fn take_child(r: Registers, frames: &mut [u32], work: &mut [u8], f: Frame, n: Fr
     }
     at[Frame::END] = (to + len + 4) as u32;
     has[Frame::COUNT] = count + 1;
-    Frame::store(frames, r.depth - 1, Frame { kind, at, has });
+    Frame::store(frames, r.counts.depth - 1, Frame { kind, at, has });
     shift(work, from, to, len);
     let mark = [
         (len % 256) as u8,
@@ -173,10 +173,10 @@ fn may_take(r: Registers, words: usize, from: usize, to: usize, len: usize, end:
 {
     let a = to <= from;
     let b = from + len <= Registers::STORE;
-    let c = end <= r.low;
-    let d = r.low <= Registers::STORE;
-    let e = 0 < r.depth;
-    let f = r.depth <= words / Frame::WORDS;
+    let c = end <= r.store.low;
+    let d = r.store.low <= Registers::STORE;
+    let e = 0 < r.counts.depth;
+    let f = r.counts.depth <= words / Frame::WORDS;
     a & (b & (c & (d & (e & f))))
 }
 

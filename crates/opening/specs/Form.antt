@@ -54,14 +54,14 @@ length-bindings bs w b zero = refl
 length-bindings bs w b (suc n) = ap suc (length-bindings bs w b n)
 
 module _ {r : Registers} {fs bs is w : List ℕ} (x : Valid r fs bs is w) (e v : List ℕ) (k : ℕ) where
-  bound : length (declared (attributesOf e v k) ++ inScope (elementsOf r fs bs is w)) ≡ length (declared (attributesOf e v k)) + r .bindings
-  bound = rw (in-scope x) (omega (arith, length-append (declared (attributesOf e v k)) (bindingsOf bs w 0 (r .bindings)), length-bindings bs w 0 (r .bindings)))
+  bound : length (declared (attributesOf e v k) ++ inScope (elementsOf r fs bs is w)) ≡ length (declared (attributesOf e v k)) + r .counts .bindings
+  bound = rw (in-scope x) (omega (arith, length-append (declared (attributesOf e v k)) (bindingsOf bs w 0 (r .counts .bindings)), length-bindings bs w 0 (r .counts .bindings)))
 
-  pub counts-deep : 64 ≤ r .depth + r .inner → countsFit (attributesOf e v k) (elementsOf r fs bs is w) ≡ false
+  pub counts-deep : 64 ≤ r .counts .depth + r .counts .inner → countsFit (attributesOf e v k) (elementsOf r fs bs is w) ≡ false
   unfolding countsFit L.all
   counts-deep h = rw (lt-leb (suc (length (elementsOf r fs bs is w))) 64 (omega (arith, H.depth r fs bs is w)))
 
-  pub counts-bound : r .depth + r .inner < 64 → k ≤ 64 → 128 < length (declared (attributesOf e v k)) + r .bindings → countsFit (attributesOf e v k) (elementsOf r fs bs is w) ≡ false
+  pub counts-bound : r .counts .depth + r .counts .inner < 64 → k ≤ 64 → 128 < length (declared (attributesOf e v k)) + r .counts .bindings → countsFit (attributesOf e v k) (elementsOf r fs bs is w) ≡ false
   unfolding countsFit L.all
   counts-bound d f h =
       rw (
@@ -70,7 +70,7 @@ module _ {r : Registers} {fs bs is w : List ℕ} (x : Valid r fs bs is w) (e v :
         lt-leb (length (declared (attributesOf e v k) ++ inScope (elementsOf r fs bs is w))) 128 (omega (arith, bound)),
       )
 
-  pub counts-fit : r .depth + r .inner < 64 → k ≤ 64 → length (declared (attributesOf e v k)) + r .bindings ≤ 128 → countsFit (attributesOf e v k) (elementsOf r fs bs is w) ≡ true
+  pub counts-fit : r .counts .depth + r .counts .inner < 64 → k ≤ 64 → length (declared (attributesOf e v k)) + r .counts .bindings ≤ 128 → countsFit (attributesOf e v k) (elementsOf r fs bs is w) ≡ true
   unfolding countsFit L.all
   counts-fit d f h =
       rw (
@@ -87,10 +87,10 @@ no-elements [] = refl
 no-elements (x ∷ es) = sym (ne-eqb (suc (length es)) 0 (λ z. omega arith))
 
 module _ (r : Registers) (fs bs is w : List ℕ) (ids : List Bytes) where
-  pub second-read : r .inner ≡ 0 → isSecondRoot (docOf r fs bs is w ids) ≡ (r .rooted && eqb (r .depth) 0)
+  pub second-read : r .counts .inner ≡ 0 → isSecondRoot (docOf r fs bs is w ids) ≡ (r .flags .rooted && eqb (r .counts .depth) 0)
   unfolding isSecondRoot docOf
   second-read i =
-      let e : length (elementsOf r fs bs is w) ≡ r .depth = omega (arith, H.depth r fs bs is w) in
+      let e : length (elementsOf r fs bs is w) ≡ r .counts .depth = omega (arith, H.depth r fs bs is w) in
       rw (no-elements (elementsOf r fs bs is w), e)
 
 -- ---- what `check_form` answers
@@ -99,9 +99,9 @@ module _ (r : Registers) (fs bs is w : List ℕ) (ids : List Bytes) where
 pub record Formed (r : Registers) (fs bs is w e v : List ℕ) (m k : ℕ) (cs : List ℕ) : Type 0 where
   pub form : (ids : List Bytes) → WellFormed (placeIn (elementsOf r fs bs is w)) (take m e) (attributesOf e v k) (docOf r fs bs is w ids)
   pub counts : countsFit (attributesOf e v k) (elementsOf r fs bs is w) ≡ true
-  pub classes : Classified e v k w bs (r .bindings) cs k
-  pub deep : r .depth < 64
-  pub bound : length (declared (attributesOf e v k)) + r .bindings ≤ 128
+  pub classes : Classified e v k w bs (r .counts .bindings) cs k
+  pub deep : r .counts .depth < 64
+  pub bound : length (declared (attributesOf e v k)) + r .counts .bindings ≤ 128
 
 abbrev pub Forms : Form → Registers → List ℕ → List ℕ → List ℕ → List ℕ → List ℕ → List ℕ → ℕ → ℕ → List ℕ → Type 0
 Forms (Stop x) r fs bs is w e v m k cs = (ids : List Bytes) → onOpening (take m e) (attributesOf e v k) (docOf r fs bs is w ids) ≡ refuse x
@@ -117,7 +117,7 @@ pub record Checks (f : Form) (r : Registers) (fs bs is w e v : List ℕ) (m k : 
 pub record Asked (r : Registers) (fs bs is w e v : List ℕ) (m c k : ℕ) (cs : List ℕ) : Type 0 where
   pub valid : Valid r fs bs is w
   pub outer : isXml (placeIn (elementsOf r fs bs is w)) ≡ false
-  pub flat : r .inner ≡ 0
+  pub flat : r .counts .inner ≡ 0
   pub tag : Decoded e v m c k
   pub words : 192 ≤ length cs
 
@@ -126,17 +126,17 @@ module _ {r : Registers} {fs bs is w e v : List ℕ} {m c k : ℕ} {cs : List �
   unfolding docOf
   starts ids = record { at = refl; outer = a .outer }
 
-  pub form-second : {t : Bool} → t ≡ (r .rooted && eqb (r .depth) 0) → t ≡ true → Checks (Stop NotWellFormed) r fs bs is w e v m k cs cs
+  pub form-second : {t : Bool} → t ≡ (r .flags .rooted && eqb (r .counts .depth) 0) → t ≡ true → Checks (Stop NotWellFormed) r fs bs is w e v m k cs cs
   form-second q h = record { cases = λ ids. second-root (starts ids) (second-read r fs bs is w ids (a .flat) ∙ (sym q ∙ h)); same = refl }
 
-  module _ {o : Bool} (s : o ≡ (r .rooted && eqb (r .depth) 0)) (n : o ≡ false) where
+  module _ {o : Bool} (s : o ≡ (r .flags .rooted && eqb (r .counts .depth) 0)) (n : o ≡ false) where
     f : (ids : List Bytes) → isSecondRoot (docOf r fs bs is w ids) ≡ false
     f ids = second-read r fs bs is w ids (a .flat) ∙ (sym s ∙ n)
 
     pub form-illegal : {t : Bool} → t ≡ allLegal (declared (attributesOf e v k)) → t ≡ false → Checks (Stop NotWellFormed) r fs bs is w e v m k cs cs
     form-illegal q h = record { cases = λ ids. illegal (starts ids) (f ids) (sym q ∙ h); same = refl }
 
-    module _ {ds : List ℕ} {y : Bool} (l : allLegal (declared (attributesOf e v k)) ≡ true) (z : Classifies e v k w bs (r .bindings) cs ds y) where
+    module _ {ds : List ℕ} {y : Bool} (l : allLegal (declared (attributesOf e v k)) ≡ true) (z : Classifies e v k w bs (r .counts .bindings) cs ds y) where
       told : y ≡ true
       told = z .answer ∙ le-leb k (length cs / 3) (omega (arith, a .words, a .tag .few))
 
@@ -156,13 +156,13 @@ module _ {r : Registers} {fs bs is w e v : List ℕ} {m c k : ℕ} {cs : List �
         unfolding docOf
         many ids x = too-many (well ids) x
 
-        pub form-deep : 64 ≤ r .depth → Checks (Stop OverLimit) r fs bs is w e v m k cs ds
+        pub form-deep : 64 ≤ r .counts .depth → Checks (Stop OverLimit) r fs bs is w e v m k cs ds
         form-deep g = record { cases = λ ids. many ids (counts-deep (a .valid) e v k (omega arith)); same = z .same }
 
-        pub form-bound : {i : ℕ} → r .depth < 64 → i ≡ length (declared (attributesOf e v k)) → 128 < i + r .bindings → Checks (Stop OverLimit) r fs bs is w e v m k cs ds
+        pub form-bound : {i : ℕ} → r .counts .depth < 64 → i ≡ length (declared (attributesOf e v k)) → 128 < i + r .counts .bindings → Checks (Stop OverLimit) r fs bs is w e v m k cs ds
         form-bound g p b = record { cases = λ ids. many ids (counts-bound (a .valid) e v k (omega (arith, a .flat)) (a .tag .few) (omega arith)); same = z .same }
 
-        pub form-good : {i : ℕ} → r .depth < 64 → i ≡ length (declared (attributesOf e v k)) → i + r .bindings ≤ 128 → Checks Good r fs bs is w e v m k cs ds
+        pub form-good : {i : ℕ} → r .counts .depth < 64 → i ≡ length (declared (attributesOf e v k)) → i + r .counts .bindings ≤ 128 → Checks Good r fs bs is w e v m k cs ds
         form-good g p b =
             record {
               cases = record {

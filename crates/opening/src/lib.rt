@@ -37,18 +37,18 @@ pub fn check_form<'a>(
     if !names::all_legal(scratch, spans, k) {
         return Form::Stop(Refusal::NotWellFormed);
     }
-    names::classify(scratch, spans, k, work, bindings, r.bindings, classes);
+    names::classify(scratch, spans, k, work, bindings, r.counts.bindings, classes);
     if names::repeated_expanded(scratch, spans, k, work, classes) {
         return Form::Stop(Refusal::NotWellFormed);
     }
-    if r.depth >= Frame::MOST {
+    if r.counts.depth >= Frame::MOST {
         return Form::Stop(Refusal::OverLimit);
     }
     let n = names::count_declared(scratch, spans, k);
-    if r.bindings > Row::MOST_BINDINGS {
+    if r.counts.bindings > Row::MOST_BINDINGS {
         return Form::Stop(Refusal::OverLimit);
     }
-    if n > Row::MOST_BINDINGS - r.bindings {
+    if n > Row::MOST_BINDINGS - r.counts.bindings {
         return Form::Stop(Refusal::OverLimit);
     }
     Form::Good
@@ -56,7 +56,7 @@ pub fn check_form<'a>(
 
 // Where nothing stands open inside Literal content.
 fn is_second_root(r: Registers) -> bool
-    ensures { λ b. ⌜ b ≡ (r .rooted && eqb (r .depth) 0) ⌝ }
+    ensures { λ b. ⌜ b ≡ (r .flags .rooted && eqb (r .counts .depth) 0) ⌝ }
 {
-    r.rooted & (r.depth == 0)
+    r.flags.rooted & (r.counts.depth == 0)
 }

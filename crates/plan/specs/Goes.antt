@@ -63,7 +63,7 @@ pub record Goes (x : Start) (d : Doc) (r : Registers) (fs bs w e v : List ℕ) (
   pub type : given (x .named) (textOf (x .iri) e a) ≡ elementType (tag .iri)
   pub id : maybe (x .id) e a ≡ tag .id
   pub li : isLi (tag .iri) ≡ x .li
-  pub does : Does (x .plan) e a (subjectBelow fs w (r .depth)) what
-  pub lines : what .lines ≡ told (x .plan .lines) (mainOf x e a) (objectOf x e a) (tag .language) (tag .attributes) (tag .type) (elementType (tag .iri)) (propertyOf x e a (subjectBelow fs w (r .depth)))
+  pub does : Does (x .plan) e a (subjectBelow fs w (r .counts .depth)) what
+  pub lines : what .lines ≡ told (x .plan .lines) (mainOf x e a) (objectOf x e a) (tag .language) (tag .attributes) (tag .type) (elementType (tag .iri)) (propertyOf x e a (subjectBelow fs w (r .counts .depth)))
   pub granted : Granted r fs bs w e v m k a (x .plan .parts) (x .li) (x .plan .labels)
   pub room : isThere (x .id) ≡ true → roomFor count used (length (textOf (x .id) e a)) ≡ true

@@ -14,7 +14,7 @@ use Rattle.opening.specs.Form.{Decoded}
 -- the state of an open document
 pub record Asks (r : Registers) (count used : ℕ) (l : Lent) : Type 0 where
   pub lawful : Lawful r count used l
-  pub mark : r .closed ≡ false
+  pub mark : r .flags .closed ≡ false
 
 -- what the handlers of events that enter no rdf:ID ask
 pub handler-asks : {r : Registers} {count used : ℕ} {l : Lent} → Asks r count used l → handler.Asks r (l .frames) (l .bindings) (l .inners) (l .work)

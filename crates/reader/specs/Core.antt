@@ -46,7 +46,7 @@ pub record Accepts (a : Answer Accepted) (s : Bytes) (n : ℕ) (d : Advance) (l 
   pub within : n ≤ length s
   pub wrote : Wrote (l .out) (l′ .out) 0 (d .written) (what .lines)
   pub lawful : Lawful (d .registers) (d .count) (d .used) l′
-  pub mark : d .registers .closed ≡ false
+  pub mark : d .registers .flags .closed ≡ false
   pub doc : docIn (d .registers) (d .count) l′ ≡ what .behind
 
 abbrev pub Cases : Answer Accepted → Bytes → Taken → Lent → Lent → Type 0

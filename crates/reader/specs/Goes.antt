@@ -54,7 +54,7 @@ pub record Went (last : Bool) (s : Bytes) (k n m : ℕ) (r : Registers) (i : ℕ
   pub fewer : k ≤ n
   pub wrote : Wrote (l .out) (l′ .out) 0 m output
   pub lawful : Lawful r′ i′ u l′
-  pub mark : r′ .closed ≡ false
+  pub mark : r′ .flags .closed ≡ false
 
 abbrev pub WentTo : Bool → Bytes → Registers → ℕ → Fed → Lent → Lent → Type 0
 WentTo last s r count f l l′ = Went last s (f .events) (f .consumed) (f .written) r count (f .registers) (f .count) (f .used) l l′
@@ -79,7 +79,7 @@ pub record Going (last : Bool) (s : Bytes) (r : Registers) (count : ℕ) (f : Fe
   pub full : f .pause ≡ Full
 
 -- from `f`, which nothing is done to yet
-pub going-begins : {last : Bool} {s : Bytes} {r : Registers} {count used : ℕ} {l : Lent} {f : Fed} → f ≡ nothing r count used → Lawful r count used l → r .closed ≡ false
+pub going-begins : {last : Bool} {s : Bytes} {r : Registers} {count used : ℕ} {l : Lent} {f : Fed} → f ≡ nothing r count used → Lawful r count used l → r .flags .closed ≡ false
     → Going last s (f .registers) (f .count) f l l
 going-begins {l = l} e w m =
     rw e

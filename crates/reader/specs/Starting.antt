@@ -160,11 +160,11 @@ module _ {s : State} {w i : List ℕ} {r : Report} where
   finish-unlawful h e = rw e (record { meets = meets-marked s BadState (rw (means-unlawful s w i h)) })
 
   module _ (h : lawfulState s w i ≡ true) where
-    pub finish-closed : s .registers .closed ≡ true → r ≡ refusing s Closed → Finishes s w i r
+    pub finish-closed : s .registers .flags .closed ≡ true → r ≡ refusing s Closed → Finishes s w i r
     unfolding callFinish marked
     finish-closed c e = rw e (record { meets = meets-marked s Closed (rw (means-closed s w i h c)) })
 
-    module _ (c : s .registers .closed ≡ false) where
+    module _ (c : s .registers .flags .closed ≡ false) where
       pub finish-open : overIn (s .registers) ≡ false → r ≡ refusing (closedState s) NotWellFormed → Finishes s w i r
       unfolding callFinish finished finish require_or_ marked
       finish-open o e = rw e (record { meets = meets-marked s NotWellFormed (rw (means-open s w i h c, over-read s w i, o)) })

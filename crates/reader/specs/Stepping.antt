@@ -27,13 +27,13 @@ module _ {last : Bool} {input : Bytes} {s : State} {w i out : List ℕ} {r : Rep
   unfolding callStep marked
   step-unlawful h e = rw e (record { meets = meets-marked s BadState (rw (means-unlawful s w i h)) })
 
-  pub step-closed : lawfulState s w i ≡ true → s .registers .closed ≡ true → r ≡ refusing s Closed → Steps last input s w i out r w i out
+  pub step-closed : lawfulState s w i ≡ true → s .registers .flags .closed ≡ true → r ≡ refusing s Closed → Steps last input s w i out r w i out
   unfolding callStep marked
   step-closed h c e = rw e (record { meets = meets-marked s Closed (rw (means-closed s w i h c)) })
 
 -- ---- an event
 
-module _ {last : Bool} {input : Bytes} (s : State) {w i out : List ℕ} (h : lawfulState s w i ≡ true) (c : s .registers .closed ≡ false) {o : Taken} {fs bs is w′ ia il i′ out′ : List ℕ}
+module _ {last : Bool} {input : Bytes} (s : State) {w i out : List ℕ} (h : lawfulState s w i ≡ true) (c : s .registers .flags .closed ≡ false) {o : Taken} {fs bs is w′ ia il i′ out′ : List ℕ}
     (t : Takes last input (s .registers) (s .ids .count) o (lentBy s w i out) (lent fs bs is w′ ia il i′ out′)) where
   -- the output is no part of the document
   same-doc : docIn (s .registers) (s .ids .count) (lentBy s w i out) ≡ docFrom s w i

@@ -61,13 +61,13 @@ module _ {r : Registers} {fs bs is w : List ℕ} (v : Valid r fs bs is w) {b : B
 
 module _ (r : Registers) (fs : List ℕ) {b : Bool} (e : b ≡ isLiteral (placeAt r fs)) where
   -- then no element is open inside Literal content
-  pub stands-flat : b ≡ false → r .inner ≡ 0
+  pub stands-flat : b ≡ false → r .counts .inner ≡ 0
   unfolding placeAt
-  stands-flat f = go (r .inner) refl
+  stands-flat f = go (r .counts .inner) refl
     where
-      go : (n : ℕ) → r .inner ≡ n → r .inner ≡ 0
+      go : (n : ℕ) → r .counts .inner ≡ n → r .counts .inner ≡ 0
       go zero q = q
-      go (suc n) q = absurd (false≢true (sym f ∙ (e ∙ rw (ne-eqb (r .inner) 0 (λ z. omega arith)))))
+      go (suc n) q = absurd (false≢true (sym f ∙ (e ∙ rw (ne-eqb (r .counts .inner) 0 (λ z. omega arith)))))
 
 -- ---- what is asked of a start tag in Literal content
 

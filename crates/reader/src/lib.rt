@@ -48,7 +48,7 @@ pub fn step(
         return Report::refused(state, Refusal::BadState);
     }
     let registers = state.registers;
-    if registers.closed {
+    if registers.flags.closed {
         return Report::refused(state, Refusal::Closed);
     }
     let mut frames = state.frames;
@@ -92,7 +92,7 @@ pub fn finish(state: State, work: &[u8], ids: &[u8]) -> Report
         return Report::refused(state, Refusal::BadState);
     }
     let registers = state.registers;
-    if registers.closed {
+    if registers.flags.closed {
         return Report::refused(state, Refusal::Closed);
     }
     if !report::may_finish(registers) {

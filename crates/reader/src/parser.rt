@@ -181,7 +181,7 @@ fn parse_end_event(
     requires { ⌜ handler.Asks r (now frames) (now bindings) (now inners) (now work) × (mostHeldBytes ≤ length (now area)) ⌝ }
     ensures { λ o. ⌜ Handles (closing (now (name .entry))) r o (now (frames .entry)) (now (bindings .entry)) (now (inners .entry)) (now (work .entry)) (now (out .entry)) (now (frames .exit)) (now (bindings .entry)) (now (inners .entry)) (now (work .exit)) (now (out .exit)) ⌝ }
 {
-    if r.inner > 0 {
+    if r.counts.inner > 0 {
         return literal::end_inside(r, frames, bindings, inners, work, area, name);
     }
     closing::end_outside(r, frames, bindings, inners, work, name, out)

@@ -48,7 +48,7 @@ unfoldable pub docFrom : State → List ℕ → List ℕ → Doc
 docFrom s w i = docIn (s .registers) (s .ids .count) (lentBy s w i [])
 
 unfoldable pub meaningOf : State → List ℕ → List ℕ → calls.State
-meaningOf s w i = pick (lawfulState s w i) (pick (s .registers .closed) (isClosed (docFrom s w i)) (isOpen (docFrom s w i))) unlawful
+meaningOf s w i = pick (lawfulState s w i) (pick (s .registers .flags .closed) (isClosed (docFrom s w i)) (isOpen (docFrom s w i))) unlawful
 
 -- ---- the test
 
@@ -67,17 +67,9 @@ module _ (s : State) (w i : List ℕ) where
 abbrev pub closedRegisters : Registers → Registers
 closedRegisters r =
     record {
-      closed = true;
-      rooted = r .rooted;
-      based = r .based;
-      base = r .base;
-      depth = r .depth;
-      inner = r .inner;
-      outer = r .outer;
-      bindings = r .bindings;
-      top = r .top;
-      low = r .low;
-      labels = r .labels;
+      flags = record { closed = true; rooted = r .flags .rooted; based = r .flags .based };
+      store = r .store;
+      counts = r .counts;
     }
 
 abbrev pub closedState : State → State
@@ -99,7 +91,7 @@ module _ (s : State) (n : Refusal) where
 -- the mark is no part of the rules, nor of the document
 pub meaning-closed : (s : State) (w i : List ℕ) → meaningOf (closedState s) w i ≡ markClosed (meaningOf s w i)
 unfolding meaningOf lawfulState validState countsOk docFrom docIn docOf startOf elementsOf markClosed
-meaning-closed s w i = go (lawfulState s w i) (s .registers .closed)
+meaning-closed s w i = go (lawfulState s w i) (s .registers .flags .closed)
   where
     go : (l c : Bool) → pick l (isClosed (docFrom s w i)) unlawful ≡ markClosed (pick l (pick c (isClosed (docFrom s w i)) (isOpen (docFrom s w i))) unlawful)
     go true true = refl
@@ -123,11 +115,11 @@ module _ (s : State) (w i : List ℕ) where
   means-unlawful h = rw h
 
   module _ (h : lawfulState s w i ≡ true) where
-    pub means-closed : s .registers .closed ≡ true → meaningOf s w i ≡ isClosed (docFrom s w i)
+    pub means-closed : s .registers .flags .closed ≡ true → meaningOf s w i ≡ isClosed (docFrom s w i)
     unfolding meaningOf
     means-closed c = rw (h, c)
 
-    pub means-open : s .registers .closed ≡ false → meaningOf s w i ≡ isOpen (docFrom s w i)
+    pub means-open : s .registers .flags .closed ≡ false → meaningOf s w i ≡ isOpen (docFrom s w i)
     unfolding meaningOf
     means-open c = rw (h, c)
 
@@ -143,14 +135,14 @@ module _ (s : State) (w i : List ℕ) where
 -- an open document, for a caller that takes its state apart
 pub record Open (s : State) (w i : List ℕ) (d : Doc) : Type 0 where
   pub lawful : lawfulState s w i ≡ true
-  pub mark : s .registers .closed ≡ false
+  pub mark : s .registers .flags .closed ≡ false
   pub doc : docFrom s w i ≡ d
 
 pub open-means : (s : State) (w i : List ℕ) {d : Doc} → meaningOf s w i ≡ isOpen d → Open s w i d
 unfolding meaningOf
-open-means s w i {d} = go (lawfulState s w i) refl (s .registers .closed) refl
+open-means s w i {d} = go (lawfulState s w i) refl (s .registers .flags .closed) refl
   where
-    go : (l : Bool) → lawfulState s w i ≡ l → (c : Bool) → s .registers .closed ≡ c → pick l (pick c (isClosed (docFrom s w i)) (isOpen (docFrom s w i))) unlawful ≡ isOpen d → Open s w i d
+    go : (l : Bool) → lawfulState s w i ≡ l → (c : Bool) → s .registers .flags .closed ≡ c → pick l (pick c (isClosed (docFrom s w i)) (isOpen (docFrom s w i))) unlawful ≡ isOpen d → Open s w i d
     go true p false q e = record { lawful = p; mark = q; doc = cc }
     go true p true q e = let z : _≡_ {A = ℕ} 0 1 = cc in absurd (omega arith)
     go false p c q e = let z : _≡_ {A = ℕ} 0 1 = cc in absurd (omega arith)
@@ -163,14 +155,14 @@ facts-lawful s {w} {i} l = rw (state.is-valid (s .registers) (s .frames) (s .bin
 
 -- no element is open, and there was a root
 unfoldable pub overIn : Registers → Bool
-overIn r = eqb (r .inner) 0 && (eqb (r .depth) 0 && r .rooted)
+overIn r = eqb (r .counts .inner) 0 && (eqb (r .counts .depth) 0 && r .flags .rooted)
 
 pub over-read : (s : State) (w i : List ℕ) → (isEmpty (docFrom s w i .frames) && docFrom s w i .rooted) ≡ overIn (s .registers)
 unfolding docFrom docIn docOf elementsOf innersOf framesOf isEmpty overIn
-over-read s w i = go (s .registers .inner) (s .registers .depth)
+over-read s w i = go (s .registers .counts .inner) (s .registers .counts .depth)
   where
-    go : (n d : ℕ) → (isEmpty (innersOf (s .inners) (s .bindings) w n (s .registers .bindings) ++ framesOf (s .frames) (s .bindings) w d (s .registers .outer)) && s .registers .rooted)
-        ≡ (eqb n 0 && (eqb d 0 && s .registers .rooted))
+    go : (n d : ℕ) → (isEmpty (innersOf (s .inners) (s .bindings) w n (s .registers .counts .bindings) ++ framesOf (s .frames) (s .bindings) w d (s .registers .counts .outer)) && s .registers .flags .rooted)
+        ≡ (eqb n 0 && (eqb d 0 && s .registers .flags .rooted))
     go zero zero = refl
     go zero (suc d) = rw (ne-eqb (suc d) 0 (λ z. omega arith))
     go (suc n) d = rw (ne-eqb (suc n) 0 (λ z. omega arith))

@@ -69,7 +69,7 @@ impl State {
         let bindings = self.bindings;
         let inners = self.inners;
         let ids = self.ids;
-        registers.closed = true;
+        registers.flags.closed = true;
         State {
             registers,
             frames,
@@ -164,7 +164,7 @@ impl Report {
 pub fn may_finish(r: Registers) -> bool
     ensures { λ b. ⌜ b ≡ overIn r ⌝ }
 {
-    (r.inner == 0) & ((r.depth == 0) & r.rooted)
+    (r.counts.inner == 0) & ((r.counts.depth == 0) & r.flags.rooted)
 }
 
 // The number that document 01 gives a refusal.

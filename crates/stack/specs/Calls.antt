@@ -27,11 +27,11 @@ abbrev pub frameOf : Kind → List ℕ → List ℕ → Frame
 frameOf k at′ has′ = record { kind = k; at = at′; has = has′ }
 
 unfoldable pub mayPush : Registers → List ℕ → Bool
-mayPush r fs = eqb (r .inner) 0 && (ltb (r .depth) mostOpenElements && leb (r .depth * FRAME + FRAME) (length fs))
+mayPush r fs = eqb (r .counts .inner) 0 && (ltb (r .counts .depth) mostOpenElements && leb (r .counts .depth * FRAME + FRAME) (length fs))
 
 pub record Pushes (r : Registers) (fs : List ℕ) (f : Frame) (b : ℕ) (c : Changed) (gs : List ℕ) : Type 0 where
   pub answer : c .ok ≡ mayPush r fs
-  pub wrote : mayPush r fs ≡ true → gs ≡ storedAt fs (r .depth * FRAME) (wordsOf f)
+  pub wrote : mayPush r fs ≡ true → gs ≡ storedAt fs (r .counts .depth * FRAME) (wordsOf f)
   pub moved : mayPush r fs ≡ true → c .registers ≡ pushedTo r (at f END) b
   pub kept : mayPush r fs ≡ false → (gs ≡ fs) × (c .registers ≡ r)
   pub same : length gs ≡ length fs
@@ -39,11 +39,11 @@ pub record Pushes (r : Registers) (fs : List ℕ) (f : Frame) (b : ℕ) (c : Cha
 -- ---- pop
 
 unfoldable pub mayPop : Registers → Bool
-mayPop r = eqb (r .inner) 0 && ltb 0 (r .depth)
+mayPop r = eqb (r .counts .inner) 0 && ltb 0 (r .counts .depth)
 
 pub record Pops (r : Registers) (fs : List ℕ) (c : Changed) : Type 0 where
   pub answer : c .ok ≡ mayPop r
-  pub moved : mayPop r ≡ true → c .registers ≡ poppedTo r (at (loadFrame fs (r .depth - 1)) NAME) (first (loadFrame fs (r .depth - 1)))
+  pub moved : mayPop r ≡ true → c .registers ≡ poppedTo r (at (loadFrame fs (r .counts .depth - 1)) NAME) (first (loadFrame fs (r .counts .depth - 1)))
   pub kept : mayPop r ≡ false → c .registers ≡ r
 
 -- ---- bind
@@ -61,7 +61,7 @@ pub record Binds (w bs : List ℕ) (a n : ℕ) (p s v cs : List ℕ) (r : Bool) 
 -- ---- the frame on top
 
 unfoldable pub topFrame : Registers → List ℕ → Frame
-topFrame r fs = pick (eqb (r .depth) 0) noFrame (loadFrame fs (r .depth - 1))
+topFrame r fs = pick (eqb (r .counts .depth) 0) noFrame (loadFrame fs (r .counts .depth - 1))
 
 abbrev pub sameKind : Kind → Kind → Bool
 sameKind a b = eqb (kindNumber a) (kindNumber b)
@@ -76,12 +76,12 @@ counted f = record { kind = f .kind; at = f .at; has = set (f .has) COUNT (count
 
 unfoldable pub mayTail : Registers → List ℕ → List ℕ → ℕ → ℕ → Bool
 mayTail r fs w from n =
-    ltb 0 (r .depth)
-    && (leb (r .low) workStoreBytes && (leb (r .low) (length w) && (leb (from + n) (r .low) && leb ((r .depth - 1) * FRAME + FRAME) (length fs))))
+    ltb 0 (r .counts .depth)
+    && (leb (r .store .low) workStoreBytes && (leb (r .store .low) (length w) && (leb (from + n) (r .store .low) && leb ((r .counts .depth - 1) * FRAME + FRAME) (length fs))))
 
 pub record Tails (r : Registers) (fs w : List ℕ) (f : Frame) (from what : ℕ) (s : List ℕ) (c : Changed) (gs v : List ℕ) : Type 0 where
   pub answer : c .ok ≡ mayTail r fs w from (length s)
-  pub stored : mayTail r fs w from (length s) ≡ true → gs ≡ storedAt fs ((r .depth - 1) * FRAME) (wordsOf (tailTo f (from + length s) what))
+  pub stored : mayTail r fs w from (length s) ≡ true → gs ≡ storedAt fs ((r .counts .depth - 1) * FRAME) (wordsOf (tailTo f (from + length s) what))
   pub wrote : mayTail r fs w from (length s) ≡ true → v ≡ storedAt w from s
   pub moved : mayTail r fs w from (length s) ≡ true → c .registers ≡ toppedTo r (from + length s)
   pub kept : mayTail r fs w from (length s) ≡ false → (gs ≡ fs) × (v ≡ w) × (c .registers ≡ r)
@@ -106,11 +106,11 @@ pub record Xmls (r : Registers) (fs w t : List ℕ) (c : Changed) (gs v : List �
 
 unfoldable pub mayCount : Registers → List ℕ → Bool
 mayCount r fs =
-    sameKind (topFrame r fs .kind) NodeElt && (ltb 0 (r .depth) && (ltb (count (topFrame r fs)) mostLabels && leb ((r .depth - 1) * FRAME + FRAME) (length fs)))
+    sameKind (topFrame r fs .kind) NodeElt && (ltb 0 (r .counts .depth) && (ltb (count (topFrame r fs)) mostLabels && leb ((r .counts .depth - 1) * FRAME + FRAME) (length fs)))
 
 pub record Counts (r : Registers) (fs : List ℕ) (b : Bool) (gs : List ℕ) : Type 0 where
   pub answer : b ≡ mayCount r fs
-  pub stored : mayCount r fs ≡ true → gs ≡ storedAt fs ((r .depth - 1) * FRAME) (wordsOf (counted (topFrame r fs)))
+  pub stored : mayCount r fs ≡ true → gs ≡ storedAt fs ((r .counts .depth - 1) * FRAME) (wordsOf (counted (topFrame r fs)))
   pub kept : mayCount r fs ≡ false → gs ≡ fs
   pub same : length gs ≡ length fs
 
@@ -123,29 +123,29 @@ module _ {r : Registers} {fs : List ℕ} {f : Frame} {b : ℕ} where
   push-refused : {gs : List ℕ} → mayPush r fs ≡ false → gs ≡ fs → Pushes r fs f b (record { ok = false; registers = r }) gs
   push-refused n e = record { answer = sym n; wrote = λ y. differ y n; moved = λ y. differ y n; kept = λ _. (e, refl); same = ap length e }
 
-  pub push-inside : (r .inner ≡ 0 → ⊥) → Pushes r fs f b (record { ok = false; registers = r }) fs
+  pub push-inside : (r .counts .inner ≡ 0 → ⊥) → Pushes r fs f b (record { ok = false; registers = r }) fs
   unfolding L.all mayPush
-  push-inside h = push-refused (rw (ne-eqb (r .inner) 0 h)) refl
+  push-inside h = push-refused (rw (ne-eqb (r .counts .inner) 0 h)) refl
 
-  pub push-deep : r .inner ≡ 0 → 64 ≤ r .depth → Pushes r fs f b (record { ok = false; registers = r }) fs
+  pub push-deep : r .counts .inner ≡ 0 → 64 ≤ r .counts .depth → Pushes r fs f b (record { ok = false; registers = r }) fs
   unfolding L.all mayPush
-  push-deep z h = push-refused (rw (eq-eqb (r .inner) 0 z, le-ltb (r .depth) 64 h)) refl
+  push-deep z h = push-refused (rw (eq-eqb (r .counts .inner) 0 z, le-ltb (r .counts .depth) 64 h)) refl
 
-  module _ {gs : List ℕ} {q : Bool} (z : r .inner ≡ 0) (d : r .depth < 64) (s : StoredFrame fs (r .depth) f gs q) where
+  module _ {gs : List ℕ} {q : Bool} (z : r .counts .inner ≡ 0) (d : r .counts .depth < 64) (s : StoredFrame fs (r .counts .depth) f gs q) where
     pub push-short : q ≡ false → Pushes r fs f b (record { ok = false; registers = r }) gs
     unfolding L.all mayPush
     push-short n =
-        let l : leb (r .depth * FRAME + FRAME) (length fs) ≡ false = sym (s .answer) ∙ n in
-        push-refused (rw (eq-eqb (r .inner) 0 z, lt-ltb (r .depth) 64 d, l)) (s .kept (leb-false (r .depth * FRAME + FRAME) (length fs) l))
+        let l : leb (r .counts .depth * FRAME + FRAME) (length fs) ≡ false = sym (s .answer) ∙ n in
+        push-refused (rw (eq-eqb (r .counts .inner) 0 z, lt-ltb (r .counts .depth) 64 d, l)) (s .kept (leb-false (r .counts .depth * FRAME + FRAME) (length fs) l))
 
     pub push-done : q ≡ true → Pushes r fs f b (record { ok = true; registers = pushedTo r (at f END) b }) gs
     unfolding L.all mayPush
     push-done y =
-        let l : leb (r .depth * FRAME + FRAME) (length fs) ≡ true = sym (s .answer) ∙ y in
-        let m : mayPush r fs ≡ true = rw (eq-eqb (r .inner) 0 z, lt-ltb (r .depth) 64 d, l) in
+        let l : leb (r .counts .depth * FRAME + FRAME) (length fs) ≡ true = sym (s .answer) ∙ y in
+        let m : mayPush r fs ≡ true = rw (eq-eqb (r .counts .inner) 0 z, lt-ltb (r .counts .depth) 64 d, l) in
         record {
           answer = sym m;
-          wrote = λ _. s .wrote (leb-true (r .depth * FRAME + FRAME) (length fs) l);
+          wrote = λ _. s .wrote (leb-true (r .counts .depth * FRAME + FRAME) (length fs) l);
           moved = λ _. refl;
           kept = λ n. differ m n;
           same = s .same;
@@ -155,18 +155,18 @@ module _ {r : Registers} {fs : List ℕ} where
   pop-refused : mayPop r ≡ false → Pops r fs (record { ok = false; registers = r })
   pop-refused n = record { answer = sym n; moved = λ y. differ y n; kept = λ _. refl }
 
-  pub pop-inside : (r .inner ≡ 0 → ⊥) → Pops r fs (record { ok = false; registers = r })
+  pub pop-inside : (r .counts .inner ≡ 0 → ⊥) → Pops r fs (record { ok = false; registers = r })
   unfolding mayPop
-  pop-inside h = pop-refused (rw (ne-eqb (r .inner) 0 h))
+  pop-inside h = pop-refused (rw (ne-eqb (r .counts .inner) 0 h))
 
-  pub pop-empty : r .inner ≡ 0 → r .depth ≡ 0 → Pops r fs (record { ok = false; registers = r })
+  pub pop-empty : r .counts .inner ≡ 0 → r .counts .depth ≡ 0 → Pops r fs (record { ok = false; registers = r })
   unfolding mayPop
-  pop-empty z d = pop-refused (rw (eq-eqb (r .inner) 0 z, le-ltb 0 (r .depth) (omega arith)))
+  pop-empty z d = pop-refused (rw (eq-eqb (r .counts .inner) 0 z, le-ltb 0 (r .counts .depth) (omega arith)))
 
-  pub pop-done : {f : Frame} → r .inner ≡ 0 → (r .depth ≡ 0 → ⊥) → f ≡ loadFrame fs (r .depth - 1) → Pops r fs (record { ok = true; registers = poppedTo r (at f NAME) (first f) })
+  pub pop-done : {f : Frame} → r .counts .inner ≡ 0 → (r .counts .depth ≡ 0 → ⊥) → f ≡ loadFrame fs (r .counts .depth - 1) → Pops r fs (record { ok = true; registers = poppedTo r (at f NAME) (first f) })
   unfolding mayPop
   pop-done {f} z d e =
-      let m : mayPop r ≡ true = rw (eq-eqb (r .inner) 0 z, lt-ltb 0 (r .depth) (positive (r .depth) d)) in
+      let m : mayPop r ≡ true = rw (eq-eqb (r .counts .inner) 0 z, lt-ltb 0 (r .counts .depth) (positive (r .counts .depth) d)) in
       record { answer = sym m; moved = λ _. rw (← e); kept = λ n. differ m n }
 
 module _ {w bs : List ℕ} {a n : ℕ} {p s : List ℕ} where
@@ -205,13 +205,13 @@ module _ {w bs : List ℕ} {a n : ℕ} {p s : List ℕ} where
           }
 
 module _ (r : Registers) (fs : List ℕ) where
-  pub top-none : r .depth ≡ 0 → noFrame ≡ topFrame r fs
+  pub top-none : r .counts .depth ≡ 0 → noFrame ≡ topFrame r fs
   unfolding topFrame
-  top-none z = rw (eq-eqb (r .depth) 0 z)
+  top-none z = rw (eq-eqb (r .counts .depth) 0 z)
 
-  pub top-there : (r .depth ≡ 0 → ⊥) → loadFrame fs (r .depth - 1) ≡ topFrame r fs
+  pub top-there : (r .counts .depth ≡ 0 → ⊥) → loadFrame fs (r .counts .depth - 1) ≡ topFrame r fs
   unfolding topFrame
-  top-there z = rw (ne-eqb (r .depth) 0 z)
+  top-there z = rw (ne-eqb (r .counts .depth) 0 z)
 
 module _ {r : Registers} {fs w : List ℕ} {f : Frame} {from what : ℕ} {s : List ℕ} where
   tail-refused : {gs : List ℕ} → mayTail r fs w from (length s) ≡ false → gs ≡ fs → Tails r fs w f from what s (record { ok = false; registers = r }) gs w
@@ -226,42 +226,42 @@ module _ {r : Registers} {fs w : List ℕ} {f : Frame} {from what : ℕ} {s : Li
         sameBytes = refl;
       }
 
-  pub tail-empty : r .depth ≡ 0 → Tails r fs w f from what s (record { ok = false; registers = r }) fs w
+  pub tail-empty : r .counts .depth ≡ 0 → Tails r fs w f from what s (record { ok = false; registers = r }) fs w
   unfolding L.all mayTail
-  tail-empty z = tail-refused (rw (le-ltb 0 (r .depth) (omega arith))) refl
+  tail-empty z = tail-refused (rw (le-ltb 0 (r .counts .depth) (omega arith))) refl
 
-  module _ (d : r .depth ≡ 0 → ⊥) where
-    pub tail-large : 65_536 < r .low → Tails r fs w f from what s (record { ok = false; registers = r }) fs w
+  module _ (d : r .counts .depth ≡ 0 → ⊥) where
+    pub tail-large : 65_536 < r .store .low → Tails r fs w f from what s (record { ok = false; registers = r }) fs w
     unfolding L.all mayTail
-    tail-large h = tail-refused (rw (lt-ltb 0 (r .depth) (positive (r .depth) d), lt-leb (r .low) 65_536 h)) refl
+    tail-large h = tail-refused (rw (lt-ltb 0 (r .counts .depth) (positive (r .counts .depth) d), lt-leb (r .store .low) 65_536 h)) refl
 
-    module _ (l : r .low ≤ 65_536) where
-      pub tail-beyond : length w < r .low → Tails r fs w f from what s (record { ok = false; registers = r }) fs w
+    module _ (l : r .store .low ≤ 65_536) where
+      pub tail-beyond : length w < r .store .low → Tails r fs w f from what s (record { ok = false; registers = r }) fs w
       unfolding L.all mayTail
-      tail-beyond h = tail-refused (rw (lt-ltb 0 (r .depth) (positive (r .depth) d), le-leb (r .low) 65_536 l, lt-leb (r .low) (length w) h)) refl
+      tail-beyond h = tail-refused (rw (lt-ltb 0 (r .counts .depth) (positive (r .counts .depth) d), le-leb (r .store .low) 65_536 l, lt-leb (r .store .low) (length w) h)) refl
 
-      module _ (m : r .low ≤ length w) where
-        pub tail-full : r .low < from + length s → Tails r fs w f from what s (record { ok = false; registers = r }) fs w
+      module _ (m : r .store .low ≤ length w) where
+        pub tail-full : r .store .low < from + length s → Tails r fs w f from what s (record { ok = false; registers = r }) fs w
         unfolding L.all mayTail
-        tail-full h = tail-refused (rw (lt-ltb 0 (r .depth) (positive (r .depth) d), le-leb (r .low) 65_536 l, le-leb (r .low) (length w) m, lt-leb (from + length s) (r .low) h)) refl
+        tail-full h = tail-refused (rw (lt-ltb 0 (r .counts .depth) (positive (r .counts .depth) d), le-leb (r .store .low) 65_536 l, le-leb (r .store .low) (length w) m, lt-leb (from + length s) (r .store .low) h)) refl
 
-        module _ {gs : List ℕ} {q : Bool} (k : from + length s ≤ r .low) (t : StoredFrame fs (r .depth - 1) (tailTo f (from + length s) what) gs q) where
+        module _ {gs : List ℕ} {q : Bool} (k : from + length s ≤ r .store .low) (t : StoredFrame fs (r .counts .depth - 1) (tailTo f (from + length s) what) gs q) where
           pub tail-short : q ≡ false → Tails r fs w f from what s (record { ok = false; registers = r }) gs w
           unfolding L.all mayTail
           tail-short n =
-              let x : leb ((r .depth - 1) * FRAME + FRAME) (length fs) ≡ false = sym (t .answer) ∙ n in
-              tail-refused (rw (lt-ltb 0 (r .depth) (positive (r .depth) d), le-leb (r .low) 65_536 l, le-leb (r .low) (length w) m, le-leb (from + length s) (r .low) k, x)) (t .kept (leb-false ((r .depth - 1) * FRAME + FRAME) (length fs) x))
+              let x : leb ((r .counts .depth - 1) * FRAME + FRAME) (length fs) ≡ false = sym (t .answer) ∙ n in
+              tail-refused (rw (lt-ltb 0 (r .counts .depth) (positive (r .counts .depth) d), le-leb (r .store .low) 65_536 l, le-leb (r .store .low) (length w) m, le-leb (from + length s) (r .store .low) k, x)) (t .kept (leb-false ((r .counts .depth - 1) * FRAME + FRAME) (length fs) x))
 
           pub tail-done : {v : List ℕ} {z : Bool} {r′ : Registers} → q ≡ true → Put w from s v z → r′ ≡ toppedTo r (from + length s)
               → Tails r fs w f from what s (record { ok = true; registers = r′ }) gs v
           unfolding L.all mayTail
           tail-done y i e =
-              let x : leb ((r .depth - 1) * FRAME + FRAME) (length fs) ≡ true = sym (t .answer) ∙ y in
-              let b : mayTail r fs w from (length s) ≡ true = rw (lt-ltb 0 (r .depth) (positive (r .depth) d), le-leb (r .low) 65_536 l, le-leb (r .low) (length w) m, le-leb (from + length s) (r .low) k, x) in
+              let x : leb ((r .counts .depth - 1) * FRAME + FRAME) (length fs) ≡ true = sym (t .answer) ∙ y in
+              let b : mayTail r fs w from (length s) ≡ true = rw (lt-ltb 0 (r .counts .depth) (positive (r .counts .depth) d), le-leb (r .store .low) 65_536 l, le-leb (r .store .low) (length w) m, le-leb (from + length s) (r .store .low) k, x) in
               let p = put-fits i (omega arith) in
               record {
                 answer = sym b;
-                stored = λ _. t .wrote (leb-true ((r .depth - 1) * FRAME + FRAME) (length fs) x);
+                stored = λ _. t .wrote (leb-true ((r .counts .depth - 1) * FRAME + FRAME) (length fs) x);
                 wrote = λ _. p .eq;
                 moved = λ _. e;
                 kept = λ n. differ b n;
@@ -310,22 +310,22 @@ module _ {r : Registers} {fs : List ℕ} {f : Frame} (e : f ≡ topFrame r fs) w
   count-other n = count-refused (rw (← e, n)) refl
 
   module _ (y : sameKind (f .kind) NodeElt ≡ true) where
-    pub count-empty : r .depth ≡ 0 → Counts r fs false fs
+    pub count-empty : r .counts .depth ≡ 0 → Counts r fs false fs
     unfolding L.all mayCount
-    count-empty z = count-refused (rw (← e, y, le-ltb 0 (r .depth) (omega arith))) refl
+    count-empty z = count-refused (rw (← e, y, le-ltb 0 (r .counts .depth) (omega arith))) refl
 
-    module _ (d : r .depth ≡ 0 → ⊥) where
+    module _ (d : r .counts .depth ≡ 0 → ⊥) where
       pub count-spent : 99_999_999 ≤ count f → Counts r fs false fs
       unfolding L.all mayCount
-      count-spent h = count-refused (rw (← e, y, lt-ltb 0 (r .depth) (positive (r .depth) d), le-ltb (count f) 99_999_999 h)) refl
+      count-spent h = count-refused (rw (← e, y, lt-ltb 0 (r .counts .depth) (positive (r .counts .depth) d), le-ltb (count f) 99_999_999 h)) refl
 
-      pub count-done : {gs : List ℕ} {q : Bool} → count f < 99_999_999 → StoredFrame fs (r .depth - 1) (counted f) gs q → Counts r fs q gs
+      pub count-done : {gs : List ℕ} {q : Bool} → count f < 99_999_999 → StoredFrame fs (r .counts .depth - 1) (counted f) gs q → Counts r fs q gs
       unfolding L.all mayCount
       count-done {gs} {q} h s =
-          let m : mayCount r fs ≡ leb ((r .depth - 1) * FRAME + FRAME) (length fs) = rw (← e, y, lt-ltb 0 (r .depth) (positive (r .depth) d), lt-ltb (count f) 99_999_999 h) in
+          let m : mayCount r fs ≡ leb ((r .counts .depth - 1) * FRAME + FRAME) (length fs) = rw (← e, y, lt-ltb 0 (r .counts .depth) (positive (r .counts .depth) d), lt-ltb (count f) 99_999_999 h) in
           record {
             answer = s .answer ∙ sym m;
-            stored = λ u. rw (← e) (s .wrote (leb-true ((r .depth - 1) * FRAME + FRAME) (length fs) (sym m ∙ u)));
-            kept = λ u. s .kept (leb-false ((r .depth - 1) * FRAME + FRAME) (length fs) (sym m ∙ u));
+            stored = λ u. rw (← e) (s .wrote (leb-true ((r .counts .depth - 1) * FRAME + FRAME) (length fs) (sym m ∙ u)));
+            kept = λ u. s .kept (leb-false ((r .counts .depth - 1) * FRAME + FRAME) (length fs) (sym m ∙ u));
             same = s .same;
           }

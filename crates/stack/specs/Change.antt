@@ -28,8 +28,8 @@ pub record Holds (r : Registers) (fs bs is w : List ℕ) (start : Option Bytes) 
   pub valid : Valid r fs bs is w
   pub base : startOf r w ≡ start
   pub elements : elementsOf r fs bs is w ≡ es
-  pub root : r .rooted ≡ rooted
-  pub count : r .labels ≡ labels
+  pub root : r .flags .rooted ≡ rooted
+  pub count : r .counts .labels ≡ labels
 
 pub holds-doc : {r : Registers} {fs bs is w : List ℕ} {start : Option Bytes} {es : List Element} {rooted : Bool} {labels : ℕ} → Holds r fs bs is w start es rooted labels
     → (ids : List Bytes) → docOf r fs bs is w ids ≡ record { startBase = start; frames = es; rooted = rooted; labels = labels; ids = ids }
@@ -66,37 +66,50 @@ module _ {fs gs bs cs w v : List ℕ} {f : Frame} {base n t b top c : ℕ} (o : 
   pub on-base : base ≤ t
   on-base = frames-base fs bs w base n t b (o .rest)
 
-start-kept : {w v : List ℕ} {hi : ℕ} (r r′ : Registers) → Kept w v 0 hi → r .base ≤ hi → r′ .based ≡ r .based → r′ .base ≡ r .base → startOf r′ v ≡ startOf r w
+start-kept : {w v : List ℕ} {hi : ℕ} (r r′ : Registers) → Kept w v 0 hi → r .store .base ≤ hi → r′ .flags .based ≡ r .flags .based → r′ .store .base ≡ r .store .base → startOf r′ v ≡ startOf r w
 unfolding startOf
-start-kept r r′ k h p q = rw (p, q, k .parts 0 (r .base) (omega arith) (omega arith))
+start-kept r r′ k h p q = rw (p, q, k .parts 0 (r .store .base) (omega arith) (omega arith))
 
 -- ---- registers with other numbers
 
+-- one element more, whose parts end at `top`, with bindings up to b
 abbrev pub pushedTo : Registers → ℕ → ℕ → Registers
 pushedTo r top b =
-    record { closed = r .closed; rooted = true; based = r .based; base = r .base; depth = r .depth + 1; inner = r .inner; outer = b; bindings = b; top = top; low = r .low; labels = r .labels }
+    record {
+      flags = record { closed = r .flags .closed; rooted = true; based = r .flags .based };
+      store = record { base = r .store .base; top = top; low = r .store .low };
+      counts = record { depth = r .counts .depth + 1; inner = r .counts .inner; outer = b; bindings = b; labels = r .counts .labels };
+    }
 
+-- one element less: the parts that are left end at `top`
 abbrev pub poppedTo : Registers → ℕ → ℕ → Registers
 poppedTo r top b =
-    record { closed = r .closed; rooted = r .rooted; based = r .based; base = r .base; depth = r .depth - 1; inner = r .inner; outer = b; bindings = b; top = top; low = r .low; labels = r .labels }
+    record {
+      flags = r .flags;
+      store = record { base = r .store .base; top = top; low = r .store .low };
+      counts = record { depth = r .counts .depth - 1; inner = r .counts .inner; outer = b; bindings = b; labels = r .counts .labels };
+    }
 
 abbrev pub toppedTo : Registers → ℕ → Registers
-toppedTo r top =
-    record { closed = r .closed; rooted = r .rooted; based = r .based; base = r .base; depth = r .depth; inner = r .inner; outer = r .outer; bindings = r .bindings; top = top; low = r .low; labels = r .labels }
+toppedTo r top = record { flags = r .flags; store = record { base = r .store .base; top = top; low = r .store .low }; counts = r .counts }
 
+-- with so many elements inside Literal content, which lie from `low` on
 abbrev pub insideTo : Registers → ℕ → ℕ → ℕ → Registers
 insideTo r inner low b =
-    record { closed = r .closed; rooted = r .rooted; based = r .based; base = r .base; depth = r .depth; inner = inner; outer = r .outer; bindings = b; top = r .top; low = low; labels = r .labels }
+    record {
+      flags = r .flags;
+      store = record { base = r .store .base; top = r .store .top; low = low };
+      counts = record { depth = r .counts .depth; inner = inner; outer = r .counts .outer; bindings = b; labels = r .counts .labels };
+    }
 
 -- with another number of labels generated
 abbrev pub labelledTo : Registers → ℕ → Registers
 labelledTo r n =
-    record { closed = r .closed; rooted = r .rooted; based = r .based; base = r .base; depth = r .depth; inner = r .inner; outer = r .outer; bindings = r .bindings; top = r .top; low = r .low; labels = n }
-
--- closed: no call goes on from it
-abbrev pub markedAs : Registers → Registers
-markedAs r =
-    record { closed = true; rooted = r .rooted; based = r .based; base = r .base; depth = r .depth; inner = r .inner; outer = r .outer; bindings = r .bindings; top = r .top; low = r .low; labels = r .labels }
+    record {
+      flags = r .flags;
+      store = r .store;
+      counts = record { depth = r .counts .depth; inner = r .counts .inner; outer = r .counts .outer; bindings = r .counts .bindings; labels = n };
+    }
 
 module _ {r : Registers} {fs bs is w : List ℕ} where
   labelled-valid : (n : ℕ) → n ≤ 99_999_999 → Valid r fs bs is w → Valid (labelledTo r n) fs bs is w
@@ -115,52 +128,27 @@ module _ {r : Registers} {fs bs is w : List ℕ} where
         inners = x .inners;
       }
 
-  pub marked-valid : Valid r fs bs is w → Valid (markedAs r) fs bs is w
-  marked-valid x =
-      record {
-        frameWords = x .frameWords;
-        bindingWords = x .bindingWords;
-        innerWords = x .innerWords;
-        store = x .store;
-        deep = x .deep;
-        bound = x .bound;
-        apart = x .apart;
-        based = x .based;
-        labels = x .labels;
-        frames = x .frames;
-        inners = x .inners;
-      }
-
   module _ {start : Option Bytes} {es : List Element} {rooted : Bool} {labels : ℕ} (h : Holds r fs bs is w start es rooted labels) where
     -- only the label count changes
     pub labelled-holds : {n : ℕ} → n ≤ 99_999_999 → Holds (labelledTo r n) fs bs is w start es rooted n
     unfolding startOf elementsOf
     labelled-holds {n} l = record { valid = labelled-valid n l (h .valid); base = h .base; elements = h .elements; root = h .root; count = refl }
 
-    -- only the mark does
-    pub marked-holds : Holds (markedAs r) fs bs is w start es rooted labels
-    unfolding startOf elementsOf
-    marked-holds = record { valid = marked-valid (h .valid); base = h .base; elements = h .elements; root = h .root; count = h .count }
-
-pub marked-doc : (r : Registers) (fs bs is w : List ℕ) (ids : List Bytes) → docOf (markedAs r) fs bs is w ids ≡ docOf r fs bs is w ids
-unfolding docOf startOf elementsOf
-marked-doc r fs bs is w ids = refl
-
 -- with no element inside Literal content, nothing is held at the store's end
 pub record Flat (r : Registers) : Type 0 where
-  pub low : r .low ≡ 65_536
-  pub bindings : r .bindings ≡ r .outer
+  pub low : r .store .low ≡ 65_536
+  pub bindings : r .counts .bindings ≡ r .counts .outer
 
-pub flat : {r : Registers} {fs bs is w : List ℕ} → Valid r fs bs is w → r .inner ≡ 0 → Flat r
+pub flat : {r : Registers} {fs bs is w : List ℕ} → Valid r fs bs is w → r .counts .inner ≡ 0 → Flat r
 unfolding innersOk workStoreBytes
 flat {r} {fs} {bs} {is} {w} v z =
-    let h : innersOk is bs (r .outer) 0 (r .low) (r .bindings) ≡ true = rw z at (v .inners) in
+    let h : innersOk is bs (r .counts .outer) 0 (r .store .low) (r .counts .bindings) ≡ true = rw z at (v .inners) in
     record {
-      low = eqb-true _ _ (and-left (eqb (r .low) 65_536) _ h);
-      bindings = eqb-true _ _ (and-right (eqb (r .low) 65_536) _ h);
+      low = eqb-true _ _ (and-left (eqb (r .store .low) 65_536) _ h);
+      bindings = eqb-true _ _ (and-right (eqb (r .store .low) 65_536) _ h);
     }
 
-flat-elements : (r : Registers) (fs bs is w : List ℕ) → r .inner ≡ 0 → elementsOf r fs bs is w ≡ framesOf fs bs w (r .depth) (r .outer)
+flat-elements : (r : Registers) (fs bs is w : List ℕ) → r .counts .inner ≡ 0 → elementsOf r fs bs is w ≡ framesOf fs bs w (r .counts .depth) (r .counts .outer)
 unfolding elementsOf innersOf
 flat-elements r fs bs is w z = rw z
 
@@ -171,13 +159,13 @@ empty-inners is bs inner b low z l = rw (z, eq-eqb low 65_536 l, eq-eqb b b refl
 -- ---- a push
 
 module _ {r : Registers} {fs bs is w gs cs v : List ℕ} {f : Frame} {top b : ℕ} where
-  pub pushed : Valid r fs bs is w → r .inner ≡ 0 → On fs gs bs cs w v f (r .base) (r .depth) (r .top) (r .outer) top b
-      → length gs ≡ length fs → length cs ≡ length bs → length v ≡ length w → r .depth < 64 → b ≤ 128 → top ≤ r .low
-      → Holds (pushedTo r top b) gs cs is v (startOf r w) (elementOf f (bindingsOf cs v (r .outer) (b - r .outer)) v (subjectBelow gs v (r .depth)) ∷ elementsOf r fs bs is w) true (r .labels)
+  pub pushed : Valid r fs bs is w → r .counts .inner ≡ 0 → On fs gs bs cs w v f (r .store .base) (r .counts .depth) (r .store .top) (r .counts .outer) top b
+      → length gs ≡ length fs → length cs ≡ length bs → length v ≡ length w → r .counts .depth < 64 → b ≤ 128 → top ≤ r .store .low
+      → Holds (pushedTo r top b) gs cs is v (startOf r w) (elementOf f (bindingsOf cs v (r .counts .outer) (b - r .counts .outer)) v (subjectBelow gs v (r .counts .depth)) ∷ elementsOf r fs bs is w) true (r .counts .labels)
   pushed x z o lg lc lv d lb lt =
       let e = flat x z in
-      let s : suc (r .depth) ≡ r .depth + 1 = omega arith in
-      let ok : framesOk gs cs v (r .base) (r .depth + 1) top b ≡ true = rw (← s) (on-ok o) in
+      let s : suc (r .counts .depth) ≡ r .counts .depth + 1 = omega arith in
+      let ok : framesOk gs cs v (r .store .base) (r .counts .depth + 1) top b ≡ true = rw (← s) (on-ok o) in
       record {
         valid =
             record {
@@ -191,7 +179,7 @@ module _ {r : Registers} {fs bs is w gs cs v : List ℕ} {f : Frame} {top b : �
               based = x .based;
               labels = x .labels;
               frames = ok;
-              inners = empty-inners is cs (r .inner) b (r .low) z (e .low);
+              inners = empty-inners is cs (r .counts .inner) b (r .store .low) z (e .low);
             };
         base = start-kept r (pushedTo r top b) (o .bytes) (on-base o) refl refl;
         elements =
@@ -203,31 +191,31 @@ module _ {r : Registers} {fs bs is w gs cs v : List ℕ} {f : Frame} {top b : �
 
 -- ---- a pop
 
-module _ {r : Registers} {fs bs is w : List ℕ} (x : Valid r fs bs is w) (n : ℕ) (d : r .depth ≡ suc n) where
-  framed : framesOk fs bs w (r .base) (suc n) (r .top) (r .outer) ≡ true
+module _ {r : Registers} {fs bs is w : List ℕ} (x : Valid r fs bs is w) (n : ℕ) (d : r .counts .depth ≡ suc n) where
+  framed : framesOk fs bs w (r .store .base) (suc n) (r .store .top) (r .counts .outer) ≡ true
   framed = rw d at (x .frames)
 
   -- the frame on top, and what it stands on
-  pub top-frame : Sound fs bs w (frameAt fs n) n (r .top) (r .outer)
-  top-frame = top-sound fs bs w n (r .top) (r .outer) (r .base) framed
+  pub top-frame : Sound fs bs w (frameAt fs n) n (r .store .top) (r .counts .outer)
+  top-frame = top-sound fs bs w n (r .store .top) (r .counts .outer) (r .store .base) framed
 
-  pub under : framesOk fs bs w (r .base) n (at (frameAt fs n) NAME) (first (frameAt fs n)) ≡ true
-  under = rest-ok fs bs w n (r .top) (r .outer) (r .base) framed
+  pub under : framesOk fs bs w (r .store .base) n (at (frameAt fs n) NAME) (first (frameAt fs n)) ≡ true
+  under = rest-ok fs bs w n (r .store .top) (r .counts .outer) (r .store .base) framed
 
-  pub top-element : framesOf fs bs w (r .depth) (r .outer)
-      ≡ elementOf (frameAt fs n) (bindingsOf bs w (first (frameAt fs n)) (r .outer - first (frameAt fs n))) w (subjectBelow fs w n) ∷ framesOf fs bs w n (first (frameAt fs n))
+  pub top-element : framesOf fs bs w (r .counts .depth) (r .counts .outer)
+      ≡ elementOf (frameAt fs n) (bindingsOf bs w (first (frameAt fs n)) (r .counts .outer - first (frameAt fs n))) w (subjectBelow fs w n) ∷ framesOf fs bs w n (first (frameAt fs n))
   unfolding framesOf
   top-element = rw d
 
-  pub popped : r .inner ≡ 0
-      → Holds (poppedTo r (at (frameAt fs n) NAME) (first (frameAt fs n))) fs bs is w (startOf r w) (framesOf fs bs w n (first (frameAt fs n))) (r .rooted) (r .labels)
+  pub popped : r .counts .inner ≡ 0
+      → Holds (poppedTo r (at (frameAt fs n) NAME) (first (frameAt fs n))) fs bs is w (startOf r w) (framesOf fs bs w n (first (frameAt fs n))) (r .flags .rooted) (r .counts .labels)
   popped z =
       let e = flat x z in
       let t = top-frame in
       let u = rising (frameAt fs n) (t .up) in
       let a = t .ends in
       let l = t .least in
-      let m : r .depth - 1 ≡ n = omega arith in
+      let m : r .counts .depth - 1 ≡ n = omega arith in
       record {
         valid =
             record {
@@ -241,9 +229,9 @@ module _ {r : Registers} {fs bs is w : List ℕ} (x : Valid r fs bs is w) (n : �
               based = x .based;
               labels = x .labels;
               frames = rw m under;
-              inners = empty-inners is bs (r .inner) (first (frameAt fs n)) (r .low) z (e .low);
+              inners = empty-inners is bs (r .counts .inner) (first (frameAt fs n)) (r .store .low) z (e .low);
             };
-        base = start-kept {w = w} {v = w} {hi = r .base} r (poppedTo r (at (frameAt fs n) NAME) (first (frameAt fs n))) kept-all (omega arith) refl refl;
+        base = start-kept {w = w} {v = w} {hi = r .store .base} r (poppedTo r (at (frameAt fs n) NAME) (first (frameAt fs n))) kept-all (omega arith) refl refl;
         elements = flat-elements (poppedTo r (at (frameAt fs n) NAME) (first (frameAt fs n))) fs bs is w z ∙ rw m;
         root = refl;
         count = refl;
@@ -251,15 +239,15 @@ module _ {r : Registers} {fs bs is w : List ℕ} (x : Valid r fs bs is w) (n : �
 
   -- ---- a change to the frame on top, while elements inside Literal content may stand open
 
-  pub changed : {gs v : List ℕ} {f : Frame} {top : ℕ} → On fs gs bs bs w v f (r .base) n (at (frameAt fs n) NAME) (first (frameAt fs n)) top (r .outer)
-      → Kept w v (r .low) 65_536 → length gs ≡ length fs → length v ≡ length w → top ≤ r .low
+  pub changed : {gs v : List ℕ} {f : Frame} {top : ℕ} → On fs gs bs bs w v f (r .store .base) n (at (frameAt fs n) NAME) (first (frameAt fs n)) top (r .counts .outer)
+      → Kept w v (r .store .low) 65_536 → length gs ≡ length fs → length v ≡ length w → top ≤ r .store .low
       → Holds (toppedTo r top) gs bs is v (startOf r w)
-      (innersOf is bs w (r .inner) (r .bindings)
-      ++ (elementOf f (bindingsOf bs v (first (frameAt fs n)) (r .outer - first (frameAt fs n))) v (subjectBelow gs v n) ∷ framesOf fs bs w n (first (frameAt fs n))))
-      (r .rooted) (r .labels)
+      (innersOf is bs w (r .counts .inner) (r .counts .bindings)
+      ++ (elementOf f (bindingsOf bs v (first (frameAt fs n)) (r .counts .outer - first (frameAt fs n))) v (subjectBelow gs v n) ∷ framesOf fs bs w n (first (frameAt fs n))))
+      (r .flags .rooted) (r .counts .labels)
   unfolding elementsOf
   changed {gs} {v} {f} {top} o k lg lv lt =
-      let ok : framesOk gs bs v (r .base) (r .depth) top (r .outer) ≡ true = rw d (on-ok o) in
+      let ok : framesOk gs bs v (r .store .base) (r .counts .depth) top (r .counts .outer) ≡ true = rw d (on-ok o) in
       record {
         valid =
             record {
@@ -278,7 +266,7 @@ module _ {r : Registers} {fs bs is w : List ℕ} (x : Valid r fs bs is w) (n : �
         base = start-kept r (toppedTo r top) (o .bytes) (on-base o) refl refl;
         elements =
             rw (
-              inners-kept (r .outer) {w = w} {v = v} (r .inner) (r .low) (r .bindings) (kept-all {w = is}) (kept-all {w = bs}) k (x .inners),
+              inners-kept (r .counts .outer) {w = w} {v = v} (r .counts .inner) (r .store .low) (r .counts .bindings) (kept-all {w = is}) (kept-all {w = bs}) k (x .inners),
               d,
               on-frames o,
             );
@@ -289,18 +277,18 @@ module _ {r : Registers} {fs bs is w : List ℕ} (x : Valid r fs bs is w) (n : �
 -- ---- elements inside Literal content
 
 module _ {r : Registers} {fs bs is w : List ℕ} (x : Valid r fs bs is w) where
-  pub inside-opened : {cs js v : List ℕ} {q : Row} {b : ℕ} → Kept is js 0 (r .inner * 3) → rowAt js (r .inner) ≡ q → Kept bs cs 0 (r .bindings * 3) → Kept w v 0 (r .top) → Kept w v (r .low) 65_536
-      → Inside js cs q (r .inner) (q .at) b → q .more ≡ r .bindings → ceiling js (r .inner) ≡ r .low
-      → length cs ≡ length bs → length js ≡ length is → length v ≡ length w → r .depth + r .inner < 64 → b ≤ 128 → r .top ≤ q .at
-      → Holds (insideTo r (r .inner + 1) (q .at) b) fs cs js v (startOf r w) (innerOf q (bindingsOf cs v (r .bindings) (b - r .bindings)) v ∷ elementsOf r fs bs is w) (r .rooted) (r .labels)
+  pub inside-opened : {cs js v : List ℕ} {q : Row} {b : ℕ} → Kept is js 0 (r .counts .inner * 3) → rowAt js (r .counts .inner) ≡ q → Kept bs cs 0 (r .counts .bindings * 3) → Kept w v 0 (r .store .top) → Kept w v (r .store .low) 65_536
+      → Inside js cs q (r .counts .inner) (q .at) b → q .more ≡ r .counts .bindings → ceiling js (r .counts .inner) ≡ r .store .low
+      → length cs ≡ length bs → length js ≡ length is → length v ≡ length w → r .counts .depth + r .counts .inner < 64 → b ≤ 128 → r .store .top ≤ q .at
+      → Holds (insideTo r (r .counts .inner + 1) (q .at) b) fs cs js v (startOf r w) (innerOf q (bindingsOf cs v (r .counts .bindings) (b - r .counts .bindings)) v ∷ elementsOf r fs bs is w) (r .flags .rooted) (r .counts .labels)
   unfolding elementsOf innersOf
   inside-opened {cs} {js} {v} {q} {b} ki e kb kw kl ins m ce lc lj lv d lb lt =
       let ro = room x in
-      let rest : innersOk js cs (r .outer) (r .inner) (r .low) (r .bindings) ≡ true =
-      inners-ok-kept (r .outer) (r .inner) (r .low) (r .bindings) ki (kept-less kb (omega arith) (omega arith)) (x .inners) in
-      let s : r .inner + 1 ≡ suc (r .inner) = omega arith in
-      let all : innersOk js cs (r .outer) (suc (r .inner)) (q .at) b ≡ true =
-      inners-on js cs (r .outer) (r .inner) (q .at) b (rw e ins) (rw (e, m, ce) rest) in
+      let rest : innersOk js cs (r .counts .outer) (r .counts .inner) (r .store .low) (r .counts .bindings) ≡ true =
+      inners-ok-kept (r .counts .outer) (r .counts .inner) (r .store .low) (r .counts .bindings) ki (kept-less kb (omega arith) (omega arith)) (x .inners) in
+      let s : r .counts .inner + 1 ≡ suc (r .counts .inner) = omega arith in
+      let all : innersOk js cs (r .counts .outer) (suc (r .counts .inner)) (q .at) b ≡ true =
+      inners-on js cs (r .counts .outer) (r .counts .inner) (q .at) b (rw e ins) (rw (e, m, ce) rest) in
       record {
         valid =
             record {
@@ -313,32 +301,32 @@ module _ {r : Registers} {fs bs is w : List ℕ} (x : Valid r fs bs is w) where
               apart = lt;
               based = x .based;
               labels = x .labels;
-              frames = frames-ok-kept (r .base) (r .depth) (r .top) (r .outer) (kept-all {w = fs}) (kept-less kb (omega arith) (omega (arith, ro .outer))) kw (x .frames);
+              frames = frames-ok-kept (r .store .base) (r .counts .depth) (r .store .top) (r .counts .outer) (kept-all {w = fs}) (kept-less kb (omega arith) (omega (arith, ro .outer))) kw (x .frames);
               inners = rw s all;
             };
-        base = start-kept r (insideTo r (r .inner + 1) (q .at) b) kw (ro .base) refl refl;
+        base = start-kept r (insideTo r (r .counts .inner + 1) (q .at) b) kw (ro .base) refl refl;
         elements =
             rw (
               s,
               e,
               m,
-              inners-kept (r .outer) {w = w} {v = v} (r .inner) (r .low) (r .bindings) ki (kept-less kb (omega arith) (omega arith)) kl (x .inners),
-              frames-kept (r .base) (r .depth) (r .top) (r .outer) (kept-all {w = fs}) (kept-less kb (omega arith) (omega (arith, ro .outer))) kw (x .frames),
+              inners-kept (r .counts .outer) {w = w} {v = v} (r .counts .inner) (r .store .low) (r .counts .bindings) ki (kept-less kb (omega arith) (omega arith)) kl (x .inners),
+              frames-kept (r .store .base) (r .counts .depth) (r .store .top) (r .counts .outer) (kept-all {w = fs}) (kept-less kb (omega arith) (omega (arith, ro .outer))) kw (x .frames),
             );
         root = refl;
         count = refl;
       }
 
-  module _ (n : ℕ) (d : r .inner ≡ suc n) where
-    inward : innersOk is bs (r .outer) (suc n) (r .low) (r .bindings) ≡ true
+  module _ (n : ℕ) (d : r .counts .inner ≡ suc n) where
+    inward : innersOk is bs (r .counts .outer) (suc n) (r .store .low) (r .counts .bindings) ≡ true
     inward = rw d at (x .inners)
 
     pub inside-closed : Holds (insideTo r n (ceiling is n) (rowAt is n .more)) fs bs is w (startOf r w)
-        (innersOf is bs w n (rowAt is n .more) ++ framesOf fs bs w (r .depth) (r .outer)) (r .rooted) (r .labels)
+        (innersOf is bs w n (rowAt is n .more) ++ framesOf fs bs w (r .counts .depth) (r .counts .outer)) (r .flags .rooted) (r .counts .labels)
     unfolding elementsOf
     inside-closed =
-        let t = top-inside is bs (r .outer) n (r .low) (r .bindings) inward in
-        let u = chained-up bs (rowAt is n .more) (r .bindings - rowAt is n .more) (rowAt is n .at + rowAt is n .name) (ceiling is n) (t .bound) in
+        let t = top-inside is bs (r .counts .outer) n (r .store .low) (r .counts .bindings) inward in
+        let u = chained-up bs (rowAt is n .more) (r .counts .bindings - rowAt is n .more) (rowAt is n .at + rowAt is n .name) (ceiling is n) (t .bound) in
         let a = t .starts in
         let l = t .least in
         record {
@@ -354,16 +342,16 @@ module _ {r : Registers} {fs bs is w : List ℕ} (x : Valid r fs bs is w) where
                 based = x .based;
                 labels = x .labels;
                 frames = x .frames;
-                inners = inners-rest is bs (r .outer) n (r .low) (r .bindings) inward;
+                inners = inners-rest is bs (r .counts .outer) n (r .store .low) (r .counts .bindings) inward;
               };
-          base = start-kept {w = w} {v = w} {hi = r .base} r (insideTo r n (ceiling is n) (rowAt is n .more)) kept-all (omega arith) refl refl;
+          base = start-kept {w = w} {v = w} {hi = r .store .base} r (insideTo r n (ceiling is n) (rowAt is n .more)) kept-all (omega arith) refl refl;
           elements = refl;
           root = refl;
           count = refl;
         }
 
     pub inside-element : elementsOf r fs bs is w
-        ≡ innerOf (rowAt is n) (bindingsOf bs w (rowAt is n .more) (r .bindings - rowAt is n .more)) w
-        ∷ (innersOf is bs w n (rowAt is n .more) ++ framesOf fs bs w (r .depth) (r .outer))
+        ≡ innerOf (rowAt is n) (bindingsOf bs w (rowAt is n .more) (r .counts .bindings - rowAt is n .more)) w
+        ∷ (innersOf is bs w n (rowAt is n .more) ++ framesOf fs bs w (r .counts .depth) (r .counts .outer))
     unfolding elementsOf innersOf
     inside-element = rw d

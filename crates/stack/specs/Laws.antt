@@ -119,46 +119,46 @@ bound-more {w} {bs} {v} {cs} {b} {n} {from} {a} {p} {s} {bound} h q =
 pub record New (r : Registers) (fs bs w cs v : List ℕ) (f : Frame) (b : ℕ) (bound : List Binding) : Type 0 where
   pub places : length (f .at) ≡ PLACES
   pub marks : length (f .has) ≡ MARKS
-  pub words : Kept bs cs 0 (r .outer * 3)
-  pub bytes : Kept w v 0 (r .top)
+  pub words : Kept bs cs 0 (r .counts .outer * 3)
+  pub bytes : Kept w v 0 (r .store .top)
   pub sameWords : length cs ≡ length bs
   pub sameBytes : length v ≡ length w
-  pub starts : at f NAME ≡ r .top
-  pub ends : at f END ≤ r .low
+  pub starts : at f NAME ≡ r .store .top
+  pub ends : at f END ≤ r .store .low
   pub up : Rising f
-  pub firsts : first f ≡ r .outer
-  pub least : r .outer ≤ b
+  pub firsts : first f ≡ r .counts .outer
+  pub least : r .counts .outer ≤ b
   pub most : b ≤ 128
-  pub bindings : Bound cs v (r .outer) (b - r .outer) (at f BINDINGS) (at f BASE) bound
+  pub bindings : Bound cs v (r .counts .outer) (b - r .counts .outer) (at f BINDINGS) (at f BASE) bound
   pub parts : partsOk f ≡ true
   pub kind : kindOk (f .kind) f v ≡ true
-  pub stood : stands (f .kind) fs (r .depth) ≡ true
+  pub stood : stands (f .kind) fs (r .counts .depth) ≡ true
 
 pub record Flat (r : Registers) (fs : List ℕ) : Type 0 where
-  pub inner : r .inner ≡ 0
-  pub depth : r .depth < 64
-  pub room : r .depth * FRAME + FRAME ≤ length fs
+  pub inner : r .counts .inner ≡ 0
+  pub depth : r .counts .depth < 64
+  pub room : r .counts .depth * FRAME + FRAME ≤ length fs
 
 may-push : (r : Registers) (fs : List ℕ) → mayPush r fs ≡ true → Flat r fs
 unfolding L.all mayPush
 may-push r fs m =
-    let m1 = and-right (eqb (r .inner) 0) _ m in
+    let m1 = and-right (eqb (r .counts .inner) 0) _ m in
     record {
-      inner = eqb-true _ _ (and-left (eqb (r .inner) 0) _ m);
-      depth = ltb-true _ _ (and-left (ltb (r .depth) 64) _ m1);
-      room = leb-true _ _ (and-right (ltb (r .depth) 64) _ m1);
+      inner = eqb-true _ _ (and-left (eqb (r .counts .inner) 0) _ m);
+      depth = ltb-true _ _ (and-left (ltb (r .counts .depth) 64) _ m1);
+      room = leb-true _ _ (and-right (ltb (r .counts .depth) 64) _ m1);
     }
 
 pub push-holds : {r : Registers} {fs bs is w gs cs v : List ℕ} {f : Frame} {b : ℕ} {c : Changed} {bound : List Binding}
     → Valid r fs bs is w → Pushes r fs f b c gs → c .ok ≡ true → New r fs bs w cs v f b bound
-    → Holds (c .registers) gs cs is v (startOf r w) (elementOf f bound v (subjectBelow fs w (r .depth)) ∷ elementsOf r fs bs is w) true (r .labels)
+    → Holds (c .registers) gs cs is v (startOf r w) (elementOf f bound v (subjectBelow fs w (r .counts .depth)) ∷ elementsOf r fs bs is w) true (r .counts .labels)
 push-holds {r} {fs} {bs} {is} {w} {gs} {cs} {v} {f} {b} {c} {bound} x p y n =
     let m : mayPush r fs ≡ true = sym (p .answer) ∙ y in
     let t = may-push r fs m in
-    let st : StoredFrame fs (r .depth) f gs true = record { answer = sym (le-leb _ _ (t .room)); wrote = λ _. p .wrote m; kept = λ l. absurd (omega (arith, t .room)); same = p .same } in
-    let kf : Kept fs gs 0 (r .depth * FRAME) = kept-before (frame-wrote st (t .room) (n .places) (n .marks)) in
+    let st : StoredFrame fs (r .counts .depth) f gs true = record { answer = sym (le-leb _ _ (t .room)); wrote = λ _. p .wrote m; kept = λ l. absurd (omega (arith, t .room)); same = p .same } in
+    let kf : Kept fs gs 0 (r .counts .depth * FRAME) = kept-before (frame-wrote st (t .room) (n .places) (n .marks)) in
     let fst = n .firsts in
-    let o : On fs gs bs cs w v f (r .base) (r .depth) (r .top) (r .outer) (at f END) b =
+    let o : On fs gs bs cs w v f (r .store .base) (r .counts .depth) (r .store .top) (r .counts .outer) (at f END) b =
     record {
       rest = x .frames;
       frames = kf;
@@ -175,38 +175,38 @@ push-holds {r} {fs} {bs} {is} {w} {gs} {cs} {v} {f} {b} {c} {bound} x p y n =
             least = omega (arith, n .least);
             bound = rw fst (n .bindings .chain);
             kind = n .kind;
-            stood = stands-kept (r .depth) kf (f .kind) ∙ n .stood;
+            stood = stands-kept (r .counts .depth) kf (f .kind) ∙ n .stood;
           };
     } in
     let h = pushed x (t .inner) o (p .same) (n .sameWords) (n .sameBytes) (t .depth) (n .most) (n .ends) in
-    let s : subjectBelow gs v (r .depth) ≡ subjectBelow fs w (r .depth) = below-kept bs (r .base) (r .depth) (r .top) (r .outer) kf (n .bytes) (x .frames) in
+    let s : subjectBelow gs v (r .counts .depth) ≡ subjectBelow fs w (r .counts .depth) = below-kept bs (r .store .base) (r .counts .depth) (r .store .top) (r .counts .outer) kf (n .bytes) (x .frames) in
     rw (p .moved m, ← s, ← n .bindings .are) h
 
 -- ---- a pop
 
-pub may-pop : (r : Registers) → mayPop r ≡ true → (r .inner ≡ 0) × (0 < r .depth)
+pub may-pop : (r : Registers) → mayPop r ≡ true → (r .counts .inner ≡ 0) × (0 < r .counts .depth)
 unfolding mayPop
-may-pop r m = (eqb-true _ _ (and-left (eqb (r .inner) 0) _ m), ltb-true _ _ (and-right (eqb (r .inner) 0) _ m))
+may-pop r m = (eqb-true _ _ (and-left (eqb (r .counts .inner) 0) _ m), ltb-true _ _ (and-right (eqb (r .counts .inner) 0) _ m))
 
 -- the element on top, and the others
 pub record Topmost (r : Registers) (fs bs is w : List ℕ) (n : ℕ) : Type 0 where
-  pub depth : r .depth ≡ suc n
+  pub depth : r .counts .depth ≡ suc n
   pub frame : topFrame r fs ≡ frameAt fs n
   pub room : n * FRAME + FRAME ≤ length fs
 
-pub topmost : {r : Registers} {fs bs is w : List ℕ} → Valid r fs bs is w → 0 < r .depth → Topmost r fs bs is w (r .depth - 1)
+pub topmost : {r : Registers} {fs bs is w : List ℕ} → Valid r fs bs is w → 0 < r .counts .depth → Topmost r fs bs is w (r .counts .depth - 1)
 unfolding topFrame
 topmost {r} {fs} {bs} {is} {w} x h =
-    let room : (r .depth - 1) * FRAME + FRAME ≤ length fs = omega (arith, x .frameWords, x .deep) in
-    record { depth = omega arith; frame = rw (ne-eqb (r .depth) 0 (λ e. omega arith)) (load-frame fs (r .depth - 1) room); room = room }
+    let room : (r .counts .depth - 1) * FRAME + FRAME ≤ length fs = omega (arith, x .frameWords, x .deep) in
+    record { depth = omega arith; frame = rw (ne-eqb (r .counts .depth) 0 (λ e. omega arith)) (load-frame fs (r .counts .depth - 1) room); room = room }
 
 pub pop-holds : {r : Registers} {fs bs is w : List ℕ} {c : Changed} → Valid r fs bs is w → Pops r fs c → c .ok ≡ true
-    → Holds (c .registers) fs bs is w (startOf r w) (framesOf fs bs w (r .depth - 1) (first (frameAt fs (r .depth - 1)))) (r .rooted) (r .labels)
+    → Holds (c .registers) fs bs is w (startOf r w) (framesOf fs bs w (r .counts .depth - 1) (first (frameAt fs (r .counts .depth - 1)))) (r .flags .rooted) (r .counts .labels)
 pop-holds {r} {fs} {bs} {is} {w} {c} x p y =
     let m : mayPop r ≡ true = sym (p .answer) ∙ y in
     let k = may-pop r m in
     let t = topmost x (k .1) in
-    rw (p .moved m, load-frame fs (r .depth - 1) (t .room)) (popped x (r .depth - 1) (t .depth) (k .0))
+    rw (p .moved m, load-frame fs (r .counts .depth - 1) (t .room)) (popped x (r .counts .depth - 1) (t .depth) (k .0))
 
 -- ---- a tail
 
@@ -248,20 +248,20 @@ unfolding frameAt Rattle.frames.specs.Words.frameOf
 length-has fs n h = Rattle.copy.specs.Copy.length-part (part fs (n * FRAME) FRAME) HEAD MARKS (omega (arith, Rattle.copy.specs.Copy.length-part fs (n * FRAME) FRAME h))
 
 pub record Tailed (r : Registers) (fs w : List ℕ) (from n : ℕ) : Type 0 where
-  pub depth : 0 < r .depth
-  pub store : r .low ≤ length w
-  pub room : from + n ≤ r .low
+  pub depth : 0 < r .counts .depth
+  pub store : r .store .low ≤ length w
+  pub room : from + n ≤ r .store .low
 
 may-tail : (r : Registers) (fs w : List ℕ) (from n : ℕ) → mayTail r fs w from n ≡ true → Tailed r fs w from n
 unfolding L.all mayTail
 may-tail r fs w from n m =
-    let m1 = and-right (ltb 0 (r .depth)) _ m in
-    let m2 = and-right (leb (r .low) 65_536) _ m1 in
-    let m3 = and-right (leb (r .low) (length w)) _ m2 in
+    let m1 = and-right (ltb 0 (r .counts .depth)) _ m in
+    let m2 = and-right (leb (r .store .low) 65_536) _ m1 in
+    let m3 = and-right (leb (r .store .low) (length w)) _ m2 in
     record {
-      depth = ltb-true _ _ (and-left (ltb 0 (r .depth)) _ m);
-      store = leb-true _ _ (and-left (leb (r .low) (length w)) _ m2);
-      room = leb-true _ _ (and-left (leb (from + n) (r .low)) _ m3);
+      depth = ltb-true _ _ (and-left (ltb 0 (r .counts .depth)) _ m);
+      store = leb-true _ _ (and-left (leb (r .store .low) (length w)) _ m2);
+      room = leb-true _ _ (and-left (leb (from + n) (r .store .low)) _ m3);
     }
 
 -- a frame stored as a call answers it
@@ -282,13 +282,13 @@ module _ {r : Registers} {fs bs is w s gs v : List ℕ} {from what : ℕ} {c : C
       → (Fresh (topFrame r fs) → Wrote w v from (from + length s) s → kindOk q (topFrame r fs) w ≡ true → kindOk q (tailTo (topFrame r fs) (from + length s) what) v ≡ true)
       → (Fresh (topFrame r fs) → Wrote w v from (from + length s) s → (u : Subject)
       → whatOf q (tailTo (topFrame r fs) (from + length s) what) v u ≡ onValue h (whatOf q (topFrame r fs) w u))
-      → Holds (c .registers) gs bs is v (startOf r w) (changeValue h (elementsOf r fs bs is w)) (r .rooted) (r .labels)
+      → Holds (c .registers) gs bs is v (startOf r w) (changeValue h (elementsOf r fs bs is w)) (r .flags .rooted) (r .counts .labels)
   tail-holds p y l q z ok eq =
       let m : mayTail r fs w from (length s) ≡ true = sym (p .answer) ∙ y in
       let t = may-tail r fs w from (length s) m in
       let to : ℕ = from + length s in
       let k = topmost x (t .depth) in
-      let n : ℕ = r .depth - 1 in
+      let n : ℕ = r .counts .depth - 1 in
       let f : Frame = frameAt fs n in
       let e : topFrame r fs ≡ f = k .frame in
       let kind : f .kind ≡ q = rw e at z in
@@ -375,7 +375,7 @@ module _ (f : Frame) (w t v : List ℕ) (n : Fresh f) (wr : Wrote w v (at f TAIL
       )
 
 pub text-holds : {r : Registers} {fs bs is w t gs v : List ℕ} {c : Changed} → Valid r fs bs is w → Texts r fs w t c gs v → c .ok ≡ true
-    → Holds (c .registers) gs bs is v (startOf r w) (changeValue (takesText t) (elementsOf r fs bs is w)) (r .rooted) (r .labels)
+    → Holds (c .registers) gs bs is v (startOf r w) (changeValue (takesText t) (elementsOf r fs bs is w)) (r .flags .rooted) (r .counts .labels)
 text-holds {r} {fs} {bs} {is} {w} {t} {gs} {v} {c} x p y =
     by (sameKind (topFrame r fs .kind) PropertyElt)
     (λ q.
@@ -418,15 +418,15 @@ unfolding onValue takesXml whatOf
 other-stays f w t u e = ap (λ (k : Kind). onValue (takesXml t) (whatOf k f w u)) e ∙ ap (λ (k : Kind). whatOf k f w u) (sym e)
 
 -- the kind of a frame that is there
-pub top-deep : (r : Registers) (fs : List ℕ) → (topFrame r fs .kind ≡ Rdf → ⊥) → 0 < r .depth
+pub top-deep : (r : Registers) (fs : List ℕ) → (topFrame r fs .kind ≡ Rdf → ⊥) → 0 < r .counts .depth
 unfolding topFrame
 top-deep r fs h =
-    by (eqb (r .depth) 0)
+    by (eqb (r .counts .depth) 0)
     (λ e. absurd (h (rw e)))
-    (λ e. positive (r .depth) (eqb-false (r .depth) 0 e))
+    (λ e. positive (r .counts .depth) (eqb-false (r .counts .depth) 0 e))
 
 pub xml-holds : {r : Registers} {fs bs is w t gs v : List ℕ} {c : Changed} → Valid r fs bs is w → Xmls r fs w t c gs v → c .ok ≡ true
-    → Holds (c .registers) gs bs is v (startOf r w) (changeValue (takesXml t) (elementsOf r fs bs is w)) (r .rooted) (r .labels)
+    → Holds (c .registers) gs bs is v (startOf r w) (changeValue (takesXml t) (elementsOf r fs bs is w)) (r .flags .rooted) (r .counts .labels)
 xml-holds {r} {fs} {bs} {is} {w} {t} {gs} {v} {c} x p y =
     by (sameKind (topFrame r fs .kind) ParseTypeLiteralPropertyElt)
     (λ q.
@@ -438,20 +438,20 @@ xml-holds {r} {fs} {bs} {is} {w} {t} {gs} {v} {c} x p y =
     (λ o. dropped o)
     (λ o. absurd (false≢true (sym (p .kept q o .ok) ∙ y))))
   where
-    deep : (k : Kind) → topFrame r fs .kind ≡ k → (k ≡ Rdf → ⊥) → 0 < r .depth
+    deep : (k : Kind) → topFrame r fs .kind ≡ k → (k ≡ Rdf → ⊥) → 0 < r .counts .depth
     deep k e z = top-deep r fs (λ i. z (sym e ∙ i))
 
     places : sameKind (topFrame r fs .kind) ParseTypeLiteralPropertyElt ≡ true → at (topFrame r fs) TAIL ≤ at (topFrame r fs) END
     places q =
         let k = topmost x (top-deep r fs (λ i. false≢true (ap (λ (g : Kind). sameKind g ParseTypeLiteralPropertyElt) (sym i) ∙ q))) in
-        let u = rising (frameAt fs (r .depth - 1)) (top-frame x (r .depth - 1) (k .depth) .up) in
+        let u = rising (frameAt fs (r .counts .depth - 1)) (top-frame x (r .counts .depth - 1) (k .depth) .up) in
         rw (k .frame) (u .tail)
 
     dropped : sameKind (topFrame r fs .kind) ParseTypeOtherPropertyElt ≡ true
-        → Holds (c .registers) gs bs is v (startOf r w) (changeValue (takesXml t) (elementsOf r fs bs is w)) (r .rooted) (r .labels)
+        → Holds (c .registers) gs bs is v (startOf r w) (changeValue (takesXml t) (elementsOf r fs bs is w)) (r .flags .rooted) (r .counts .labels)
     dropped o =
         let k = topmost x (top-deep r fs (λ i. false≢true (ap (λ (g : Kind). sameKind g ParseTypeOtherPropertyElt) (sym i) ∙ o))) in
-        let n : ℕ = r .depth - 1 in
+        let n : ℕ = r .counts .depth - 1 in
         let e : frameAt fs n .kind ≡ ParseTypeOtherPropertyElt = is-other (frameAt fs n .kind) (ap (λ (g : Frame). sameKind (g .kind) ParseTypeOtherPropertyElt) (sym (k .frame)) ∙ o) in
         let d = p .dropped o in
         let same : changeValue (takesXml t) (elementsOf r fs bs is w) ≡ elementsOf r fs bs is w =
@@ -496,18 +496,18 @@ module _ (f : Frame) (w : List ℕ) (a : length (f .at) ≡ PLACES) (b : length 
 
 record Counted (r : Registers) (fs : List ℕ) : Type 0 where
   node : sameKind (topFrame r fs .kind) NodeElt ≡ true
-  depth : 0 < r .depth
+  depth : 0 < r .counts .depth
   few : count (topFrame r fs) < 99_999_999
-  room : (r .depth - 1) * FRAME + FRAME ≤ length fs
+  room : (r .counts .depth - 1) * FRAME + FRAME ≤ length fs
 
 may-count : (r : Registers) (fs : List ℕ) → mayCount r fs ≡ true → Counted r fs
 unfolding L.all mayCount
 may-count r fs m =
     let m1 = and-right (sameKind (topFrame r fs .kind) NodeElt) _ m in
-    let m2 = and-right (ltb 0 (r .depth)) _ m1 in
+    let m2 = and-right (ltb 0 (r .counts .depth)) _ m1 in
     record {
       node = and-left (sameKind (topFrame r fs .kind) NodeElt) _ m;
-      depth = ltb-true _ _ (and-left (ltb 0 (r .depth)) _ m1);
+      depth = ltb-true _ _ (and-left (ltb 0 (r .counts .depth)) _ m1);
       few = ltb-true _ _ (and-left (ltb (count (topFrame r fs)) 99_999_999) _ m2);
       room = leb-true _ _ (and-right (ltb (count (topFrame r fs)) 99_999_999) _ m2);
     }
@@ -517,22 +517,22 @@ pub record Numbered (r : Registers) (fs : List ℕ) : Type 0 where
   pub kind : topFrame r fs .kind ≡ NodeElt
   pub few : count (topFrame r fs) < 99_999_999
 
-pub li-may : (r : Registers) (fs : List ℕ) → Numbered r fs → r .depth ≤ 64 → length fs ≡ TABLE → mayCount r fs ≡ true
+pub li-may : (r : Registers) (fs : List ℕ) → Numbered r fs → r .counts .depth ≤ 64 → length fs ≡ TABLE → mayCount r fs ≡ true
 unfolding L.all mayCount
 li-may r fs n d l =
-    let k : 0 < r .depth = top-deep r fs (λ i. node-differs (sym (n .kind) ∙ i)) in
-    rw (n .kind, lt-ltb 0 (r .depth) k, lt-ltb (count (topFrame r fs)) 99_999_999 (n .few), le-leb ((r .depth - 1) * FRAME + FRAME) (length fs) (omega arith))
+    let k : 0 < r .counts .depth = top-deep r fs (λ i. node-differs (sym (n .kind) ∙ i)) in
+    rw (n .kind, lt-ltb 0 (r .counts .depth) k, lt-ltb (count (topFrame r fs)) 99_999_999 (n .few), le-leb ((r .counts .depth - 1) * FRAME + FRAME) (length fs) (omega arith))
   where
     node-differs : NodeElt ≡ Rdf → ⊥
     node-differs e = false≢true (ap (λ (g : Kind). sameKind g NodeElt) (sym e))
 
-pub li-holds : {r : Registers} {fs bs is w gs : List ℕ} {b : Bool} → Valid r fs bs is w → r .inner ≡ 0 → Counts r fs b gs → b ≡ true → (i : Bytes) → isLi i ≡ true
-    → Holds r gs bs is w (startOf r w) (countLi i (elementsOf r fs bs is w)) (r .rooted) (r .labels)
+pub li-holds : {r : Registers} {fs bs is w gs : List ℕ} {b : Bool} → Valid r fs bs is w → r .counts .inner ≡ 0 → Counts r fs b gs → b ≡ true → (i : Bytes) → isLi i ≡ true
+    → Holds r gs bs is w (startOf r w) (countLi i (elementsOf r fs bs is w)) (r .flags .rooted) (r .counts .labels)
 li-holds {r} {fs} {bs} {is} {w} {gs} {b} x z p y i li =
     let m : mayCount r fs ≡ true = sym (p .answer) ∙ y in
     let t = may-count r fs m in
     let k = topmost x (t .depth) in
-    let n : ℕ = r .depth - 1 in
+    let n : ℕ = r .counts .depth - 1 in
     let f : Frame = frameAt fs n in
     let e : topFrame r fs ≡ f = k .frame in
     let kind : f .kind ≡ NodeElt = is-node (f .kind) (rw e at (t .node)) in
@@ -553,25 +553,25 @@ li-holds {r} {fs} {bs} {is} {w} {gs} {b} x z p y i li =
 
 -- what one more rdf:li leaves to the element that comes next: where it may stand, and the subject around it
 module _ {r : Registers} {fs gs : List ℕ} {b : Bool} (p : Counts r fs b gs) (y : b ≡ true) where
-  li-frame : frameAt gs (r .depth - 1) ≡ counted (frameAt fs (r .depth - 1))
+  li-frame : frameAt gs (r .counts .depth - 1) ≡ counted (frameAt fs (r .counts .depth - 1))
   unfolding topFrame
   li-frame =
       let m : mayCount r fs ≡ true = sym (p .answer) ∙ y in
       let t = may-count r fs m in
-      let n : ℕ = r .depth - 1 in
+      let n : ℕ = r .counts .depth - 1 in
       let h : n * FRAME + FRAME ≤ length fs = t .room in
-      let e : topFrame r fs ≡ frameAt fs n = rw (ne-eqb (r .depth) 0 (λ z. omega (arith, t .depth))) (load-frame fs n h) in
+      let e : topFrame r fs ≡ frameAt fs n = rw (ne-eqb (r .counts .depth) 0 (λ z. omega (arith, t .depth))) (load-frame fs n h) in
       let al = counted-alike (frameAt fs n) (length-at fs n h) (length-has fs n h) in
       load-store (stored-frame n h (al .places) (al .marks) (p .stored m ∙ ap (λ (g : Frame). storedAt fs (n * FRAME) (wordsOf (counted g))) e)) h (al .places) (al .marks)
 
-  li-deep : r .depth ≡ suc (r .depth - 1)
+  li-deep : r .counts .depth ≡ suc (r .counts .depth - 1)
   li-deep = omega (arith, may-count r fs (sym (p .answer) ∙ y) .depth)
 
-  li-node : nodeBelow gs (r .depth) ≡ nodeBelow fs (r .depth)
+  li-node : nodeBelow gs (r .counts .depth) ≡ nodeBelow fs (r .counts .depth)
   unfolding nodeBelow
   li-node = rw li-deep (rw li-frame)
 
-  pub li-stands : (q : Kind) → stands q gs (r .depth) ≡ stands q fs (r .depth)
+  pub li-stands : (q : Kind) → stands q gs (r .counts .depth) ≡ stands q fs (r .counts .depth)
   unfolding stands
   li-stands Rdf = refl
   li-stands NodeElt = refl
@@ -580,8 +580,8 @@ module _ {r : Registers} {fs gs : List ℕ} {b : Bool} (p : Counts r fs b gs) (y
   li-stands ParseTypeLiteralPropertyElt = li-node
   li-stands ParseTypeOtherPropertyElt = li-node
 
-  pub li-below : (w : List ℕ) → subjectBelow gs w (r .depth) ≡ subjectBelow fs w (r .depth)
+  pub li-below : (w : List ℕ) → subjectBelow gs w (r .counts .depth) ≡ subjectBelow fs w (r .counts .depth)
   unfolding subjectBelow subjectOf
   li-below w =
-      let f : Frame = frameAt fs (r .depth - 1) in
+      let f : Frame = frameAt fs (r .counts .depth - 1) in
       rw li-deep (rw (li-frame, getD-set-other (f .has) COUNT BLANK (count f + 1) 0 (λ z. omega arith)))

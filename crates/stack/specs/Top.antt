@@ -93,19 +93,19 @@ alike-element {f} {g} {w} {v} a r k K bound s e =
 
 -- ---- the law
 
-module _ {r : Registers} {fs bs is w : List ℕ} (x : Valid r fs bs is w) (n : ℕ) (d : r .depth ≡ suc n) where
+module _ {r : Registers} {fs bs is w : List ℕ} (x : Valid r fs bs is w) (n : ℕ) (d : r .counts .depth ≡ suc n) where
   -- the element on top with another kind
   unfoldable pub topped : (What → What) → List Element
   topped K =
-      innersOf is bs w (r .inner) (r .bindings)
+      innersOf is bs w (r .counts .inner) (r .counts .bindings)
       ++ (withKind (K (whatOf (frameAt fs n .kind) (frameAt fs n) w (subjectBelow fs w n)))
-      (elementOf (frameAt fs n) (bindingsOf bs w (first (frameAt fs n)) (r .outer - first (frameAt fs n))) w (subjectBelow fs w n))
+      (elementOf (frameAt fs n) (bindingsOf bs w (first (frameAt fs n)) (r .counts .outer - first (frameAt fs n))) w (subjectBelow fs w n))
       ∷ framesOf fs bs w n (first (frameAt fs n)))
 
-  pub retailed : {gs v : List ℕ} {g : Frame} {q : Bool} (K : What → What) → Alike (frameAt fs n) g → StoredFrame fs n g gs q → Kept w v 0 (at (frameAt fs n) TAIL) → Kept w v (r .low) 65_536
-      → length v ≡ length w → at (frameAt fs n) TAIL ≤ at g END → at g END ≤ r .low → kindOk (g .kind) g v ≡ true
+  pub retailed : {gs v : List ℕ} {g : Frame} {q : Bool} (K : What → What) → Alike (frameAt fs n) g → StoredFrame fs n g gs q → Kept w v 0 (at (frameAt fs n) TAIL) → Kept w v (r .store .low) 65_536
+      → length v ≡ length w → at (frameAt fs n) TAIL ≤ at g END → at g END ≤ r .store .low → kindOk (g .kind) g v ≡ true
       → ((s : Subject) → whatOf (frameAt fs n .kind) g v s ≡ K (whatOf (frameAt fs n .kind) (frameAt fs n) w s))
-      → Holds (toppedTo r (at g END)) gs bs is v (startOf r w) (topped K) (r .rooted) (r .labels)
+      → Holds (toppedTo r (at g END)) gs bs is v (startOf r w) (topped K) (r .flags .rooted) (r .counts .labels)
   unfolding topped
   retailed {gs} {v} {g} {q} K a st k kl lv up lt ok what =
       let t = top-frame x n d in
@@ -118,7 +118,7 @@ module _ {r : Registers} {fs bs is w : List ℕ} (x : Valid r fs bs is w) (n : �
       let wr = frame-wrote st room (a .places) (a .marks) in
       let kf : Kept fs gs 0 (n * FRAME) = kept-before wr in
       let kb : Kept w v 0 (at f NAME) = kept-less k (omega arith) (omega arith) in
-      let sound : Sound gs bs v g n (at g END) (r .outer) =
+      let sound : Sound gs bs v g n (at g END) (r .counts .outer) =
       record {
         ends = refl;
         up = rises-up g (alike-up a u up);
@@ -128,7 +128,7 @@ module _ {r : Registers} {fs bs is w : List ℕ} (x : Valid r fs bs is w) (n : �
         kind = ok;
         stood = rw (a .kind) (stands-kept n kf (f .kind) ∙ t .stood);
       } in
-      let o : On fs gs bs bs w v g (r .base) n (at f NAME) (first f) (at g END) (r .outer) =
+      let o : On fs gs bs bs w v g (r .store .base) n (at f NAME) (first f) (at g END) (r .counts .outer) =
       record {
         rest = under x n d;
         frames = kf;
@@ -140,13 +140,13 @@ module _ {r : Registers} {fs bs is w : List ℕ} (x : Valid r fs bs is w) (n : �
         sound = sound;
       } in
       let h = changed x n d o kl (st .same) lv lt in
-      let s : subjectBelow gs v n ≡ subjectBelow fs w n = below-kept bs (r .base) n (at f NAME) (first f) kf kb (under x n d) in
-      let b : bindingsOf bs v (first f) (r .outer - first f) ≡ bindingsOf bs w (first f) (r .outer - first f) =
-      bindings-kept (kept-all {w = bs} {lo = 0} {hi = r .outer * 3}) k (first f) (r .outer - first f) (at f BINDINGS) (at f BASE) (omega arith) (omega arith) (omega arith) (omega arith) (t .bound) in
+      let s : subjectBelow gs v n ≡ subjectBelow fs w n = below-kept bs (r .store .base) n (at f NAME) (first f) kf kb (under x n d) in
+      let b : bindingsOf bs v (first f) (r .counts .outer - first f) ≡ bindingsOf bs w (first f) (r .counts .outer - first f) =
+      bindings-kept (kept-all {w = bs} {lo = 0} {hi = r .counts .outer * 3}) k (first f) (r .counts .outer - first f) (at f BINDINGS) (at f BASE) (omega arith) (omega arith) (omega arith) (omega arith) (t .bound) in
       record {
         valid = h .valid;
         base = h .base;
-        elements = h .elements ∙ rw (s, b, alike-element a u k K (bindingsOf bs w (first f) (r .outer - first f)) (subjectBelow fs w n) (what (subjectBelow fs w n)));
+        elements = h .elements ∙ rw (s, b, alike-element a u k K (bindingsOf bs w (first f) (r .counts .outer - first f)) (subjectBelow fs w n) (what (subjectBelow fs w n)));
         root = refl;
         count = refl;
       }
@@ -173,25 +173,25 @@ change-element : (h : Value → Value) (f : Frame) (bound : List Binding) (w : L
 unfolding changeValue elementOf if_then_else_
 change-element h f bound w s es = rw (what-outside (f .kind) f w s)
 
-pub topped-change : {r : Registers} {fs bs is w : List ℕ} (x : Valid r fs bs is w) (n : ℕ) (d : r .depth ≡ suc n) (h : Value → Value)
+pub topped-change : {r : Registers} {fs bs is w : List ℕ} (x : Valid r fs bs is w) (n : ℕ) (d : r .counts .depth ≡ suc n) (h : Value → Value)
     → topped x n d (onValue h) ≡ changeValue h (elementsOf r fs bs is w)
 unfolding topped elementsOf
 topped-change {r} {fs} {bs} {is} {w} x n d h =
     let f : Frame = frameAt fs n in
     sym (
-    change-inners h is bs w (r .inner) (r .bindings) (framesOf fs bs w (r .depth) (r .outer))
-    ∙ rw (top-element x n d, change-element h f (bindingsOf bs w (first f) (r .outer - first f)) w (subjectBelow fs w n) (framesOf fs bs w n (first f)))
+    change-inners h is bs w (r .counts .inner) (r .counts .bindings) (framesOf fs bs w (r .counts .depth) (r .counts .outer))
+    ∙ rw (top-element x n d, change-element h f (bindingsOf bs w (first f) (r .counts .outer - first f)) w (subjectBelow fs w n) (framesOf fs bs w n (first f)))
     )
 
 -- a kind that stays
-pub topped-same : {r : Registers} {fs bs is w : List ℕ} (x : Valid r fs bs is w) (n : ℕ) (d : r .depth ≡ suc n) (K : What → What)
+pub topped-same : {r : Registers} {fs bs is w : List ℕ} (x : Valid r fs bs is w) (n : ℕ) (d : r .counts .depth ≡ suc n) (K : What → What)
     → K (whatOf (frameAt fs n .kind) (frameAt fs n) w (subjectBelow fs w n)) ≡ whatOf (frameAt fs n .kind) (frameAt fs n) w (subjectBelow fs w n)
     → topped x n d K ≡ elementsOf r fs bs is w
 unfolding topped elementsOf withKind elementOf
 topped-same {r} {fs} {bs} {is} {w} x n d K e = rw (e, top-element x n d)
 
 -- one more rdf:li, where nothing stands inside Literal content
-pub topped-flat : {r : Registers} {fs bs is w : List ℕ} (x : Valid r fs bs is w) (n : ℕ) (d : r .depth ≡ suc n) → r .inner ≡ 0 → (i : Bytes)
+pub topped-flat : {r : Registers} {fs bs is w : List ℕ} (x : Valid r fs bs is w) (n : ℕ) (d : r .counts .depth ≡ suc n) → r .counts .inner ≡ 0 → (i : Bytes)
     → topped x n d (counted i) ≡ countLi i (elementsOf r fs bs is w)
 unfolding topped elementsOf innersOf countLi elementOf
 topped-flat {r} {fs} {bs} {is} {w} x n d z i = rw (z, top-element x n d)

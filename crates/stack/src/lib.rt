@@ -3,7 +3,7 @@
 ghost use mathlib.Core.Path.{_≡_};
 ghost use Prim.Native.Nat.{_+_, _-_, _*_, _≤_, _<_};
 ghost use lib.ListN.{length};
-ghost use Rattle.stack.specs.Change.{toppedTo, labelledTo, markedAs};
+ghost use Rattle.stack.specs.Change.{toppedTo, labelledTo};
 ghost use Rattle.stack.specs.Calls.{frameOf, Pushes, Pops, Binds, topFrame, sameKind, Texts, Xmls, Counts, Tails};
 use frames::Frame;
 use frames::Kind;
@@ -45,37 +45,32 @@ pub fn push(
 pub fn pop(r: Registers, frames: &[u32]) -> Changed
     ensures { λ c. ⌜ Pops r (now (frames .entry)) c ⌝ }
 {
-    if r.inner != 0 {
+    if r.counts.inner != 0 {
         return Changed {
             ok: false,
             registers: r,
         };
     }
-    if r.depth == 0 {
+    if r.counts.depth == 0 {
         return Changed {
             ok: false,
             registers: r,
         };
     }
-    let f = Frame::load(frames, r.depth - 1);
+    let f = Frame::load(frames, r.counts.depth - 1);
     let at = f.at;
     let has = f.has;
     let first = wide(has[Frame::FIRST]);
+    let top = wide(at[Frame::NAME]);
+    let depth = r.counts.depth - 1;
+    let mut registers = r;
+    registers.store.top = top;
+    registers.counts.depth = depth;
+    registers.counts.outer = first;
+    registers.counts.bindings = first;
     Changed {
         ok: true,
-        registers: Registers {
-            closed: r.closed,
-            rooted: r.rooted,
-            based: r.based,
-            base: r.base,
-            depth: r.depth - 1,
-            inner: r.inner,
-            outer: first,
-            bindings: first,
-            top: wide(at[Frame::NAME]),
-            low: r.low,
-            labels: r.labels,
-        },
+        registers,
     }
 }
 
@@ -120,10 +115,10 @@ pub fn bind(
 pub fn top(r: Registers, frames: &[u32]) -> Frame
     ensures { λ f. ⌜ f ≡ topFrame r (now (frames .entry)) ⌝ }
 {
-    if r.depth == 0 {
+    if r.counts.depth == 0 {
         return Frame::none();
     }
-    Frame::load(frames, r.depth - 1)
+    Frame::load(frames, r.counts.depth - 1)
 }
 
 // The text of the default property on top, in place of the object so far.
@@ -176,7 +171,7 @@ pub fn count_li(r: Registers, frames: &mut [u32]) -> bool
     if !same_kind(kind, Kind::NodeElt) {
         return false;
     }
-    if r.depth == 0 {
+    if r.counts.depth == 0 {
         return false;
     }
     let count = has[Frame::COUNT];
@@ -184,7 +179,7 @@ pub fn count_li(r: Registers, frames: &mut [u32]) -> bool
         return false;
     }
     has[Frame::COUNT] = count + 1;
-    Frame::store(frames, r.depth - 1, Frame { kind, at, has })
+    Frame::store(frames, r.counts.depth - 1, Frame { kind, at, has })
 }
 
 // The frame of a new element, on top of the others.
@@ -192,39 +187,35 @@ fn push_frame(r: Registers, frames: &mut [u32], f: Frame, bound: usize) -> Chang
     ensures { λ c. ⌜ Pushes r (now (frames .entry)) f bound c (now (frames .exit)) ⌝ }
 {
     let at = f.at;
-    if r.inner != 0 {
+    if r.counts.inner != 0 {
         return Changed {
             ok: false,
             registers: r,
         };
     }
-    if r.depth >= Frame::MOST {
+    if r.counts.depth >= Frame::MOST {
         return Changed {
             ok: false,
             registers: r,
         };
     }
-    if !Frame::store(frames, r.depth, f) {
+    if !Frame::store(frames, r.counts.depth, f) {
         return Changed {
             ok: false,
             registers: r,
         };
     }
+    let top = wide(at[Frame::END]);
+    let depth = r.counts.depth + 1;
+    let mut registers = r;
+    registers.flags.rooted = true;
+    registers.store.top = top;
+    registers.counts.depth = depth;
+    registers.counts.outer = bound;
+    registers.counts.bindings = bound;
     Changed {
         ok: true,
-        registers: Registers {
-            closed: r.closed,
-            rooted: true,
-            based: r.based,
-            base: r.base,
-            depth: r.depth + 1,
-            inner: r.inner,
-            outer: bound,
-            bindings: bound,
-            top: wide(at[Frame::END]),
-            low: r.low,
-            labels: r.labels,
-        },
+        registers,
     }
 }
 
@@ -244,19 +235,20 @@ fn write_tail(
         ok: false,
         registers: r,
     };
-    if r.depth == 0 {
+    let low = r.store.low;
+    if r.counts.depth == 0 {
         return no;
     }
-    if r.low > Registers::STORE {
+    if low > Registers::STORE {
         return no;
     }
-    if work.len() < r.low {
+    if work.len() < low {
         return no;
     }
-    if r.low < from {
+    if low < from {
         return no;
     }
-    if r.low - from < s.len() {
+    if low - from < s.len() {
         return no;
     }
     let to = from + s.len();
@@ -265,7 +257,7 @@ fn write_tail(
     let kind = f.kind;
     at[Frame::END] = to as u32;
     has[Frame::PENDING] = what;
-    if !Frame::store(frames, r.depth - 1, Frame { kind, at, has }) {
+    if !Frame::store(frames, r.counts.depth - 1, Frame { kind, at, has }) {
         return no;
     }
     copy::put(work, from, s);
@@ -278,56 +270,17 @@ fn write_tail(
 pub fn with_top(r: Registers, top: usize) -> Registers
     ensures { λ q. ⌜ q ≡ toppedTo r top ⌝ }
 {
-    Registers {
-        closed: r.closed,
-        rooted: r.rooted,
-        based: r.based,
-        base: r.base,
-        depth: r.depth,
-        inner: r.inner,
-        outer: r.outer,
-        bindings: r.bindings,
-        top,
-        low: r.low,
-        labels: r.labels,
-    }
+    let mut q = r;
+    q.store.top = top;
+    q
 }
 
 pub fn with_labels(r: Registers, labels: u64) -> Registers
     ensures { λ q. ⌜ q ≡ labelledTo r labels ⌝ }
 {
-    Registers {
-        closed: r.closed,
-        rooted: r.rooted,
-        based: r.based,
-        base: r.base,
-        depth: r.depth,
-        inner: r.inner,
-        outer: r.outer,
-        bindings: r.bindings,
-        top: r.top,
-        low: r.low,
-        labels,
-    }
-}
-
-// Marked as closed: no call goes on from it.
-pub fn marked(r: Registers) -> Registers
-    ensures { λ q. ⌜ q ≡ markedAs r ⌝ }
-{
-    Registers {
-        closed: true,
-        rooted: r.rooted,
-        based: r.based,
-        base: r.base,
-        depth: r.depth,
-        inner: r.inner,
-        outer: r.outer,
-        bindings: r.bindings,
-        top: r.top,
-        low: r.low,
-        labels: r.labels,
-    }
+    let mut q = r;
+    q.counts.labels = labels;
+    q
 }
 
 pub fn same_kind(a: Kind, b: Kind) -> bool

@@ -59,7 +59,7 @@ use Rattle.starting.specs.Limits.{roomForId, elementOf, behind-fits}
 -- a start tag t that was read, in a state and beside a table of rdf:IDs; cs and rs: the classes and roles of its attributes; a: what was made for it
 pub record Known (t : Tag) (r : Registers) (count used : ℕ) (fs bs is w ia il st e v : List ℕ) (m k : ℕ) (cs rs a : List ℕ) : Type 0 where
   pub lawful : Lawful r count used (lent fs bs is w ia il st [])
-  pub level : r .inner ≡ 0
+  pub level : r .counts .inner ≡ 0
   pub formed : Formed r fs bs is w e v m k cs
   pub tells : Tells t e v m k w cs rs a (docOf r fs bs is w (idsOf ia il st count))
 
@@ -78,9 +78,9 @@ pub record Judges (q : Verdict) (t : Tag) (r : Registers) (count used : ℕ) (fs
 
 -- not refused so far: n, the bytes that the element holds, decides
 pub record Waits (x : Start) (r : Registers) (count used : ℕ) (fs bs is w ia il st e v : List ℕ) (m k : ℕ) (cs rs b : List ℕ) : Type 0 where
-  pub full : {n : ℕ} → Measures e v m k b (x .plan .parts) n → (roomForId count used (x .id) e b && leb (r .top + n) mostHeldBytes) ≡ false
+  pub full : {n : ℕ} → Measures e v m k b (x .plan .parts) n → (roomForId count used (x .id) e b && leb (r .store .top + n) mostHeldBytes) ≡ false
       → (room : ℕ) → handled (P.opening (take m e) (attributesOf e v k)) room (docOf r fs bs is w (idsOf ia il st count)) ≡ refuse OverLimit
-  pub fits : {n : ℕ} → Measures e v m k b (x .plan .parts) n → (roomForId count used (x .id) e b && leb (r .top + n) mostHeldBytes) ≡ true
+  pub fits : {n : ℕ} → Measures e v m k b (x .plan .parts) n → (roomForId count used (x .id) e b && leb (r .store .top + n) mostHeldBytes) ≡ true
       → Goes x (docOf r fs bs is w (idsOf ia il st count)) r fs bs w e v m k b cs rs count used
 
 abbrev pub Drafted : Verdict → Registers → ℕ → ℕ → List ℕ → List ℕ → List ℕ → List ℕ → List ℕ → List ℕ → List ℕ → List ℕ → List ℕ → ℕ → ℕ → List ℕ → List ℕ → List ℕ → Type 0
@@ -106,12 +106,12 @@ module _ {t : Tag} {r : Registers} {count used : ℕ} {fs bs is w ia il st e v :
   stops {n} h room = handled-by (P.opening (take m e) (attributesOf e v k)) room (docOf r fs bs is w (idsOf ia il st count)) h ∙ refused-on room n
 
   -- 14, 15, 18
-  pub production-stops : {n : Refusal} → productionIn (placeIn (elementsOf r fs bs is w)) (y .tells .is) (r .labels) ≡ refuse n
+  pub production-stops : {n : Refusal} → productionIn (placeIn (elementsOf r fs bs is w)) (y .tells .is) (r .counts .labels) ≡ refuse n
       → (room : ℕ) → handled (P.opening (take m e) (attributesOf e v k)) room (docOf r fs bs is w (idsOf ia il st count)) ≡ refuse n
   unfolding docOf
   production-stops h = stops (no-production (y .formed .form (idsOf ia il st count)) (y .formed .counts) (y .tells .answer) h)
 
-  module _ {o : Opened} (p : productionIn (placeIn (elementsOf r fs bs is w)) (y .tells .is) (r .labels) ≡ good o) where
+  module _ {o : Opened} (p : productionIn (placeIn (elementsOf r fs bs is w)) (y .tells .is) (r .counts .labels) ≡ good o) where
     -- 7: a name, an IRI or a base
     pub long-stops : t .short ≡ false → (room : ℕ) → handled (P.opening (take m e) (attributesOf e v k)) room (docOf r fs bs is w (idsOf ia il st count)) ≡ refuse OverLimit
     unfolding docOf
@@ -124,7 +124,7 @@ module _ {t : Tag} {r : Registers} {count used : ℕ} {fs bs is w ia il st e v :
 
       -- 7: what would be kept behind it
       pub full-stops : (s : Source) (b : List ℕ) (n : ℕ) → maybe s e b ≡ y .tells .is .id → ((i : Bytes) → y .tells .is .id ≡ some i → length i ≤ mostNameBytes) → frameBytes (elementOf (y .tells .is) o) ≡ n
-          → (roomForId count used s e b && leb (r .top + n) mostHeldBytes) ≡ false
+          → (roomForId count used s e b && leb (r .store .top + n) mostHeldBytes) ≡ false
           → (room : ℕ) → handled (P.opening (take m e) (attributesOf e v k)) room (docOf r fs bs is w (idsOf ia il st count)) ≡ refuse OverLimit
       unfolding onEvent
       full-stops s b n q h f z room =
@@ -155,9 +155,9 @@ unfolding shortIf
 short-id {s} z i q = leb-true (length i) mostNameBytes (sym (ap shortIf q) ∙ z .id)
 
 module _ {t : Tag} {r : Registers} {count used : ℕ} {fs bs is w ia il st e v : List ℕ} {m k : ℕ} {cs rs a : List ℕ} (y : Known t r count used fs bs is w ia il st e v m k cs rs a)
-    {o : Opened} (pr : productionIn (placeIn (elementsOf r fs bs is w)) (y .tells .is) (r .labels) ≡ good o) (short : t .short ≡ true)
+    {o : Opened} (pr : productionIn (placeIn (elementsOf r fs bs is w)) (y .tells .is) (r .counts .labels) ≡ good o) (short : t .short ≡ true)
     {b : List ℕ} (kp : Keeps a b) (ev : length e ≤ 32_768) {g : Given} (gv : Gives t e v k g) {p : Plan} (pb : p .parts .base ≡ g .base) (pt : p .parts .tag ≡ g .tag)
-    (d : Does p e b (subjectBelow fs w (r .depth)) o) where
+    (d : Does p e b (subjectBelow fs w (r .counts .depth)) o) where
   says : Says g e b (y .tells .is)
   says = given-says (y .tells) short kp ev gv
 
@@ -170,7 +170,7 @@ module _ {t : Tag} {r : Registers} {count used : ℕ} {fs bs is w ia il st e v :
   id-says : maybe (madeAt 0 (t .id)) e b ≡ y .tells .is .id
   id-says = ap (λ (s : Source). maybe s e b) (sym (gv .id)) ∙ says .id
 
-  element-is : elementOf (y .tells .is) o ≡ newElement e v m k b (p .parts) (subjectBelow fs w (r .depth))
+  element-is : elementOf (y .tells .is) o ≡ newElement e v m k b (p .parts) (subjectBelow fs w (r .counts .depth))
   unfolding newElement
   element-is = made (y .tells .name) (y .tells .bindings) (sym base-says) (sym tag-says-own) (sym (d .kind))
     where
@@ -183,21 +183,21 @@ module _ {t : Tag} {r : Registers} {count used : ℕ} {fs bs is w ia il st e v :
 
   module _ {n : ℕ} (me : Measures e v m k b (p .parts) n) where
     bytes-are : frameBytes (elementOf (y .tells .is) o) ≡ n
-    bytes-are = ap frameBytes element-is ∙ me .bytes (subjectBelow fs w (r .depth))
+    bytes-are = ap frameBytes element-is ∙ me .bytes (subjectBelow fs w (r .counts .depth))
 
     -- 7
-    limit-stops : (roomForId count used (madeAt 0 (t .id)) e b && leb (r .top + n) mostHeldBytes) ≡ false
+    limit-stops : (roomForId count used (madeAt 0 (t .id)) e b && leb (r .store .top + n) mostHeldBytes) ≡ false
         → (room : ℕ) → handled (P.opening (take m e) (attributesOf e v k)) room (docOf r fs bs is w (idsOf ia il st count)) ≡ refuse OverLimit
     limit-stops z = full-stops y pr short (madeAt 0 (t .id)) b n id-says id-short bytes-are z
 
-    goes : (li named : Bool) (property : Source) → (roomForId count used (madeAt 0 (t .id)) e b && leb (r .top + n) mostHeldBytes) ≡ true
-        → named ≡ not (same (y .tells .is .iri) (rdf "Description")) → isLi (y .tells .is .iri) ≡ li → (li ≡ true → Numbered r fs) → p .labels ≤ 99_999_999 → stands (p .parts .kind) fs (r .depth) ≡ true
-        → o .lines ≡ told (p .lines) (mainOf (startBy p t li named property) e b) (objectOf (startBy p t li named property) e b) (y .tells .is .language) (y .tells .is .attributes) (y .tells .is .type) (elementType (y .tells .is .iri)) (propertyOf (startBy p t li named property) e b (subjectBelow fs w (r .depth)))
+    goes : (li named : Bool) (property : Source) → (roomForId count used (madeAt 0 (t .id)) e b && leb (r .store .top + n) mostHeldBytes) ≡ true
+        → named ≡ not (same (y .tells .is .iri) (rdf "Description")) → isLi (y .tells .is .iri) ≡ li → (li ≡ true → Numbered r fs) → p .labels ≤ 99_999_999 → stands (p .parts .kind) fs (r .counts .depth) ≡ true
+        → o .lines ≡ told (p .lines) (mainOf (startBy p t li named property) e b) (objectOf (startBy p t li named property) e b) (y .tells .is .language) (y .tells .is .attributes) (y .tells .is .type) (elementType (y .tells .is .iri)) (propertyOf (startBy p t li named property) e b (subjectBelow fs w (r .counts .depth)))
         → Goes (startBy p t li named property) (docOf r fs bs is w (idsOf ia il st count)) r fs bs w e v m k b cs rs count used
     unfolding mostHeldBytes
     goes li named property z nm il′ nb few sd ln =
         let ro = and-left (roomForId count used (madeAt 0 (t .id)) e b) _ z in
-        let hd = leb-true (r .top + n) 49_152 (and-right (roomForId count used (madeAt 0 (t .id)) e b) _ z) in
+        let hd = leb-true (r .store .top + n) 49_152 (and-right (roomForId count used (madeAt 0 (t .id)) e b) _ z) in
         let fl = flat (y .lawful .valid) (y .level) in
         record {
           tag = y .tells .is;
@@ -225,7 +225,7 @@ module _ {t : Tag} {r : Registers} {count used : ℕ} {fs bs is w ia il st e v :
         }
 
   pub waits : (li named : Bool) (property : Source) → named ≡ not (same (y .tells .is .iri) (rdf "Description")) → isLi (y .tells .is .iri) ≡ li → (li ≡ true → Numbered r fs) → p .labels ≤ 99_999_999
-      → stands (p .parts .kind) fs (r .depth) ≡ true
-      → o .lines ≡ told (p .lines) (mainOf (startBy p t li named property) e b) (objectOf (startBy p t li named property) e b) (y .tells .is .language) (y .tells .is .attributes) (y .tells .is .type) (elementType (y .tells .is .iri)) (propertyOf (startBy p t li named property) e b (subjectBelow fs w (r .depth)))
+      → stands (p .parts .kind) fs (r .counts .depth) ≡ true
+      → o .lines ≡ told (p .lines) (mainOf (startBy p t li named property) e b) (objectOf (startBy p t li named property) e b) (y .tells .is .language) (y .tells .is .attributes) (y .tells .is .type) (elementType (y .tells .is .iri)) (propertyOf (startBy p t li named property) e b (subjectBelow fs w (r .counts .depth)))
       → Waits (startBy p t li named property) r count used fs bs is w ia il st e v m k cs rs b
   waits li named property nm il′ nb few sd ln = record { full = λ me z. limit-stops me z; fits = λ me z. goes me li named property z nm il′ nb few sd ln }

@@ -46,14 +46,14 @@ ids-room v Missing e a o q h = rw (← q) (valid-fits v)
 ids-room v (Own i n) e a o q h = rw (← q) (sym (room-fits v (Rattle.copy.specs.Copy.part e i n) (h (Rattle.copy.specs.Copy.part e i n) (sym q))))
 ids-room v (Made i n) e a o q h = rw (← q) (sym (room-fits v (Rattle.copy.specs.Copy.part a i n) (h (Rattle.copy.specs.Copy.part a i n) (sym q))))
 
-module _ {r : Registers} {count used : ℕ} {fs bs is w ia il st : List ℕ} (v : Valid r fs bs is w) (flat : r .inner ≡ 0) (x : ValidIds count used ia il st) where
+module _ {r : Registers} {count used : ℕ} {fs bs is w ia il st : List ℕ} (v : Valid r fs bs is w) (flat : r .counts .inner ≡ 0) (x : ValidIds count used ia il st) where
   pub behind-fits : (t : Tag) (o : Opened) (s : Source) (e a : List ℕ) (n : ℕ) → maybe s e a ≡ t .id → ((i : Bytes) → t .id ≡ some i → length i ≤ mostNameBytes) → frameBytes (elementOf t o) ≡ n
-      → fits (opened t (docOf r fs bs is w (idsOf ia il st count)) o .1) ≡ (roomForId count used s e a && leb (r .top + n) mostHeldBytes)
+      → fits (opened t (docOf r fs bs is w (idsOf ia il st count)) o .1) ≡ (roomForId count used s e a && leb (r .store .top + n) mostHeldBytes)
   unfolding fits opened heldBytes docOf
   behind-fits t o s e a n q h f =
       rw (held-with v flat (t .iri) (elementOf t o), f)
-      (and-assoc (leb (length (enter (t .id) (idsOf ia il st count))) mostIds) (leb (total length (enter (t .id) (idsOf ia il st count))) mostIdBytes) (leb (r .top + n) mostHeldBytes)
-      ∙ ap (λ (b : Bool). b && leb (r .top + n) mostHeldBytes) (ids-room x s e a (t .id) q h))
+      (and-assoc (leb (length (enter (t .id) (idsOf ia il st count))) mostIds) (leb (total length (enter (t .id) (idsOf ia il st count))) mostIdBytes) (leb (r .store .top + n) mostHeldBytes)
+      ∙ ap (λ (b : Bool). b && leb (r .store .top + n) mostHeldBytes) (ids-room x s e a (t .id) q h))
 
 -- ---- what `fits` answers
 

@@ -80,7 +80,7 @@ label-made {a} {b} n w =
 
 pub record JudgesNode (q : Verdict) (t : Tag) (r : Registers) (e v : List ℕ) (k : ℕ) (a b : List ℕ) : Type 0 where
   pub cases : (count used m : ℕ) (fs bs is w ia il st cs rs : List ℕ) (y : Known t r count used fs bs is w ia il st e v m k cs rs a)
-      → productionIn (placeIn (elementsOf r fs bs is w)) (y .tells .is) (r .labels) ≡ openNode (y .tells .is) (r .labels)
+      → productionIn (placeIn (elementsOf r fs bs is w)) (y .tells .is) (r .counts .labels) ≡ openNode (y .tells .is) (r .counts .labels)
       → Drafted q r count used fs bs is w ia il st e v m k cs rs b
   pub measurable : Measurable q
   pub same : length b ≡ length a
@@ -136,7 +136,7 @@ node-left jd h = jd .left h
 -- i: the element's name as it was read; f and g: are its rdf:ID and its rdf:about missing?
 module _ {t : Tag} {r : Registers} {e v : List ℕ} {k : ℕ} {a : List ℕ} {i : Bytes} {reserved named f g : Bool} {j : Judgment}
     (p : i ≡ iriText (t .iri) a) (q : reserved ≡ not (mayBeNode i)) (nm : named ≡ same i (rdf "Description")) (fm : f ≡ isMissing (t .id)) (gm : g ≡ isMissing (t .about))
-    (jg : NodeJudged reserved (not f) (ltb (t .node) k) (not g) (r .labels) j) where
+    (jg : NodeJudged reserved (not f) (ltb (t .node) k) (not g) (r .counts .labels) j) where
   tagged : {count used m : ℕ} {fs bs is w ia il st cs rs : List ℕ} (y : Known t r count used fs bs is w ia il st e v m k cs rs a) → NodeTag (y .tells .is) reserved (not f) (ltb (t .node) k) (not g)
   tagged y =
       let n = node-tag y p q in
@@ -145,42 +145,42 @@ module _ {t : Tag} {r : Registers} {e v : List ℕ} {k : ℕ} {a : List ℕ} {i 
   pub node-refused : {n : Refusal} → j ≡ judgment.Stop n → JudgesNode (Stop n) t r e v k a a
   node-refused {n} h =
       record {
-        cases = λ count used m fs bs is w ia il st cs rs y as-node. production-stops y (as-node ∙ (jg .is (y .tells .is) (tagged y) ∙ ap (λ (x : Judgment). said x (nodeOpened (y .tells .is) (r .labels))) h));
+        cases = λ count used m fs bs is w ia il st cs rs y as-node. production-stops y (as-node ∙ (jg .is (y .tells .is) (tagged y) ∙ ap (λ (x : Judgment). said x (nodeOpened (y .tells .is) (r .counts .labels))) h));
         measurable = tt;
         same = refl;
       }
 
   module _ (h : j ≡ judgment.Good) where
     opens : {count used m : ℕ} {fs bs is w ia il st cs rs : List ℕ} (y : Known t r count used fs bs is w ia il st e v m k cs rs a)
-        → productionIn (placeIn (elementsOf r fs bs is w)) (y .tells .is) (r .labels) ≡ openNode (y .tells .is) (r .labels)
-        → productionIn (placeIn (elementsOf r fs bs is w)) (y .tells .is) (r .labels) ≡ good (nodeOpened (y .tells .is) (r .labels))
-    opens y as-node = as-node ∙ (jg .is (y .tells .is) (tagged y) ∙ ap (λ (x : Judgment). said x (nodeOpened (y .tells .is) (r .labels))) h)
+        → productionIn (placeIn (elementsOf r fs bs is w)) (y .tells .is) (r .counts .labels) ≡ openNode (y .tells .is) (r .counts .labels)
+        → productionIn (placeIn (elementsOf r fs bs is w)) (y .tells .is) (r .counts .labels) ≡ good (nodeOpened (y .tells .is) (r .counts .labels))
+    opens y as-node = as-node ∙ (jg .is (y .tells .is) (tagged y) ∙ ap (λ (x : Judgment). said x (nodeOpened (y .tells .is) (r .counts .labels))) h)
 
     pub node-long : t .short ≡ false → JudgesNode (Stop OverLimit) t r e v k a a
     node-long s = record { cases = λ count used m fs bs is w ia il st cs rs y as-node. long-stops y (opens y as-node) s; measurable = tt; same = refl }
 
-    module _ {b : List ℕ} {x : Start} (s : t .short ≡ true) (rd : Ready e v k a) (mk : MakesNode x t (not named) (r .labels) e v k a b) where
+    module _ {b : List ℕ} {x : Start} (s : t .short ≡ true) (rd : Ready e v k a) (mk : MakesNode x t (not named) (r .counts .labels) e v k a b) where
       module _ {count used m : ℕ} {fs bs is w ia il st cs rs : List ℕ} (y : Known t r count used fs bs is w ia il st e v m k cs rs a)
-          (as-node : productionIn (placeIn (elementsOf r fs bs is w)) (y .tells .is) (r .labels) ≡ openNode (y .tells .is) (r .labels)) where
+          (as-node : productionIn (placeIn (elementsOf r fs bs is w)) (y .tells .is) (r .counts .labels) ≡ openNode (y .tells .is) (r .counts .labels)) where
         keeps : Keeps a b
         keeps = label-keeps (rd .room) (omega arith) (mk .wrote)
 
-        made : part b 6144 12 ≡ label (suc (r .labels))
-        made = label-made (r .labels) (mk .wrote)
+        made : part b 6144 12 ≡ label (suc (r .counts .labels))
+        made = label-made (r .counts .labels) (mk .wrote)
 
-        one : r .labels + 1 ≡ suc (r .labels)
-        one = add-one (r .labels)
+        one : r .counts .labels + 1 ≡ suc (r .counts .labels)
+        one = add-one (r .counts .labels)
 
         says : Says (mk .parts) e b (y .tells .is)
         says = given-says (y .tells) s keeps (rd .event) (mk .gives)
 
-        does : Does (nodePlan (mk .parts) (r .labels + 1)) e b (subjectBelow fs w (r .depth)) (nodeOpened (y .tells .is) (r .labels))
-        does = rw one (does-node (mk .parts) e b (subjectBelow fs w (r .depth)) says (r .labels) made)
+        does : Does (nodePlan (mk .parts) (r .counts .labels + 1)) e b (subjectBelow fs w (r .counts .depth)) (nodeOpened (y .tells .is) (r .counts .labels))
+        does = rw one (does-node (mk .parts) e b (subjectBelow fs w (r .counts .depth)) says (r .counts .labels) made)
 
-        told-lines : nodeOpened (y .tells .is) (r .labels) .lines
-            ≡ told (nodePlan (mk .parts) (r .labels + 1) .lines) (mainOf (startBy (nodePlan (mk .parts) (r .labels + 1)) t false (not named) Missing) e b) (objectOf (startBy (nodePlan (mk .parts) (r .labels + 1)) t false (not named) Missing) e b) (y .tells .is .language) (y .tells .is .attributes) (y .tells .is .type) (elementType (y .tells .is .iri)) (propertyOf (startBy (nodePlan (mk .parts) (r .labels + 1)) t false (not named) Missing) e b (subjectBelow fs w (r .depth)))
+        told-lines : nodeOpened (y .tells .is) (r .counts .labels) .lines
+            ≡ told (nodePlan (mk .parts) (r .counts .labels + 1) .lines) (mainOf (startBy (nodePlan (mk .parts) (r .counts .labels + 1)) t false (not named) Missing) e b) (objectOf (startBy (nodePlan (mk .parts) (r .counts .labels + 1)) t false (not named) Missing) e b) (y .tells .is .language) (y .tells .is .attributes) (y .tells .is .type) (elementType (y .tells .is .iri)) (propertyOf (startBy (nodePlan (mk .parts) (r .counts .labels + 1)) t false (not named) Missing) e b (subjectBelow fs w (r .counts .depth)))
         unfolding told nodeOpened nodeSubject tagLines
-        told-lines = rw (node-subject e b (label (suc (r .labels))) made (mk .parts) says)
+        told-lines = rw (node-subject e b (label (suc (r .counts .labels))) made (mk .parts) says)
 
         drafted : Waits x r count used fs bs is w ia il st e v m k cs rs b
         unfolding stands
@@ -188,7 +188,7 @@ module _ {t : Tag} {r : Registers} {e v : List ℕ} {k : ℕ} {a : List ℕ} {i 
             rw (mk .is)
             (waits y (opens y as-node) s keeps (rd .event) (mk .gives) refl refl does false (not named) Missing
             (ap not (nm ∙ (ap (λ (o : Bytes). same o (rdf "Description")) p ∙ description-name a (y .tells .is .iri) (t .iri) (y .tells .iri))))
-            (node-no-li (y .tells .is .iri) (good-node (y .tells .is) (r .labels) (sym as-node ∙ opens y as-node))) (λ f. absurd (false≢true f)) (omega (arith, node-left jg h)) refl told-lines)
+            (node-no-li (y .tells .is .iri) (good-node (y .tells .is) (r .counts .labels) (sym as-node ∙ opens y as-node))) (λ f. absurd (false≢true f)) (omega (arith, node-left jg h)) refl told-lines)
 
       pub node-judged : JudgesNode (Go x) t r e v k a b
       node-judged = record { cases = λ count used m fs bs is w ia il st cs rs y as-node. drafted y as-node; measurable = rw (mk .is) (record { lacks = (refl, refl, refl) }); same = wrote-same (mk .wrote) }

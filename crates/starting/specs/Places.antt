@@ -56,8 +56,8 @@ use Rattle.starting.specs.Properties.{JudgesProperty}
 
 -- rdf:RDF, whatever area it was read with
 pub record JudgesRoot (q : Verdict) (t : Tag) (labels : ℕ) (e v : List ℕ) (k : ℕ) : Type 0 where
-  pub cases : (r : Registers) (ids used m : ℕ) (fs bs is w ia il st cs rs a : List ℕ) → r .labels ≡ labels → Ready e v k a → (y : Known t r ids used fs bs is w ia il st e v m k cs rs a)
-      → productionIn (D.placeIn (elementsOf r fs bs is w)) (y .tells .is) (r .labels) ≡ openRoot (y .tells .is) (r .labels) → same (y .tells .is .iri) (rdf "RDF") ≡ true
+  pub cases : (r : Registers) (ids used m : ℕ) (fs bs is w ia il st cs rs a : List ℕ) → r .counts .labels ≡ labels → Ready e v k a → (y : Known t r ids used fs bs is w ia il st e v m k cs rs a)
+      → productionIn (D.placeIn (elementsOf r fs bs is w)) (y .tells .is) (r .counts .labels) ≡ openRoot (y .tells .is) (r .counts .labels) → same (y .tells .is .iri) (rdf "RDF") ≡ true
       → Drafted q r ids used fs bs is w ia il st e v m k cs rs a
   pub measurable : Measurable q
 
@@ -72,9 +72,9 @@ rdf-no-description i h = ap (λ (x : Bytes). same x (rdf "Description")) (same-t
 
 module _ {t : Tag} {e v : List ℕ} {k : ℕ} where
   opens : {r : Registers} {ids used m : ℕ} {fs bs is w ia il st cs rs a : List ℕ} (y : Known t r ids used fs bs is w ia il st e v m k cs rs a)
-      → productionIn (D.placeIn (elementsOf r fs bs is w)) (y .tells .is) (r .labels) ≡ openRoot (y .tells .is) (r .labels) → same (y .tells .is .iri) (rdf "RDF") ≡ true
-      → productionIn (D.placeIn (elementsOf r fs bs is w)) (y .tells .is) (r .labels) ≡ good (record { lines = []; kind = D.rdfRDF; labels = r .labels })
-  opens {r = r} y at z = at ∙ root-rdf (y .tells .is) (r .labels) z
+      → productionIn (D.placeIn (elementsOf r fs bs is w)) (y .tells .is) (r .counts .labels) ≡ openRoot (y .tells .is) (r .counts .labels) → same (y .tells .is .iri) (rdf "RDF") ≡ true
+      → productionIn (D.placeIn (elementsOf r fs bs is w)) (y .tells .is) (r .counts .labels) ≡ good (record { lines = []; kind = D.rdfRDF; labels = r .counts .labels })
+  opens {r = r} y at z = at ∙ root-rdf (y .tells .is) (r .counts .labels) z
 
   pub root-long : {labels : ℕ} → t .short ≡ false → JudgesRoot (Stop OverLimit) t labels e v k
   root-long s = record { cases = λ r ids used m fs bs is w ia il st cs rs a l rd y at z. long-stops y (opens y at z) s; measurable = tt }
@@ -83,13 +83,13 @@ module _ {t : Tag} {e v : List ℕ} {k : ℕ} where
     made : x ≡ startBy (rootPlan g labels) t false true Missing
     made = is-so ∙ ap (λ (y : Plan). startBy y t false true Missing) pl
 
-    drafted : {r : Registers} {ids used m : ℕ} {fs bs is w ia il st cs rs a : List ℕ} → r .labels ≡ labels → Ready e v k a → (y : Known t r ids used fs bs is w ia il st e v m k cs rs a)
-        → productionIn (D.placeIn (elementsOf r fs bs is w)) (y .tells .is) (r .labels) ≡ openRoot (y .tells .is) (r .labels) → same (y .tells .is .iri) (rdf "RDF") ≡ true
+    drafted : {r : Registers} {ids used m : ℕ} {fs bs is w ia il st cs rs a : List ℕ} → r .counts .labels ≡ labels → Ready e v k a → (y : Known t r ids used fs bs is w ia il st e v m k cs rs a)
+        → productionIn (D.placeIn (elementsOf r fs bs is w)) (y .tells .is) (r .counts .labels) ≡ openRoot (y .tells .is) (r .counts .labels) → same (y .tells .is .iri) (rdf "RDF") ≡ true
         → Waits x r ids used fs bs is w ia il st e v m k cs rs a
     unfolding stands told
     drafted {r = r} {fs = fs} {w = w} {a = a} l rd y at z =
         rw (made, ← l)
-        (waits y (opens y at z) s (record { before = kept-all; behind = kept-all; same = refl; room = rd .room }) (rd .event) gv refl refl (does-root g e a (subjectBelow fs w (r .depth)) (r .labels)) false true Missing
+        (waits y (opens y at z) s (record { before = kept-all; behind = kept-all; same = refl; room = rd .room }) (rd .event) gv refl refl (does-root g e a (subjectBelow fs w (r .counts .depth)) (r .counts .labels)) false true Missing
         (sym (ap not (rdf-no-description (y .tells .is .iri) z))) (rdf-no-li (y .tells .is .iri) z) (λ u. absurd (false≢true u)) (y .lawful .valid .labels) refl refl)
 
     pub root-judged : JudgesRoot (Go x) t labels e v k
@@ -108,8 +108,8 @@ in-node ParseTypeOtherPropertyElt h = absurd (let z : _≡_ {A = ℕ} 0 1 = cc i
 -- where properties stand, a node is on top
 record OnNode (r : Registers) (fs w : List ℕ) : Type 0 where
   kind : topFrame r fs .kind ≡ NodeElt
-  subject : subjectOf (frameAt fs (r .depth - 1)) w ≡ subjectBelow fs w (r .depth)
-  counted : count (frameAt fs (r .depth - 1)) ≡ count (topFrame r fs)
+  subject : subjectOf (frameAt fs (r .counts .depth - 1)) w ≡ subjectBelow fs w (r .counts .depth)
+  counted : count (frameAt fs (r .counts .depth - 1)) ≡ count (topFrame r fs)
 
 below-top : (fs w : List ℕ) (n d : ℕ) → n ≡ suc d → subjectOf (frameAt fs (n - 1)) w ≡ subjectBelow fs w n
 unfolding subjectBelow
@@ -117,24 +117,24 @@ below-top fs w n d q = let e : n - 1 ≡ d = omega arith in ap (λ (x : ℕ). su
 
 on-node : {r : Registers} {fs bs is w : List ℕ} → Valid r fs bs is w → placeAt r fs ≡ Properties → OnNode r fs w
 unfolding placeAt topFrame subjectBelow
-on-node {r} {fs} {bs} {is} {w} v h = go (r .inner) refl (r .depth) refl
+on-node {r} {fs} {bs} {is} {w} v h = go (r .counts .inner) refl (r .counts .depth) refl
   where
-    go : (i : ℕ) → r .inner ≡ i → (d : ℕ) → r .depth ≡ d → OnNode r fs w
-    go (suc i) p d q = absurd (let f : _≡_ {A = Place} Xml Properties = sym (rw (ne-eqb (r .inner) 0 (λ z. omega arith))) ∙ h in let z : _≡_ {A = ℕ} 0 1 = cc in omega arith)
-    go zero p zero q = absurd (let f : _≡_ {A = Place} Outside Properties = sym (rw (eq-eqb (r .inner) 0 p, eq-eqb (r .depth) 0 q)) ∙ h in let z : _≡_ {A = ℕ} 0 1 = cc in omega arith)
+    go : (i : ℕ) → r .counts .inner ≡ i → (d : ℕ) → r .counts .depth ≡ d → OnNode r fs w
+    go (suc i) p d q = absurd (let f : _≡_ {A = Place} Xml Properties = sym (rw (ne-eqb (r .counts .inner) 0 (λ z. omega arith))) ∙ h in let z : _≡_ {A = ℕ} 0 1 = cc in omega arith)
+    go zero p zero q = absurd (let f : _≡_ {A = Place} Outside Properties = sym (rw (eq-eqb (r .counts .inner) 0 p, eq-eqb (r .counts .depth) 0 q)) ∙ h in let z : _≡_ {A = ℕ} 0 1 = cc in omega arith)
     go zero p (suc d) q =
-        let n : eqb (r .depth) 0 ≡ false = ne-eqb (r .depth) 0 (λ z. omega arith) in
-        let l : loadFrame fs (r .depth - 1) ≡ frameAt fs (r .depth - 1) = load-frame fs (r .depth - 1) (omega (arith, v .frameWords, v .deep)) in
-        let f : placeOf (loadFrame fs (r .depth - 1) .kind) ≡ Properties = sym (rw (eq-eqb (r .inner) 0 p, n)) ∙ h in
+        let n : eqb (r .counts .depth) 0 ≡ false = ne-eqb (r .counts .depth) 0 (λ z. omega arith) in
+        let l : loadFrame fs (r .counts .depth - 1) ≡ frameAt fs (r .counts .depth - 1) = load-frame fs (r .counts .depth - 1) (omega (arith, v .frameWords, v .deep)) in
+        let f : placeOf (loadFrame fs (r .counts .depth - 1) .kind) ≡ Properties = sym (rw (eq-eqb (r .counts .inner) 0 p, n)) ∙ h in
         record {
-          kind = rw n (in-node (loadFrame fs (r .depth - 1) .kind) f);
-          subject = below-top fs w (r .depth) d q;
+          kind = rw n (in-node (loadFrame fs (r .counts .depth - 1) .kind) f);
+          subject = below-top fs w (r .counts .depth) d q;
           counted = rw (n, l);
         }
 
 standing : {p : Place} {t : Tag} {r : Registers} {ids used : ℕ} {fs e v : List ℕ} {m k : ℕ} {a bs is w ia il st cs rs : List ℕ} → p ≡ placeAt r fs → Known t r ids used fs bs is w ia il st e v m k cs rs a
-    → D.placeIn (elementsOf r fs bs is w) ≡ placeIs p (subjectOf (frameAt fs (r .depth - 1)) w) (count (frameAt fs (r .depth - 1)))
-standing {r = r} {fs = fs} {w = w} at y = place-read (y .lawful .valid) ∙ ap (λ (q : Place). placeIs q (subjectOf (frameAt fs (r .depth - 1)) w) (count (frameAt fs (r .depth - 1)))) (sym at)
+    → D.placeIn (elementsOf r fs bs is w) ≡ placeIs p (subjectOf (frameAt fs (r .counts .depth - 1)) w) (count (frameAt fs (r .counts .depth - 1)))
+standing {r = r} {fs = fs} {w = w} at y = place-read (y .lawful .valid) ∙ ap (λ (q : Place). placeIs q (subjectOf (frameAt fs (r .counts .depth - 1)) w) (count (frameAt fs (r .counts .depth - 1)))) (sym at)
 
 -- what a start tag opens, by its place and its name
 unfoldable pub opensAt : Place → Bytes → Opens
@@ -188,7 +188,7 @@ named-rdf {t = t} {a = a} ip y = ap (λ (x : Bytes). same x (rdf "RDF")) ip ∙ 
 
 -- the arms of `draft`: o is what is opened
 module _ {q : Verdict} {t : Tag} {r : Registers} {fs e v : List ℕ} {k : ℕ} {a : List ℕ} {p : Place} {i : Bytes} {o : Opens} (at : p ≡ placeAt r fs) (ip : i ≡ iriText (t .iri) a) (op : o ≡ opensAt p i) where
-  pub as-rdf : o ≡ what.Rdf → Ready e v k a → JudgesRoot q t (r .labels) e v k → Drafts q t r fs e v k a a
+  pub as-rdf : o ≡ what.Rdf → Ready e v k a → JudgesRoot q t (r .counts .labels) e v k → Drafts q t r fs e v k a a
   unfolding placeIs productionIn
   as-rdf h rd j =
       let f = rdf-at p i (sym op ∙ h) in
@@ -201,7 +201,7 @@ module _ {q : Verdict} {t : Tag} {r : Registers} {fs e v : List ℕ} {k : ℕ} {
   pub as-node : {b : List ℕ} → o ≡ what.Node → JudgesNode q t r e v k a b → Drafts q t r fs e v k a b
   as-node h j =
       record {
-        cases = λ ids used m bs is w ia il st cs rs y. j .cases ids used m fs bs is w ia il st cs rs y (rw (standing at y) (node-at p i (y .tells .is) _ _ (r .labels) (sym op ∙ h) (named-rdf ip y)));
+        cases = λ ids used m bs is w ia il st cs rs y. j .cases ids used m fs bs is w ia il st cs rs y (rw (standing at y) (node-at p i (y .tells .is) _ _ (r .counts .labels) (sym op ∙ h) (named-rdf ip y)));
         measurable = j .measurable;
         same = j .same;
       }
@@ -229,7 +229,7 @@ module _ {q : Verdict} {t : Tag} {r : Registers} {fs e v : List ℕ} {k : ℕ} {
     unfolding mostAttributes
     fits-asks rd = (record { event = omega (arith, rd .event); area = omega (arith, rd .small, d .same) }, omega (arith, rd .few), rw h at (d .measurable))
 
-    module _ {u : Bool} {ids used m : ℕ} (f : Fits u (x .plan .parts) (x .id) (r .top) ids used e v m k b) {w : List ℕ} where
+    module _ {u : Bool} {ids used m : ℕ} (f : Fits u (x .plan .parts) (x .id) (r .store .top) ids used e v m k b) {w : List ℕ} where
       waiting : {bs is ia il st cs rs : List ℕ} → Known t r ids used fs bs is w ia il st e v m k cs rs a → Waits x r ids used fs bs is w ia il st e v m k cs rs b
       waiting {bs} {is} {ia} {il} {st} {cs} {rs} y = rw h at (d .cases ids used m bs is w ia il st cs rs y)
 

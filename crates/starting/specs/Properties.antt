@@ -135,8 +135,8 @@ without x y u h p q = rw (p, q) at h
 -- ---- judged
 
 pub record JudgesProperty (q : Verdict) (t : Tag) (r : Registers) (fs e v : List ℕ) (k : ℕ) (a b : List ℕ) : Type 0 where
-  pub cases : (ids used m : ℕ) (bs is w ia il st cs rs : List ℕ) (y : Known t r ids used fs bs is w ia il st e v m k cs rs a) → topFrame r fs .kind ≡ NodeElt → r .depth ≤ 64 → length fs ≡ TABLE
-      → D.placeIn (elementsOf r fs bs is w) ≡ D.properties (subjectBelow fs w (r .depth)) (count (topFrame r fs))
+  pub cases : (ids used m : ℕ) (bs is w ia il st cs rs : List ℕ) (y : Known t r ids used fs bs is w ia il st e v m k cs rs a) → topFrame r fs .kind ≡ NodeElt → r .counts .depth ≤ 64 → length fs ≡ TABLE
+      → D.placeIn (elementsOf r fs bs is w) ≡ D.properties (subjectBelow fs w (r .counts .depth)) (count (topFrame r fs))
       → Drafted q r ids used fs bs is w ia il st e v m k cs rs b
   pub measurable : Measurable q
   pub same : length b ≡ length a
@@ -171,7 +171,7 @@ given-same false s = refl
 module _ {t : Tag} {r : Registers} {fs e v : List ℕ} {k : ℕ} {a : List ℕ} {i : Bytes} {reserved li f : Bool} {p : ParseType} {c : ℕ} {j : Judgment}
     (ip : i ≡ iriText (t .iri) a) (rp : reserved ≡ not (mayBeProperty i)) (lp : li ≡ isLi i) (fm : f ≡ isMissing (t .resource))
     (pp : parseTypeIs p ≡ parseTypeOf (N.idOf (ltb (t .parse) k) (valueAt e v (t .parse)))) (cp : c ≡ count (topFrame r fs))
-    (jg : PropertyJudged reserved li c p (not f) (ltb (t .node) k) (t .properties) (r .labels) j) where
+    (jg : PropertyJudged reserved li c p (not f) (ltb (t .node) k) (t .properties) (r .counts .labels) j) where
   module _ {ids used m : ℕ} {bs is w ia il st cs rs : List ℕ} (y : Known t r ids used fs bs is w ia il st e v m k cs rs a) where
     tagged : PropertyTag (y .tells .is) reserved li p (not f) (ltb (t .node) k) (t .properties)
     tagged =
@@ -185,36 +185,36 @@ module _ {t : Tag} {r : Registers} {fs e v : List ℕ} {k : ℕ} {a : List ℕ} 
         }
 
     -- the production of the place
-    asked : D.placeIn (elementsOf r fs bs is w) ≡ D.properties (subjectBelow fs w (r .depth)) (count (topFrame r fs))
-        → productionIn (D.placeIn (elementsOf r fs bs is w)) (y .tells .is) (r .labels) ≡ openProperty (y .tells .is) (subjectBelow fs w (r .depth)) c (r .labels)
+    asked : D.placeIn (elementsOf r fs bs is w) ≡ D.properties (subjectBelow fs w (r .counts .depth)) (count (topFrame r fs))
+        → productionIn (D.placeIn (elementsOf r fs bs is w)) (y .tells .is) (r .counts .labels) ≡ openProperty (y .tells .is) (subjectBelow fs w (r .counts .depth)) c (r .counts .labels)
     unfolding productionIn
     asked h = rw (h, cp)
 
   pub property-refused : {n : Refusal} → j ≡ judgment.Stop n → JudgesProperty (Stop n) t r fs e v k a a
   property-refused {n} h =
       record {
-        cases = λ ids used m bs is w ia il st cs rs y kd dp fw at. production-stops y (asked y at ∙ (jg .is (y .tells .is) (subjectBelow fs w (r .depth)) (tagged y)
-            ∙ ap (λ (x : Judgment). said x (propertyOpened (parseTypeIs p) (y .tells .is) (propertyIn (y .tells .is) (subjectBelow fs w (r .depth)) c) (r .labels))) h));
+        cases = λ ids used m bs is w ia il st cs rs y kd dp fw at. production-stops y (asked y at ∙ (jg .is (y .tells .is) (subjectBelow fs w (r .counts .depth)) (tagged y)
+            ∙ ap (λ (x : Judgment). said x (propertyOpened (parseTypeIs p) (y .tells .is) (propertyIn (y .tells .is) (subjectBelow fs w (r .counts .depth)) c) (r .counts .labels))) h));
         measurable = tt;
         same = refl;
       }
 
   module _ (h : j ≡ judgment.Good) where
     opens : {ids used m : ℕ} {bs is w ia il st cs rs : List ℕ} (y : Known t r ids used fs bs is w ia il st e v m k cs rs a)
-        → D.placeIn (elementsOf r fs bs is w) ≡ D.properties (subjectBelow fs w (r .depth)) (count (topFrame r fs))
-        → productionIn (D.placeIn (elementsOf r fs bs is w)) (y .tells .is) (r .labels)
-        ≡ good (propertyOpened (parseTypeIs p) (y .tells .is) (propertyIn (y .tells .is) (subjectBelow fs w (r .depth)) c) (r .labels))
+        → D.placeIn (elementsOf r fs bs is w) ≡ D.properties (subjectBelow fs w (r .counts .depth)) (count (topFrame r fs))
+        → productionIn (D.placeIn (elementsOf r fs bs is w)) (y .tells .is) (r .counts .labels)
+        ≡ good (propertyOpened (parseTypeIs p) (y .tells .is) (propertyIn (y .tells .is) (subjectBelow fs w (r .counts .depth)) c) (r .counts .labels))
     opens {w = w} y at =
-        asked y at ∙ (jg .is (y .tells .is) (subjectBelow fs w (r .depth)) (tagged y)
-        ∙ ap (λ (x : Judgment). said x (propertyOpened (parseTypeIs p) (y .tells .is) (propertyIn (y .tells .is) (subjectBelow fs w (r .depth)) c) (r .labels))) h)
+        asked y at ∙ (jg .is (y .tells .is) (subjectBelow fs w (r .counts .depth)) (tagged y)
+        ∙ ap (λ (x : Judgment). said x (propertyOpened (parseTypeIs p) (y .tells .is) (propertyIn (y .tells .is) (subjectBelow fs w (r .counts .depth)) c) (r .counts .labels))) h)
 
     pub property-long : t .short ≡ false → JudgesProperty (Stop OverLimit) t r fs e v k a a
     property-long s = record { cases = λ ids used m bs is w ia il st cs rs y kd dp fw at. long-stops y (opens y at) s; measurable = tt; same = refl }
 
     module _ {takes : Bool} {b : List ℕ} {x : Start} (tk : takes ≡ takesLabel (parseTypeIs p) (not f) (ltb (t .node) k) (t .properties)) (s : t .short ≡ true) (rd : Ready e v k a)
-        (mk : MakesProperty x t p takes li c (r .labels) e v k a b) where
+        (mk : MakesProperty x t p takes li c (r .counts .labels) e v k a b) where
       module _ {ids used m : ℕ} {bs is w ia il st cs rs : List ℕ} (y : Known t r ids used fs bs is w ia il st e v m k cs rs a)
-          (at : D.placeIn (elementsOf r fs bs is w) ≡ D.properties (subjectBelow fs w (r .depth)) (count (topFrame r fs))) where
+          (at : D.placeIn (elementsOf r fs bs is w) ≡ D.properties (subjectBelow fs w (r .counts .depth)) (count (topFrame r fs))) where
         says : Says (mk .parts) e b (y .tells .is)
         says = given-says (y .tells) s (mk .keeps) (rd .event) (mk .gives)
 
@@ -231,43 +231,43 @@ module _ {t : Tag} {r : Registers} {fs e v : List ℕ} {k : ℕ} {a : List ℕ} 
                 ap (λ (o : Source). textOf o e b) (mk .own z)
                 ∙ (text-of (madeAt 5120 (t .iri)) e b (iri-says (y .tells) s (mk .keeps) (rd .event)) ∙ sym (own-iri (y .tells .is .iri) (suc c) (sym is-li ∙ z)))
 
-        stated : propertyOf (startBy (propertyPlan p (mk .parts) (mk .property) (t .properties) (pick takes (r .labels + 1) (r .labels))) t li true (mk .property)) e b (subjectBelow fs w (r .depth))
-            ≡ propertyIn (y .tells .is) (subjectBelow fs w (r .depth)) c
+        stated : propertyOf (startBy (propertyPlan p (mk .parts) (mk .property) (t .properties) (pick takes (r .counts .labels + 1) (r .counts .labels))) t li true (mk .property)) e b (subjectBelow fs w (r .counts .depth))
+            ≡ propertyIn (y .tells .is) (subjectBelow fs w (r .counts .depth)) c
         unfolding propertyIn
         stated = made written (ap (λ (o : Source). maybe o e b) (sym (mk .gives .id)) ∙ says .id)
           where
             made : {i₁ i₂ : Bytes} {x₁ x₂ : Option Bytes} → i₁ ≡ i₂ → x₁ ≡ x₂
-                → _≡_ {A = D.Property} (record { subject = subjectBelow fs w (r .depth); iri = i₁; id = x₁ }) (record { subject = subjectBelow fs w (r .depth); iri = i₂; id = x₂ })
+                → _≡_ {A = D.Property} (record { subject = subjectBelow fs w (r .counts .depth); iri = i₁; id = x₁ }) (record { subject = subjectBelow fs w (r .counts .depth); iri = i₂; id = x₂ })
             made p₁ p₂ = rw (p₁, p₂)
 
         -- in the definitions' words
         takes-is : takes ≡ takesLabel (parseTypeIs p) (isSome (y .tells .is .resource)) (isSome (y .tells .is .nodeID)) (t .properties)
         takes-is = tk ∙ rw (tagged y .hasResource, tagged y .hasNodeID)
 
-        one : r .labels + 1 ≡ suc (r .labels)
-        one = add-one (r .labels)
+        one : r .counts .labels + 1 ≡ suc (r .counts .labels)
+        one = add-one (r .counts .labels)
 
-        labelled-as : {q : ParseType} → p ≡ q → takesLabel (parseTypeIs q) (isSome (y .tells .is .resource)) (isSome (y .tells .is .nodeID)) (t .properties) ≡ true → part b 6144 12 ≡ label (suc (r .labels))
+        labelled-as : {q : ParseType} → p ≡ q → takesLabel (parseTypeIs q) (isSome (y .tells .is .resource)) (isSome (y .tells .is .nodeID)) (t .properties) ≡ true → part b 6144 12 ≡ label (suc (r .counts .labels))
         labelled-as z h′ = mk .labelled (takes-is ∙ (ap (λ (o : ParseType). takesLabel (parseTypeIs o) (isSome (y .tells .is .resource)) (isSome (y .tells .is .nodeID)) (t .properties)) z ∙ h′))
 
         does-as : (q : ParseType) → p ≡ q
-            → Does (propertyPlan q (mk .parts) (mk .property) (t .properties) (pick (takesLabel (parseTypeIs q) (isSome (y .tells .is .resource)) (isSome (y .tells .is .nodeID)) (t .properties)) (r .labels + 1) (r .labels)))
-            e b (subjectBelow fs w (r .depth)) (propertyOpened (parseTypeIs q) (y .tells .is) (propertyIn (y .tells .is) (subjectBelow fs w (r .depth)) c) (r .labels))
+            → Does (propertyPlan q (mk .parts) (mk .property) (t .properties) (pick (takesLabel (parseTypeIs q) (isSome (y .tells .is .resource)) (isSome (y .tells .is .nodeID)) (t .properties)) (r .counts .labels + 1) (r .counts .labels)))
+            e b (subjectBelow fs w (r .counts .depth)) (propertyOpened (parseTypeIs q) (y .tells .is) (propertyIn (y .tells .is) (subjectBelow fs w (r .counts .depth)) c) (r .counts .labels))
         unfolding propertyIn
         does-as parse.Absent z =
             rw one
-            (does-default (mk .parts) e b (subjectBelow fs w (r .depth)) says (r .labels) (mk .property) (propertyIn (y .tells .is) (subjectBelow fs w (r .depth)) c) refl written refl (t .properties) (y .tells .properties)
+            (does-default (mk .parts) e b (subjectBelow fs w (r .counts .depth)) says (r .counts .labels) (mk .property) (propertyIn (y .tells .is) (subjectBelow fs w (r .counts .depth)) c) refl written refl (t .properties) (y .tells .properties)
             (labelled-as z))
-        does-as parse.Collection z = does-collection (mk .parts) e b (subjectBelow fs w (r .depth)) says (r .labels) (mk .property) (propertyIn (y .tells .is) (subjectBelow fs w (r .depth)) c) refl written refl
+        does-as parse.Collection z = does-collection (mk .parts) e b (subjectBelow fs w (r .counts .depth)) says (r .counts .labels) (mk .property) (propertyIn (y .tells .is) (subjectBelow fs w (r .counts .depth)) c) refl written refl
         does-as parse.Resource z =
-            rw one (does-resource (mk .parts) e b (subjectBelow fs w (r .depth)) says (r .labels) (mk .property) (propertyIn (y .tells .is) (subjectBelow fs w (r .depth)) c) refl written refl (labelled-as z refl))
-        does-as parse.Literal z = does-literal (mk .parts) e b (subjectBelow fs w (r .depth)) says (r .labels) (mk .property) (propertyIn (y .tells .is) (subjectBelow fs w (r .depth)) c) refl written refl
-        does-as parse.Other z = does-other (mk .parts) e b (subjectBelow fs w (r .depth)) says (r .labels) (mk .property) (propertyIn (y .tells .is) (subjectBelow fs w (r .depth)) c) refl written refl
+            rw one (does-resource (mk .parts) e b (subjectBelow fs w (r .counts .depth)) says (r .counts .labels) (mk .property) (propertyIn (y .tells .is) (subjectBelow fs w (r .counts .depth)) c) refl written refl (labelled-as z refl))
+        does-as parse.Literal z = does-literal (mk .parts) e b (subjectBelow fs w (r .counts .depth)) says (r .counts .labels) (mk .property) (propertyIn (y .tells .is) (subjectBelow fs w (r .counts .depth)) c) refl written refl
+        does-as parse.Other z = does-other (mk .parts) e b (subjectBelow fs w (r .counts .depth)) says (r .counts .labels) (mk .property) (propertyIn (y .tells .is) (subjectBelow fs w (r .counts .depth)) c) refl written refl
 
         -- a default property: has it a node at once?
         default-lines : p ≡ parse.Absent → (u : Bool) → (isSome (y .tells .is .resource) || isSome (y .tells .is .nodeID) || t .properties) ≡ u → (n : ℕ)
-            → propertyOpened noParseType (y .tells .is) (propertyIn (y .tells .is) (subjectBelow fs w (r .depth)) c) (r .labels) .lines
-            ≡ told (defaultPlan (mk .parts) (mk .property) (t .properties) n .lines) (nodeIs false (textOf (mk .property) e b)) (nodeIs (eqb (objectIn (mk .parts) (t .properties) .what) 2) (textOf (objectIn (mk .parts) (t .properties) .source) e b)) (y .tells .is .language) (y .tells .is .attributes) (y .tells .is .type) (elementType (y .tells .is .iri)) (propertyIn (y .tells .is) (subjectBelow fs w (r .depth)) c)
+            → propertyOpened noParseType (y .tells .is) (propertyIn (y .tells .is) (subjectBelow fs w (r .counts .depth)) c) (r .counts .labels) .lines
+            ≡ told (defaultPlan (mk .parts) (mk .property) (t .properties) n .lines) (nodeIs false (textOf (mk .property) e b)) (nodeIs (eqb (objectIn (mk .parts) (t .properties) .what) 2) (textOf (objectIn (mk .parts) (t .properties) .source) e b)) (y .tells .is .language) (y .tells .is .attributes) (y .tells .is .type) (elementType (y .tells .is .iri)) (propertyIn (y .tells .is) (subjectBelow fs w (r .counts .depth)) c)
         unfolding propertyOpened hasNode J.objectIn told tagLines if_then_else_
         default-lines z true u n =
             let g = no-object (mk .parts) says (t .properties) in
@@ -275,45 +275,45 @@ module _ {t : Tag} {r : Registers} {fs e v : List ℕ} {k : ℕ} {a : List ℕ} 
               ← (y .tells .properties),
               u,
               g ∙ ap not u,
-              object-subject e b (label (suc (r .labels))) (mk .parts) says (t .properties) u (λ a′ b′. labelled-as z (rw (a′, b′) (without (isSome (y .tells .is .resource)) (isSome (y .tells .is .nodeID)) (t .properties) u a′ b′))),
+              object-subject e b (label (suc (r .counts .labels))) (mk .parts) says (t .properties) u (λ a′ b′. labelled-as z (rw (a′, b′) (without (isSome (y .tells .is .resource)) (isSome (y .tells .is .nodeID)) (t .properties) u a′ b′))),
             )
         default-lines z false u n =
             let g = no-object (mk .parts) says (t .properties) in
             rw (← (y .tells .properties), u, g ∙ ap not u)
 
         -- what is carried out, with this rdf:parseType
-        lines-as : (q : ParseType) → p ≡ q → (x′ : Start) → x′ ≡ startBy (propertyPlan q (mk .parts) (mk .property) (t .properties) (pick (takesLabel (parseTypeIs q) (isSome (y .tells .is .resource)) (isSome (y .tells .is .nodeID)) (t .properties)) (r .labels + 1) (r .labels))) t li true (mk .property)
-            → propertyOf x′ e b (subjectBelow fs w (r .depth)) ≡ propertyIn (y .tells .is) (subjectBelow fs w (r .depth)) c
-            → propertyOpened (parseTypeIs q) (y .tells .is) (propertyIn (y .tells .is) (subjectBelow fs w (r .depth)) c) (r .labels) .lines
-            ≡ told (x′ .plan .lines) (mainOf x′ e b) (objectOf x′ e b) (y .tells .is .language) (y .tells .is .attributes) (y .tells .is .type) (elementType (y .tells .is .iri)) (propertyIn (y .tells .is) (subjectBelow fs w (r .depth)) c)
+        lines-as : (q : ParseType) → p ≡ q → (x′ : Start) → x′ ≡ startBy (propertyPlan q (mk .parts) (mk .property) (t .properties) (pick (takesLabel (parseTypeIs q) (isSome (y .tells .is .resource)) (isSome (y .tells .is .nodeID)) (t .properties)) (r .counts .labels + 1) (r .counts .labels))) t li true (mk .property)
+            → propertyOf x′ e b (subjectBelow fs w (r .counts .depth)) ≡ propertyIn (y .tells .is) (subjectBelow fs w (r .counts .depth)) c
+            → propertyOpened (parseTypeIs q) (y .tells .is) (propertyIn (y .tells .is) (subjectBelow fs w (r .counts .depth)) c) (r .counts .labels) .lines
+            ≡ told (x′ .plan .lines) (mainOf x′ e b) (objectOf x′ e b) (y .tells .is .language) (y .tells .is .attributes) (y .tells .is .type) (elementType (y .tells .is .iri)) (propertyIn (y .tells .is) (subjectBelow fs w (r .counts .depth)) c)
         unfolding propertyOpened told nodeIs textOf
-        lines-as parse.Absent z x′ g o = rw g (default-lines z (isSome (y .tells .is .resource) || isSome (y .tells .is .nodeID) || t .properties) refl (r .labels))
+        lines-as parse.Absent z x′ g o = rw g (default-lines z (isSome (y .tells .is .resource) || isSome (y .tells .is .nodeID) || t .properties) refl (r .counts .labels))
         lines-as parse.Collection z x′ g o = rw g
         lines-as parse.Resource z x′ g o = rw (g, labelled-as z refl)
         lines-as parse.Literal z x′ g o = rw g
         lines-as parse.Other z x′ g o = rw g
 
-        drafted : topFrame r fs .kind ≡ NodeElt → r .depth ≤ 64 → length fs ≡ TABLE → Waits x r ids used fs bs is w ia il st e v m k cs rs b
+        drafted : topFrame r fs .kind ≡ NodeElt → r .counts .depth ≤ 64 → length fs ≡ TABLE → Waits x r ids used fs bs is w ia il st e v m k cs rs b
         drafted kd dp fw =
             rw is-so
             (waits y (opens y at) s (mk .keeps) (rd .event) (mk .gives) (base-of p (mk .parts) (mk .property) (t .properties) _) (tag-of p (mk .parts) (mk .property) (t .properties) _) (does-as p refl) li true (mk .property)
-            (sym (ap not (not-description (y .tells .is .iri) (good-property (y .tells .is) (subjectBelow fs w (r .depth)) c (r .labels) (sym (asked y at) ∙ opens y at)))))
+            (sym (ap not (not-description (y .tells .is .iri) (good-property (y .tells .is) (subjectBelow fs w (r .counts .depth)) c (r .counts .labels) (sym (asked y at) ∙ opens y at)))))
             (sym is-li) (λ u. record { kind = kd; few = numbers u }) few-labels (stands-in r fs kd dp fw (the-plan .parts .kind))
             (lines-as p refl (startBy the-plan t li true (mk .property)) refl stated
             ∙ ap (told (the-plan .lines) (mainOf (startBy the-plan t li true (mk .property)) e b) (objectOf (startBy the-plan t li true (mk .property)) e b) (y .tells .is .language) (y .tells .is .attributes) (y .tells .is .type) (elementType (y .tells .is .iri))) (sym stated)))
           where
             -- the plan, in the definitions' words
             the-plan : Plan
-            the-plan = propertyPlan p (mk .parts) (mk .property) (t .properties) (pick (takesLabel (parseTypeIs p) (isSome (y .tells .is .resource)) (isSome (y .tells .is .nodeID)) (t .properties)) (r .labels + 1) (r .labels))
+            the-plan = propertyPlan p (mk .parts) (mk .property) (t .properties) (pick (takesLabel (parseTypeIs p) (isSome (y .tells .is .resource)) (isSome (y .tells .is .nodeID)) (t .properties)) (r .counts .labels + 1) (r .counts .labels))
 
             is-so : x ≡ startBy the-plan t li true (mk .property)
-            is-so = mk .is ∙ ap (λ (u : Bool). startBy (propertyPlan p (mk .parts) (mk .property) (t .properties) (pick u (r .labels + 1) (r .labels))) t li true (mk .property)) takes-is
+            is-so = mk .is ∙ ap (λ (u : Bool). startBy (propertyPlan p (mk .parts) (mk .property) (t .properties) (pick u (r .counts .labels + 1) (r .counts .labels))) t li true (mk .property)) takes-is
 
             numbers : li ≡ true → count (topFrame r fs) < 99_999_999
             numbers u = rw (← cp) (li-left jg h u)
 
             few-labels : the-plan .labels ≤ 99_999_999
-            few-labels = rw (labels-of p (mk .parts) (mk .property) (t .properties) (pick (takesLabel (parseTypeIs p) (isSome (y .tells .is .resource)) (isSome (y .tells .is .nodeID)) (t .properties)) (r .labels + 1) (r .labels)))
+            few-labels = rw (labels-of p (mk .parts) (mk .property) (t .properties) (pick (takesLabel (parseTypeIs p) (isSome (y .tells .is .resource)) (isSome (y .tells .is .nodeID)) (t .properties)) (r .counts .labels + 1) (r .counts .labels)))
                 (at-most (takesLabel (parseTypeIs p) (isSome (y .tells .is .resource)) (isSome (y .tells .is .nodeID)) (t .properties)) (y .lawful .valid .labels) (λ u. label-left jg h (sym (sym takes-is ∙ tk) ∙ u)))
 
       pub property-judged : JudgesProperty (Go x) t r fs e v k a b

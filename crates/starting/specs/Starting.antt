@@ -41,7 +41,7 @@ use Rattle.starting.specs.Nodes.{Ready}
 -- a lawful state, and a decoded start tag that stands outside Literal content
 pub record Asks (r : Registers) (count used : ℕ) (l : Lent) (e v : List ℕ) (m c k : ℕ) (a : List ℕ) : Type 0 where
   pub lawful : Lawful r count used l
-  pub level : r .inner ≡ 0
+  pub level : r .counts .inner ≡ 0
   pub outer : isXml (placeIn (elementsOf r (l .frames) (l .bindings) (l .inners) (l .work))) ≡ false
   pub tag : Decoded e v m c k
   pub ready : Ready e v k a
@@ -77,7 +77,7 @@ module _ {r : Registers} {count used : ℕ} {fs bs is w ia il st e v : List ℕ}
       formed : Formed r fs bs is w e v m k ds
       formed = rw h at (ch .cases)
 
-      pub tag-asks : T.Asks e v m c k w bs (r .bindings) ds rs a
+      pub tag-asks : T.Asks e v m c k w bs (r .counts .bindings) ds rs a
       tag-asks =
           record {
             event = x .ready .event;

@@ -65,7 +65,7 @@ pub fn judge_tag(
             let plan = x.plan;
             let parts = plan.parts;
             let id = x.id;
-            if !fits(parts, id, r.top, count, used, scratch, spans, m, k, area) {
+            if !fits(parts, id, r.store.top, count, used, scratch, spans, m, k, area) {
                 return Verdict::Stop(Refusal::OverLimit);
             }
             Verdict::Go(x)
@@ -89,7 +89,7 @@ fn draft(
     let iri = t.iri;
     let place = event::place_at(r, frames);
     match opened_at(place, iri_text(iri, area)) {
-        Opens::Rdf => judge_root(t, r.labels, scratch, spans, k),
+        Opens::Rdf => judge_root(t, r.counts.labels, scratch, spans, k),
         Opens::Node => judge_node(t, r, scratch, spans, k, area),
         Opens::Property => judge_property(t, r, frames, scratch, spans, k, area),
     }
@@ -147,13 +147,13 @@ fn judge_node(
     let described = production::is_description(name);
     let named = !is_missing(id);
     let told = !is_missing(about);
-    match production::judge_node(reserved, named, t.node < k, told, r.labels) {
+    match production::judge_node(reserved, named, t.node < k, told, r.counts.labels) {
         Judgment::Stop(why) => Verdict::Stop(why),
         Judgment::Good => {
             if !t.short {
                 return Verdict::Stop(Refusal::OverLimit);
             }
-            let x = make_node(t, !described, r.labels, scratch, spans, k, area);
+            let x = make_node(t, !described, r.counts.labels, scratch, spans, k, area);
             Verdict::Go(x)
         }
     }
@@ -190,7 +190,7 @@ fn judge_property(
         resource,
         t.node < k,
         t.properties,
-        r.labels,
+        r.counts.labels,
     ) {
         Judgment::Stop(why) => Verdict::Stop(why),
         Judgment::Good => {
@@ -204,7 +204,7 @@ fn judge_property(
                 takes,
                 li,
                 numbers,
-                r.labels,
+                r.counts.labels,
                 scratch,
                 spans,
                 k,

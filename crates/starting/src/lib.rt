@@ -39,7 +39,7 @@ pub fn start_outside(
     area: &mut [u8],
     out: &mut [u8],
 ) -> Progress
-    requires { ⌜ Asks r count used (lent (now frames) (now bindings) (now inners) (now work) (now places) (now sizes) (now ids) (now out)) (now scratch) (now spans) m c k (now area) × (r .closed ≡ false) ⌝ }
+    requires { ⌜ Asks r count used (lent (now frames) (now bindings) (now inners) (now work) (now places) (now sizes) (now ids) (now out)) (now scratch) (now spans) m c k (now area) × (r .flags .closed ≡ false) ⌝ }
     ensures { λ o. ⌜ HandlesAll (opening (take m (now (scratch .entry))) (attributesOf (now (scratch .entry)) (now (spans .entry)) k)) r count o (lent (now (frames .entry)) (now (bindings .entry)) (now (inners .entry)) (now (work .entry)) (now (places .entry)) (now (sizes .entry)) (now (ids .entry)) (now (out .entry))) (lent (now (frames .exit)) (now (bindings .exit)) (now (inners .entry)) (now (work .exit)) (now (places .exit)) (now (sizes .exit)) (now (ids .exit)) (now (out .exit))) × (length (now (area .exit)) ≡ length (now (area .entry))) ⌝ }
 {
     let mut classes = [0usize; Class::TABLE];

@@ -194,9 +194,9 @@ total-append [] ys = omega arith
 total-append (x ∷ xs) ys = omega (arith, total-append xs ys)
 
 pub record Room (r : Registers) : Type 0 where
-  pub low : r .low ≤ 65_536
-  pub outer : r .outer ≤ r .bindings
-  pub base : r .base ≤ r .top
+  pub low : r .store .low ≤ 65_536
+  pub outer : r .counts .outer ≤ r .counts .bindings
+  pub base : r .store .base ≤ r .store .top
 
 pub frames-base : (fs bs w : List ℕ) (base n top b : ℕ) → framesOk fs bs w base n top b ≡ true → base ≤ top
 unfolding framesOk
@@ -210,18 +210,18 @@ frames-base fs bs w base (suc n) top b h =
 -- what else is known of the registers of a valid state
 pub room : {r : Registers} {fs bs is w : List ℕ} → Valid r fs bs is w → Room r
 room {r} {fs} {bs} {is} {w} v =
-    let i = inners-up is bs (r .outer) (r .inner) (r .low) (r .bindings) (v .inners) in
-    record { low = i .0; outer = i .1; base = frames-base fs bs w (r .base) (r .depth) (r .top) (r .outer) (v .frames) }
+    let i = inners-up is bs (r .counts .outer) (r .counts .inner) (r .store .low) (r .counts .bindings) (v .inners) in
+    record { low = i .0; outer = i .1; base = frames-base fs bs w (r .store .base) (r .counts .depth) (r .store .top) (r .counts .outer) (v .frames) }
 
-size-start : (r : Registers) (w : List ℕ) → pick (r .based) true (eqb (r .base) 0) ≡ true → r .base ≤ length w → sizeOf (startOf r w) ≡ r .base
+size-start : (r : Registers) (w : List ℕ) → pick (r .flags .based) true (eqb (r .store .base) 0) ≡ true → r .store .base ≤ length w → sizeOf (startOf r w) ≡ r .store .base
 unfolding startOf sizeOf
-size-start r w h l = go (r .based) h
+size-start r w h l = go (r .flags .based) h
   where
-    go : (t : Bool) → pick t true (eqb (r .base) 0) ≡ true → sizeOf (pick t (some (part w 0 (r .base))) none) ≡ r .base
-    go true x = length-part w 0 (r .base) (omega arith)
-    go false x = sym (eqb-true (r .base) 0 x)
+    go : (t : Bool) → pick t true (eqb (r .store .base) 0) ≡ true → sizeOf (pick t (some (part w 0 (r .store .base))) none) ≡ r .store .base
+    go true x = length-part w 0 (r .store .base) (omega arith)
+    go false x = sym (eqb-true (r .store .base) 0 x)
 
-pub held : {r : Registers} {fs bs is w : List ℕ} → Valid r fs bs is w → (ids : List Bytes) → heldBytes (docOf r fs bs is w ids) ≡ r .top + (65_536 - r .low)
+pub held : {r : Registers} {fs bs is w : List ℕ} → Valid r fs bs is w → (ids : List Bytes) → heldBytes (docOf r fs bs is w ids) ≡ r .store .top + (65_536 - r .store .low)
 unfolding heldBytes docOf elementsOf
 held {r} {fs} {bs} {is} {w} v ids =
     let m = room v in
@@ -229,9 +229,9 @@ held {r} {fs} {bs} {is} {w} v ids =
     let b = v .store in
     omega (
       arith,
-      total-append (innersOf is bs w (r .inner) (r .bindings)) (framesOf fs bs w (r .depth) (r .outer)),
-      size-inners is bs w (r .outer) (r .inner) (r .low) (r .bindings) (v .inners) b,
-      size-frames fs bs w (r .base) (r .depth) (r .top) (r .outer) (v .frames) (omega arith),
+      total-append (innersOf is bs w (r .counts .inner) (r .counts .bindings)) (framesOf fs bs w (r .counts .depth) (r .counts .outer)),
+      size-inners is bs w (r .counts .outer) (r .counts .inner) (r .store .low) (r .counts .bindings) (v .inners) b,
+      size-frames fs bs w (r .store .base) (r .counts .depth) (r .store .top) (r .counts .outer) (v .frames) (omega arith),
       size-start r w (v .based) (omega arith),
     )
 
@@ -245,12 +245,12 @@ unfolding innersOf
 length-inners is bs w zero b = refl
 length-inners is bs w (suc n) b = ap suc (length-inners is bs w n (rowAt is n .more))
 
-pub depth : (r : Registers) (fs bs is w : List ℕ) → length (elementsOf r fs bs is w) ≡ r .depth + r .inner
+pub depth : (r : Registers) (fs bs is w : List ℕ) → length (elementsOf r fs bs is w) ≡ r .counts .depth + r .counts .inner
 unfolding elementsOf
 depth r fs bs is w =
     omega (
       arith,
-      length-append (innersOf is bs w (r .inner) (r .bindings)) (framesOf fs bs w (r .depth) (r .outer)),
-      length-frames fs bs w (r .depth) (r .outer),
-      length-inners is bs w (r .inner) (r .bindings),
+      length-append (innersOf is bs w (r .counts .inner) (r .counts .bindings)) (framesOf fs bs w (r .counts .depth) (r .counts .outer)),
+      length-frames fs bs w (r .counts .depth) (r .counts .outer),
+      length-inners is bs w (r .counts .inner) (r .counts .bindings),
     )

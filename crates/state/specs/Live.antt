@@ -51,8 +51,8 @@ within-frames fs bs w base (suc n) top b h i l =
     (split i n l)
 
 -- the one citation at a read: a live frame's places lie in the work store
-pub live : {r : Registers} {fs bs is w : List ℕ} → Valid r fs bs is w → (i : ℕ) → i < r .depth → Within (frameAt fs i) (r .top)
-live {r} {fs} {bs} {is} {w} v i l = within-frames fs bs w (r .base) (r .depth) (r .top) (r .outer) (v .frames) i l
+pub live : {r : Registers} {fs bs is w : List ℕ} → Valid r fs bs is w → (i : ℕ) → i < r .counts .depth → Within (frameAt fs i) (r .store .top)
+live {r} {fs} {bs} {is} {w} v i l = within-frames fs bs w (r .store .base) (r .counts .depth) (r .store .top) (r .counts .outer) (v .frames) i l
 
 -- ---- bindings
 
@@ -93,13 +93,13 @@ within-inner is bs outer (suc n) low b h j u l =
     (below j (rowAt is n .more))
 
 -- a live binding's bytes lie in the work store
-pub live-binding : {r : Registers} {fs bs is w : List ℕ} → Valid r fs bs is w → (j : ℕ) → j < r .bindings → rowAt bs j .at + rowAt bs j .name + rowAt bs j .more ≤ 65_536
+pub live-binding : {r : Registers} {fs bs is w : List ℕ} → Valid r fs bs is w → (j : ℕ) → j < r .counts .bindings → rowAt bs j .at + rowAt bs j .name + rowAt bs j .more ≤ 65_536
 live-binding {r} {fs} {bs} {is} {w} v j l =
     let o = room v in
     ⊎-elim
-    (λ (k : j < r .outer). omega (arith, o .low, v .apart, within-outer fs bs w (r .base) (r .depth) (r .top) (r .outer) (v .frames) j k))
-    (λ (k : r .outer ≤ j). within-inner is bs (r .outer) (r .inner) (r .low) (r .bindings) (v .inners) j k l)
-    (below j (r .outer))
+    (λ (k : j < r .counts .outer). omega (arith, o .low, v .apart, within-outer fs bs w (r .store .base) (r .counts .depth) (r .store .top) (r .counts .outer) (v .frames) j k))
+    (λ (k : r .counts .outer ≤ j). within-inner is bs (r .counts .outer) (r .counts .inner) (r .store .low) (r .counts .bindings) (v .inners) j k l)
+    (below j (r .counts .outer))
 
 -- ---- the bindings in scope
 
@@ -131,22 +131,21 @@ scope-inners is bs w outer (suc n) low b es h q =
     (sym (bindings-join bs w (rowAt is n .more) (b - rowAt is n .more)) ∙ ap (bindingsOf bs w 0) e)
 
 -- the rows of the table, from the last to the first, are the bindings in scope
-pub in-scope : {r : Registers} {fs bs is w : List ℕ} → Valid r fs bs is w → inScope (elementsOf r fs bs is w) ≡ bindingsOf bs w 0 (r .bindings)
+pub in-scope : {r : Registers} {fs bs is w : List ℕ} → Valid r fs bs is w → inScope (elementsOf r fs bs is w) ≡ bindingsOf bs w 0 (r .counts .bindings)
 unfolding elementsOf
 in-scope {r} {fs} {bs} {is} {w} v =
-    scope-inners is bs w (r .outer) (r .inner) (r .low) (r .bindings) (framesOf fs bs w (r .depth) (r .outer)) (v .inners) (scope-frames fs bs w (r .base) (r .depth) (r .top) (r .outer) (v .frames))
+    scope-inners is bs w (r .counts .outer) (r .counts .inner) (r .store .low) (r .counts .bindings) (framesOf fs bs w (r .counts .depth) (r .counts .outer)) (v .inners) (scope-frames fs bs w (r .store .base) (r .counts .depth) (r .store .top) (r .counts .outer) (v .frames))
 
 -- ---- a document that begins
 
 -- the registers of a fresh document with a start base of n bytes, if there is one
 abbrev pub startedWith : Bool → ℕ → Registers
 startedWith b n =
-    record { closed = false; rooted = false; based = b; base = n; depth = 0; inner = 0; outer = 0; bindings = 0; top = n; low = 65_536; labels = 0 }
-
--- before any document
-abbrev pub noRegisters : Registers
-noRegisters =
-    record { closed = true; rooted = false; based = false; base = 0; depth = 0; inner = 0; outer = 0; bindings = 0; top = 0; low = 65_536; labels = 0 }
+    record {
+      flags = record { closed = false; rooted = false; based = b };
+      store = record { base = n; top = n; low = 65_536 };
+      counts = record { depth = 0; inner = 0; outer = 0; bindings = 0; labels = 0 };
+    }
 
 -- whatever tables and store hold behind the start base
 pub started : (b : Bool) (n : ℕ) (fs bs is w : List ℕ) → length fs ≡ TABLE → length bs ≡ 384 → length is ≡ 192 → length w ≡ 65_536 → n ≤ 65_536 → pick b true (eqb n 0) ≡ true

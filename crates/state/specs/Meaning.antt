@@ -134,12 +134,12 @@ innersOf is bs w (suc n) b =
 
 -- the start base
 unfoldable pub startOf : Registers → List ℕ → Option Bytes
-startOf r w = pick (r .based) (some (part w 0 (r .base))) none
+startOf r w = pick (r .flags .based) (some (part w 0 (r .store .base))) none
 
 -- the open elements, innermost first
 unfoldable pub elementsOf : Registers → List ℕ → List ℕ → List ℕ → List ℕ → List Element
-elementsOf r fs bs is w = innersOf is bs w (r .inner) (r .bindings) ++ framesOf fs bs w (r .depth) (r .outer)
+elementsOf r fs bs is w = innersOf is bs w (r .counts .inner) (r .counts .bindings) ++ framesOf fs bs w (r .counts .depth) (r .counts .outer)
 
 -- registers, frames, bindings, inner elements, work store; the rdf:IDs are kept elsewhere
 unfoldable pub docOf : Registers → List ℕ → List ℕ → List ℕ → List ℕ → List Bytes → Doc
-docOf r fs bs is w ids = record { startBase = startOf r w; frames = elementsOf r fs bs is w; rooted = r .rooted; labels = r .labels; ids = ids }
+docOf r fs bs is w ids = record { startBase = startOf r w; frames = elementsOf r fs bs is w; rooted = r .flags .rooted; labels = r .counts .labels; ids = ids }

@@ -114,28 +114,28 @@ module _ {w : List ℕ} {from n to i e : ℕ} (c : ChildWalk w from n to i e) wh
 -- ---- counts and lengths
 
 module _ (r : Registers) where
-  pub too-deep : 64 < r .depth + r .inner → false ≡ countsOk r
+  pub too-deep : 64 < r .counts .depth + r .counts .inner → false ≡ countsOk r
   unfolding countsOk mostOpenElements
-  too-deep h = rw (lt-leb (r .depth + r .inner) 64 h)
+  too-deep h = rw (lt-leb (r .counts .depth + r .counts .inner) 64 h)
 
-  module _ (d : r .depth + r .inner ≤ 64) where
-    pub too-many : 128 < r .bindings → false ≡ countsOk r
+  module _ (d : r .counts .depth + r .counts .inner ≤ 64) where
+    pub too-many : 128 < r .counts .bindings → false ≡ countsOk r
     unfolding countsOk mostOpenElements mostBindings
-    too-many h = rw (le-leb (r .depth + r .inner) 64 d, lt-leb (r .bindings) 128 h)
+    too-many h = rw (le-leb (r .counts .depth + r .counts .inner) 64 d, lt-leb (r .counts .bindings) 128 h)
 
-    module _ (b : r .bindings ≤ 128) where
-      pub too-high : r .low < r .top → false ≡ countsOk r
+    module _ (b : r .counts .bindings ≤ 128) where
+      pub too-high : r .store .low < r .store .top → false ≡ countsOk r
       unfolding countsOk mostOpenElements mostBindings
-      too-high h = rw (le-leb (r .depth + r .inner) 64 d, le-leb (r .bindings) 128 b, lt-leb (r .top) (r .low) h)
+      too-high h = rw (le-leb (r .counts .depth + r .counts .inner) 64 d, le-leb (r .counts .bindings) 128 b, lt-leb (r .store .top) (r .store .low) h)
 
-      module _ (t : r .top ≤ r .low) where
-        pub no-base : pick (r .based) true (eqb (r .base) 0) ≡ false → false ≡ countsOk r
+      module _ (t : r .store .top ≤ r .store .low) where
+        pub no-base : pick (r .flags .based) true (eqb (r .store .base) 0) ≡ false → false ≡ countsOk r
         unfolding countsOk mostOpenElements mostBindings
-        no-base e = rw (le-leb (r .depth + r .inner) 64 d, le-leb (r .bindings) 128 b, le-leb (r .top) (r .low) t, e)
+        no-base e = rw (le-leb (r .counts .depth + r .counts .inner) 64 d, le-leb (r .counts .bindings) 128 b, le-leb (r .store .top) (r .store .low) t, e)
 
-        pub labels-decide : pick (r .based) true (eqb (r .base) 0) ≡ true → leb (r .labels) 99_999_999 ≡ countsOk r
+        pub labels-decide : pick (r .flags .based) true (eqb (r .store .base) 0) ≡ true → leb (r .counts .labels) 99_999_999 ≡ countsOk r
         unfolding countsOk mostOpenElements mostBindings mostLabels
-        labels-decide e = rw (le-leb (r .depth + r .inner) 64 d, le-leb (r .bindings) 128 b, le-leb (r .top) (r .low) t, e)
+        labels-decide e = rw (le-leb (r .counts .depth + r .counts .inner) 64 d, le-leb (r .counts .bindings) 128 b, le-leb (r .store .top) (r .store .low) t, e)
 
 module _ (fs bs is w : List ℕ) where
   pub other-frames : (length fs ≡ TABLE → ⊥) → false ≡ lengthsOk fs bs is w
@@ -312,9 +312,9 @@ pub record Sized (r : Registers) (fs bs is w : List ℕ) : Type 0 where
   pub bindings : length bs ≡ 384
   pub inners : length is ≡ 192
   pub store : length w ≡ 65_536
-  pub deep : r .depth + r .inner ≤ 64
-  pub bound : r .bindings ≤ 128
-  pub apart : r .top ≤ r .low
+  pub deep : r .counts .depth + r .counts .inner ≤ 64
+  pub bound : r .counts .bindings ≤ 128
+  pub apart : r .store .top ≤ r .store .low
 
 module _ (r : Registers) (fs bs is w : List ℕ) where
   pub wrong-lengths : lengthsOk fs bs is w ≡ false → false ≡ validState r fs bs is w
@@ -332,8 +332,8 @@ module _ (r : Registers) (fs bs is w : List ℕ) where
       sized =
           let l1 = and-right (eqb (length fs) TABLE) _ l in
           let l2 = and-right (eqb (length bs) 384) _ l1 in
-          let c1 = and-right (leb (r .depth + r .inner) 64) _ c in
-          let c2 = and-right (leb (r .bindings) 128) _ c1 in
+          let c1 = and-right (leb (r .counts .depth + r .counts .inner) 64) _ c in
+          let c2 = and-right (leb (r .counts .bindings) 128) _ c1 in
           record {
             frames = eqb-true _ _ (and-left _ _ l);
             bindings = eqb-true _ _ (and-left _ _ l1);
@@ -344,17 +344,17 @@ module _ (r : Registers) (fs bs is w : List ℕ) where
             apart = leb-true _ _ (and-left _ _ c2);
           }
 
-      pub wrong-inners : innersOk is bs (r .outer) (r .inner) (r .low) (r .bindings) ≡ false → false ≡ validState r fs bs is w
+      pub wrong-inners : innersOk is bs (r .counts .outer) (r .counts .inner) (r .store .low) (r .counts .bindings) ≡ false → false ≡ validState r fs bs is w
       unfolding validState
       wrong-inners h = rw (l, c, h)
 
-      module _ (i : innersOk is bs (r .outer) (r .inner) (r .low) (r .bindings) ≡ true) where
-        pub frames-decide : {q : Bool} → q ≡ framesOk fs bs w (r .base) (r .depth) (r .top) (r .outer) → q ≡ validState r fs bs is w
+      module _ (i : innersOk is bs (r .counts .outer) (r .counts .inner) (r .store .low) (r .counts .bindings) ≡ true) where
+        pub frames-decide : {q : Bool} → q ≡ framesOk fs bs w (r .store .base) (r .counts .depth) (r .store .top) (r .counts .outer) → q ≡ validState r fs bs is w
         unfolding validState
         frames-decide e = rw (l, c, i) e
 
-        pub frames-fit : (r .depth * FRAME ≤ length fs) × (r .outer * 3 ≤ length bs) × (r .top ≤ length w)
+        pub frames-fit : (r .counts .depth * FRAME ≤ length fs) × (r .counts .outer * 3 ≤ length bs) × (r .store .top ≤ length w)
         frames-fit =
             let s = sized in
-            let u = inners-up is bs (r .outer) (r .inner) (r .low) (r .bindings) i in
+            let u = inners-up is bs (r .counts .outer) (r .counts .inner) (r .store .low) (r .counts .bindings) i in
             (omega arith, omega (arith, u .1), omega (arith, u .0))

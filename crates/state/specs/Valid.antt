@@ -110,8 +110,8 @@ innersOk is bs outer (suc n) low b =
 
 unfoldable pub countsOk : Registers → Bool
 countsOk r =
-    leb (r .depth + r .inner) mostOpenElements
-    && (leb (r .bindings) mostBindings && (leb (r .top) (r .low) && (pick (r .based) true (eqb (r .base) 0) && leb (r .labels) mostLabels)))
+    leb (r .counts .depth + r .counts .inner) mostOpenElements
+    && (leb (r .counts .bindings) mostBindings && (leb (r .store .top) (r .store .low) && (pick (r .flags .based) true (eqb (r .store .base) 0) && leb (r .counts .labels) mostLabels)))
 
 unfoldable pub lengthsOk : List ℕ → List ℕ → List ℕ → List ℕ → Bool
 lengthsOk fs bs is w =
@@ -120,7 +120,7 @@ lengthsOk fs bs is w =
 unfoldable pub validState : Registers → List ℕ → List ℕ → List ℕ → List ℕ → Bool
 validState r fs bs is w =
     lengthsOk fs bs is w
-    && (countsOk r && (innersOk is bs (r .outer) (r .inner) (r .low) (r .bindings) && framesOk fs bs w (r .base) (r .depth) (r .top) (r .outer)))
+    && (countsOk r && (innersOk is bs (r .counts .outer) (r .counts .inner) (r .store .low) (r .counts .bindings) && framesOk fs bs w (r .store .base) (r .counts .depth) (r .store .top) (r .counts .outer)))
 
 -- ---- the same as facts
 
@@ -155,13 +155,13 @@ pub record Valid (r : Registers) (fs bs is w : List ℕ) : Type 0 where
   pub bindingWords : length bs ≡ 384
   pub innerWords : length is ≡ 192
   pub store : length w ≡ 65_536
-  pub deep : r .depth + r .inner ≤ 64
-  pub bound : r .bindings ≤ 128
-  pub apart : r .top ≤ r .low
-  pub based : pick (r .based) true (eqb (r .base) 0) ≡ true
-  pub labels : r .labels ≤ 99_999_999
-  pub frames : framesOk fs bs w (r .base) (r .depth) (r .top) (r .outer) ≡ true
-  pub inners : innersOk is bs (r .outer) (r .inner) (r .low) (r .bindings) ≡ true
+  pub deep : r .counts .depth + r .counts .inner ≤ 64
+  pub bound : r .counts .bindings ≤ 128
+  pub apart : r .store .top ≤ r .store .low
+  pub based : pick (r .flags .based) true (eqb (r .store .base) 0) ≡ true
+  pub labels : r .counts .labels ≤ 99_999_999
+  pub frames : framesOk fs bs w (r .store .base) (r .counts .depth) (r .store .top) (r .counts .outer) ≡ true
+  pub inners : innersOk is bs (r .counts .outer) (r .counts .inner) (r .store .low) (r .counts .bindings) ≡ true
 
 pub rising : (f : Frame) → rises (f .at) END ≡ true → Rising f
 unfolding rises
@@ -275,9 +275,9 @@ module _ (r : Registers) (fs bs is w : List ℕ) where
       let l2 = and-right (eqb (length bs) 384) _ l1 in
       let h1 = and-right (lengthsOk fs bs is w) _ h in
       let c = and-left (countsOk r) _ h1 in
-      let c1 = and-right (leb (r .depth + r .inner) 64) _ c in
-      let c2 = and-right (leb (r .bindings) 128) _ c1 in
-      let c3 = and-right (leb (r .top) (r .low)) _ c2 in
+      let c1 = and-right (leb (r .counts .depth + r .counts .inner) 64) _ c in
+      let c2 = and-right (leb (r .counts .bindings) 128) _ c1 in
+      let c3 = and-right (leb (r .store .top) (r .store .low)) _ c2 in
       let h2 = and-right (countsOk r) _ h1 in
       record {
         frameWords = eqb-true _ _ (and-left _ _ l);
@@ -288,8 +288,8 @@ module _ (r : Registers) (fs bs is w : List ℕ) where
         bound = leb-true _ _ (and-left _ _ c1);
         apart = leb-true _ _ (and-left _ _ c2);
         based = and-left _ _ c3;
-        labels = leb-true _ _ (and-right (pick (r .based) true (eqb (r .base) 0)) _ c3);
-        frames = and-right (innersOk is bs (r .outer) (r .inner) (r .low) (r .bindings)) _ h2;
+        labels = leb-true _ _ (and-right (pick (r .flags .based) true (eqb (r .store .base) 0)) _ c3);
+        frames = and-right (innersOk is bs (r .counts .outer) (r .counts .inner) (r .store .low) (r .counts .bindings)) _ h2;
         inners = and-left _ _ h2;
       }
 
@@ -301,11 +301,11 @@ module _ (r : Registers) (fs bs is w : List ℕ) where
         eq-eqb (length bs) 384 (v .bindingWords),
         eq-eqb (length is) 192 (v .innerWords),
         eq-eqb (length w) 65_536 (v .store),
-        le-leb (r .depth + r .inner) 64 (v .deep),
-        le-leb (r .bindings) 128 (v .bound),
-        le-leb (r .top) (r .low) (v .apart),
+        le-leb (r .counts .depth + r .counts .inner) 64 (v .deep),
+        le-leb (r .counts .bindings) 128 (v .bound),
+        le-leb (r .store .top) (r .store .low) (v .apart),
         v .based,
-        le-leb (r .labels) 99_999_999 (v .labels),
+        le-leb (r .counts .labels) 99_999_999 (v .labels),
         v .inners,
         v .frames,
       )

@@ -12,23 +12,37 @@ ghost use Rattle.state.specs.Valid.{rises, emptyOr, partsOk, chained, ch
 use frames::Frame;
 use frames::Kind;
 use frames::Row;
-ghost use Rattle.state.specs.Live.{startedWith, noRegisters};
+ghost use Rattle.state.specs.Live.{startedWith};
 use frames::wide;
 use label::BlankNodeIdGenerator;
 
-// The numbers of a document. `base` is the start base's length; `depth` counts the open elements outside Literal content, `inner` those
-// inside; `outer` counts the bindings that the former declare, `bindings` all. The work store is used up to `top` and from `low` on.
+// The numbers of a document, in groups: one more number touches the literals of its own group.
 pub struct Registers {
+    pub flags: Flags,
+    pub store: Store,
+    pub counts: Counts,
+}
+
+// No call goes on from a closed document; there was a root; there is a start base.
+pub struct Flags {
     pub closed: bool,
     pub rooted: bool,
     pub based: bool,
+}
+
+// The work store is used up to `top`, the start base first, which has `base` bytes; and from `low` on.
+pub struct Store {
     pub base: usize,
+    pub top: usize,
+    pub low: usize,
+}
+
+// Open elements outside Literal content, `depth`, and inside, `inner`; bindings that the former declare, `outer`, and all; labels generated.
+pub struct Counts {
     pub depth: usize,
     pub inner: usize,
     pub outer: usize,
     pub bindings: usize,
-    pub top: usize,
-    pub low: usize,
     pub labels: u64,
 }
 
@@ -39,41 +53,28 @@ impl Registers {
     // Bytes that an event may leave held.
     pub const MOST_HELD: usize = 49_152;
 
-    // Before any document: closed.
-    pub fn none() -> Self
-        ensures { λ r. ⌜ r ≡ noRegisters ⌝ }
-    {
-        Registers {
-            closed: true,
-            rooted: false,
-            based: false,
-            base: 0,
-            depth: 0,
-            inner: 0,
-            outer: 0,
-            bindings: 0,
-            top: 0,
-            low: Self::STORE,
-            labels: 0,
-        }
-    }
-
     // Of a fresh document, with a start base of `base` bytes, if there is one.
     pub fn started(based: bool, base: usize) -> Self
         ensures { λ r. ⌜ r ≡ startedWith based base ⌝ }
     {
         Registers {
-            closed: false,
-            rooted: false,
-            based,
-            base,
-            depth: 0,
-            inner: 0,
-            outer: 0,
-            bindings: 0,
-            top: base,
-            low: Self::STORE,
-            labels: 0,
+            flags: Flags {
+                closed: false,
+                rooted: false,
+                based,
+            },
+            store: Store {
+                base,
+                top: base,
+                low: Self::STORE,
+            },
+            counts: Counts {
+                depth: 0,
+                inner: 0,
+                outer: 0,
+                bindings: 0,
+                labels: 0,
+            },
         }
     }
 }
@@ -88,10 +89,10 @@ pub fn valid(r: Registers, frames: &[u32], bindings: &[u32], inners: &[u32], wor
     if !counts_ok(r) {
         return false;
     }
-    if !inners_ok(inners, bindings, r.outer, r.inner, r.low, r.bindings) {
+    if !inners_ok(inners, bindings, r.counts.outer, r.counts.inner, r.store.low, r.counts.bindings) {
         return false;
     }
-    frames_ok(frames, bindings, work, r.base, r.depth, r.top, r.outer)
+    frames_ok(frames, bindings, work, r.store.base, r.counts.depth, r.store.top, r.counts.outer)
 }
 
 fn lengths_ok(frames: &[u32], bindings: &[u32], inners: &[u32], work: &[u8]) -> bool
@@ -112,22 +113,22 @@ fn lengths_ok(frames: &[u32], bindings: &[u32], inners: &[u32], work: &[u8]) -> 
 fn counts_ok(r: Registers) -> bool
     ensures { λ b. ⌜ b ≡ countsOk r ⌝ }
 {
-    if r.depth > Frame::MOST {
+    if r.counts.depth > Frame::MOST {
         return false;
     }
-    if r.inner > Frame::MOST - r.depth {
+    if r.counts.inner > Frame::MOST - r.counts.depth {
         return false;
     }
-    if r.bindings > Row::MOST_BINDINGS {
+    if r.counts.bindings > Row::MOST_BINDINGS {
         return false;
     }
-    if r.top > r.low {
+    if r.store.top > r.store.low {
         return false;
     }
-    if !based_ok(r.based, r.base) {
+    if !based_ok(r.flags.based, r.store.base) {
         return false;
     }
-    r.labels <= BlankNodeIdGenerator::MOST_LABELS
+    r.counts.labels <= BlankNodeIdGenerator::MOST_LABELS
 }
 
 // Without a start base it has no bytes.

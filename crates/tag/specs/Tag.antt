@@ -279,18 +279,18 @@ module _ {e w v cs rs : List ℕ} {k : ℕ} (h : Roles e w v cs rs k) where
 -- ---- the answers of `read_tag`: f is where the element's namespace was found, j the judgment of the attributes, q the references
 
 module _ (r : Registers) (fs bs v : List ℕ) (count : ℕ) (at len store : List ℕ) {e w : List ℕ} {m c k : ℕ} {cs rs₀ area : List ℕ}
-    (a : Asks e w m c k v bs (r .bindings) cs rs₀ area) {f : Found} {name : Bytes} (nm : name ≡ part e 0 m)
-    (z : Names e v (namespace (scope e w k v bs (r .bindings)) (frontOf c name)) f) where
+    (a : Asks e w m c k v bs (r .counts .bindings) cs rs₀ area) {f : Found} {name : Bytes} (nm : name ≡ part e 0 m)
+    (z : Names e v (namespace (scope e w k v bs (r .counts .bindings)) (frontOf c name)) f) where
   whole : name ≡ take m e
   unfolding part
   whole = nm
 
-  scope-is : {is : List ℕ} (ids : List Bytes) → Valid r fs bs is v → declared (attributesOf e w k) ++ inScope (docOf r fs bs is v ids .frames) ≡ scope e w k v bs (r .bindings)
+  scope-is : {is : List ℕ} (ids : List Bytes) → Valid r fs bs is v → declared (attributesOf e w k) ++ inScope (docOf r fs bs is v ids .frames) ≡ scope e w k v bs (r .counts .bindings)
   unfolding docOf scope
   scope-is ids x = ap (declared (attributesOf e w k) ++_) (in-scope x)
 
-  named : answered (foundBytes e v f) (backOf c (take m e)) ≡ expandElement (scope e w k v bs (r .bindings)) (take m e)
-  named = element-means e v (scope e w k v bs (r .bindings)) (a .name) (rw whole at z)
+  named : answered (foundBytes e v f) (backOf c (take m e)) ≡ expandElement (scope e w k v bs (r .counts .bindings)) (take m e)
+  named = element-means e v (scope e w k v bs (r .counts .bindings)) (a .name) (rw whole at z)
 
   pub unknown-name : isUnknown f ≡ true → Reads r fs bs v count at len store e w m k cs rs₀ area rs₀ area (Stop NoNamespace)
   unknown-name u =
@@ -306,7 +306,7 @@ module _ (r : Registers) (fs bs v : List ℕ) (count : ℕ) (at len store : List
     known : Known e v f
     known = known-space e v f u
 
-    expanded : expandElement (scope e w k v bs (r .bindings)) (take m e) ≡ good (known .space ++ backOf c (take m e))
+    expanded : expandElement (scope e w k v bs (r .counts .bindings)) (take m e) ≡ good (known .space ++ backOf c (take m e))
     unfolding answered
     expanded = sym named ∙ ap (λ (o : Option Bytes). answered o (backOf c (take m e))) (known .is)
 

@@ -30,9 +30,9 @@ impl Change {
         let mut ids = state.ids;
         match self {
             Change::Nothing => {}
-            Change::Depth(n) => registers.depth = n,
-            Change::Top(n) => registers.top = n,
-            Change::Labels(n) => registers.labels = n,
+            Change::Depth(n) => registers.counts.depth = n,
+            Change::Top(n) => registers.store.top = n,
+            Change::Labels(n) => registers.counts.labels = n,
             Change::Word(i, word) => {
                 if i < Frame::TABLE {
                     frames[i] = word;

@@ -117,7 +117,7 @@ fn children() {
     let r = child(r, &mut frames, &mut work, 4);
     let r = child(r, &mut frames, &mut work, 9);
     number(b"held", inside::held(r));
-    let last = nodes::child_at(&work, r.top);
+    let last = nodes::child_at(&work, r.store.top);
     number(b"last child at", last.at);
     let first = nodes::child_at(&work, last.at);
     number(b"first child at", first.at);

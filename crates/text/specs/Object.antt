@@ -87,7 +87,7 @@ isText Xml = false
 -- in such a place a default property is on top
 pub property-top : (r : Registers) (fs : List ℕ) → placeAt r fs ≡ NodesOrText → sameKind (topFrame r fs .kind) PropertyElt ≡ true
 unfolding placeAt topFrame
-property-top r fs h = go (eqb (r .inner) 0) (eqb (r .depth) 0) (loadFrame fs (r .depth - 1)) h
+property-top r fs h = go (eqb (r .counts .inner) 0) (eqb (r .counts .depth) 0) (loadFrame fs (r .counts .depth - 1)) h
   where
     kind : (k : Kind) → placeOf k ≡ NodesOrText → sameKind k PropertyElt ≡ true
     kind Rdf q = absurd (false≢true (ap isText q))
@@ -105,21 +105,21 @@ property-top r fs h = go (eqb (r .inner) 0) (eqb (r .depth) 0) (loadFrame fs (r 
 -- where its object starts, the state ends without it
 module _ {r : Registers} {fs bs is w : List ℕ} (v : Valid r fs bs is w) (k : sameKind (topFrame r fs .kind) PropertyElt ≡ true) where
   record Bottom : Type 0 where
-    depth : 0 < r .depth
-    room : (r .depth - 1) * FRAME + FRAME ≤ length fs
-    up : at (topFrame r fs) TAIL ≤ r .top
-    low : r .low ≤ 65_536
+    depth : 0 < r .counts .depth
+    room : (r .counts .depth - 1) * FRAME + FRAME ≤ length fs
+    up : at (topFrame r fs) TAIL ≤ r .store .top
+    low : r .store .low ≤ 65_536
     places : length (topFrame r fs .at) ≡ 9
     marks : length (topFrame r fs .has) ≡ 8
 
   bottom : Bottom
   bottom =
-      let d : 0 < r .depth = top-deep r fs (λ i. false≢true (ap (λ (g : Kind). sameKind g PropertyElt) (sym i) ∙ k)) in
+      let d : 0 < r .counts .depth = top-deep r fs (λ i. false≢true (ap (λ (g : Kind). sameKind g PropertyElt) (sym i) ∙ k)) in
       let t = topmost v d in
-      let n : ℕ = r .depth - 1 in
+      let n : ℕ = r .counts .depth - 1 in
       let s = top-frame v n (t .depth) in
       let u = rising (frameAt fs n) (s .up) in
-      let h : at (frameAt fs n) TAIL ≤ r .top = omega (arith, s .ends) in
+      let h : at (frameAt fs n) TAIL ≤ r .store .top = omega (arith, s .ends) in
       record {
         depth = d;
         room = t .room;
@@ -129,21 +129,21 @@ module _ {r : Registers} {fs bs is w : List ℕ} (v : Valid r fs bs is w) (k : s
         marks = rw (t .frame) (length-has fs n (t .room));
       }
 
-  may-text : (n : ℕ) → at (topFrame r fs) TAIL + n ≤ r .low → mayTail r fs w (at (topFrame r fs) TAIL) n ≡ true
+  may-text : (n : ℕ) → at (topFrame r fs) TAIL + n ≤ r .store .low → mayTail r fs w (at (topFrame r fs) TAIL) n ≡ true
   unfolding mayTail L.all
   may-text n h =
       let b = bottom in
       rw (
-        lt-ltb 0 (r .depth) (b .depth),
-        le-leb (r .low) 65_536 (b .low),
-        le-leb (r .low) (length w) (omega (arith, b .low, v .store)),
-        le-leb (at (topFrame r fs) TAIL + n) (r .low) h,
-        le-leb ((r .depth - 1) * FRAME + FRAME) (length fs) (b .room),
+        lt-ltb 0 (r .counts .depth) (b .depth),
+        le-leb (r .store .low) 65_536 (b .low),
+        le-leb (r .store .low) (length w) (omega (arith, b .low, v .store)),
+        le-leb (at (topFrame r fs) TAIL + n) (r .store .low) h,
+        le-leb ((r .counts .depth - 1) * FRAME + FRAME) (length fs) (b .room),
       )
 
   -- the same state with an empty text in place of the object
   emptied : Texts r fs w [] (record { ok = true; registers = toppedTo r (at (topFrame r fs) TAIL + 0) })
-      (storedAt fs ((r .depth - 1) * FRAME) (wordsOf (tailTo (topFrame r fs) (at (topFrame r fs) TAIL + 0) 3))) (storedAt w (at (topFrame r fs) TAIL) [])
+      (storedAt fs ((r .counts .depth - 1) * FRAME) (wordsOf (tailTo (topFrame r fs) (at (topFrame r fs) TAIL + 0) 3))) (storedAt w (at (topFrame r fs) TAIL) [])
   emptied =
       let b = bottom in
       let m = may-text 0 (omega (arith, b .up, v .apart)) in
@@ -158,7 +158,7 @@ module _ {r : Registers} {fs bs is w : List ℕ} (v : Valid r fs bs is w) (k : s
               wrote = λ _. refl;
               moved = λ _. refl;
               kept = λ n. absurd (false≢true (sym n ∙ m));
-              sameWords = length-stored fs ((r .depth - 1) * FRAME) (wordsOf f) (omega (arith, b .room));
+              sameWords = length-stored fs ((r .counts .depth - 1) * FRAME) (wordsOf f) (omega (arith, b .room));
               sameBytes = length-stored w (at (topFrame r fs) TAIL) [] (omega (arith, b .up, b .low, v .apart, v .store));
             };
         kept = λ n. absurd (false≢true (sym n ∙ k));
@@ -166,7 +166,7 @@ module _ {r : Registers} {fs bs is w : List ℕ} (v : Valid r fs bs is w) (k : s
 
   -- what is held with a text in place of the object
   held-text : (s : Bytes) → placeIn (elementsOf r fs bs is w) ≡ D.nodesOrText
-      → heldWith (startOf r w) (changeValue (takesText s) (elementsOf r fs bs is w)) ≡ at (topFrame r fs) TAIL + length s + (65_536 - r .low)
+      → heldWith (startOf r w) (changeValue (takesText s) (elementsOf r fs bs is w)) ≡ at (topFrame r fs) TAIL + length s + (65_536 - r .store .low)
   unfolding heldWith
   held-text s p =
       let b = bottom in
@@ -183,19 +183,19 @@ textTo r fs n = toppedTo r (at (topFrame r fs) TAIL + n)
 
 -- with a top that is too high, all of the store is held
 module _ (r : Registers) where
-  pub held-beyond : (t : ℕ) → r .low < t → heldIn (toppedTo r t) ≡ 65_536
+  pub held-beyond : (t : ℕ) → r .store .low < t → heldIn (toppedTo r t) ≡ 65_536
   unfolding heldIn L.all
-  held-beyond t h = rw (lt-leb t (r .low) h) (drop-and (leb (r .low) 65_536))
+  held-beyond t h = rw (lt-leb t (r .store .low) h) (drop-and (leb (r .store .low) 65_536))
     where
-      drop-and : (x : Bool) → pick (x && false) (t + (65_536 - r .low)) 65_536 ≡ 65_536
+      drop-and : (x : Bool) → pick (x && false) (t + (65_536 - r .store .low)) 65_536 ≡ 65_536
       drop-and true = refl
       drop-and false = refl
 
   pub held-large : (t : ℕ) → 49_152 < t → 49_152 < heldIn (toppedTo r t)
   unfolding heldIn L.all
-  held-large t h = go (leb (r .low) 65_536 && leb t (r .low))
+  held-large t h = go (leb (r .store .low) 65_536 && leb t (r .store .low))
     where
-      go : (x : Bool) → 49_152 < pick x (t + (65_536 - r .low)) 65_536
+      go : (x : Bool) → 49_152 < pick x (t + (65_536 - r .store .low)) 65_536
       go true = omega arith
       go false = omega arith
 
@@ -223,20 +223,20 @@ stands v p = place-read v ∙ rw p
 record Weighed (r : Registers) (fs bs is w : List ℕ) (s : Bytes) : Type 0 where
   fits : heldIn (textTo r fs (length s)) ≤ 49_152 → heldWith (startOf r w) (changeValue (takesText s) (elementsOf r fs bs is w)) ≤ 49_152
   over : 49_152 < heldIn (textTo r fs (length s)) → 49_152 < heldWith (startOf r w) (changeValue (takesText s) (elementsOf r fs bs is w))
-  low : heldIn (textTo r fs (length s)) ≤ 49_152 → at (topFrame r fs) TAIL + length s ≤ r .low
+  low : heldIn (textTo r fs (length s)) ≤ 49_152 → at (topFrame r fs) TAIL + length s ≤ r .store .low
 
 weighed : {r : Registers} {fs bs is w : List ℕ} (s : Bytes) → Valid r fs bs is w → placeAt r fs ≡ NodesOrText → Weighed r fs bs is w s
 weighed {r} {fs} {bs} {is} {w} s v p =
     let t : ℕ = at (topFrame r fs) TAIL + length s in
     let h = held-text v (property-top r fs p) s (stands v p) in
     let o = room v .low in
-    by (leb t (r .low))
+    by (leb t (r .store .low))
     (λ y.
-    let l : t ≤ r .low = leb-true t (r .low) y in
+    let l : t ≤ r .store .low = leb-true t (r .store .low) y in
     let e = held-is (toppedTo r t) o l in
     record { fits = λ m. omega arith; over = λ m. omega arith; low = λ m. l })
     (λ z.
-    let l : r .low < t = leb-false t (r .low) z in
+    let l : r .store .low < t = leb-false t (r .store .low) z in
     let e = held-beyond r t l in
     record { fits = λ m. absurd (omega arith); over = λ m. omega arith; low = λ m. absurd (omega arith) })
 
@@ -258,5 +258,5 @@ module _ {r : Registers} {fs w : List ℕ} {s : Bytes} where
               let k = property-top r fs p in
               let m = may-text (a .valid) k (length s) (g .low l) in
               let t = q .tails k in
-              quiet-done (text-quiet s (stands (a .valid) p) h) a (g .fits l) (text-holds (a .valid) q (t .answer ∙ m)) (ap (λ (d : Registers). d .closed) (t .moved m) ∙ a .mark);
+              quiet-done (text-quiet s (stands (a .valid) p) h) a (g .fits l) (text-holds (a .valid) q (t .answer ∙ m)) (ap (λ (d : Registers). d .flags .closed) (t .moved m) ∙ a .mark);
         }

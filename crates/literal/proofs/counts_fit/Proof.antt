@@ -26,9 +26,16 @@ count-declared-requires : tie.Need-count-declared-requires
 count-declared-requires c κs = search needs
 
 returns-5 : tie.Need-returns-5
-returns-5 c = counts-rest _ _ _ (omega arith) (omega arith) _ _ (ap (_+ c .before .before .before .before .before .before .before .before .before .before .before .before .args .r .bindings) (sym (c .before .count-declared .ensures))) (omega arith)
+returns-5 c = counts-rest _ _ _ (omega arith) (omega arith) _ _ (ap (_+ c .before .before .before .before .before .before .before .before .before .before .before .before .args .r .counts .bindings) (sym (c .before .count-declared .ensures))) (omega arith)
 
 pub counts-fit-spec : {M : Type 1} → statement M
 counts-fit-spec =
     tie.close
-    (tie.spec returns sub-if2 returns-2 returns-3 returns-4 count-declared-requires returns-5)
+    (tie.spec
+    returns
+    sub-if2
+    returns-2
+    returns-3
+    returns-4
+    count-declared-requires
+    returns-5)

@@ -44,7 +44,7 @@ same-length-4 : tie.Need-same-length-4
 same-length-4 c = c .before .before .before .work .given
 
 returns-4 : tie.Need-returns-4
-returns-4 c = close-full (omega arith) (c .before .before .before .before .before .before .before .before .before .before .before .before .before .before .before .before .top .ensures) (yes (c .before .before .before .before .before .before .before .before .before .before .before .before .before .before .before .same-kind .ensures) (c .before .before .before .before .before .before .before .before .before .before .before .before .before .before .if2 .left)) (c .before .before .before .before .before .before .before .before .before .before .before .before .pop .ensures) (not-false _ (c .before .before .before .before .before .before .before .before .before .before .if3 .left)) (c .before .before .before .before .before .before .take-node .ensures) (not-true _ (c .if4 .taken))
+returns-4 c = close-full (omega (arith, c .before .before .before .before .before .before .before .before .before .before .before .before .before .before .before .before .before .before .if1 .left)) (c .before .before .before .before .before .before .before .before .before .before .before .before .before .before .before .before .top .ensures) (yes (c .before .before .before .before .before .before .before .before .before .before .before .before .before .before .before .same-kind .ensures) (c .before .before .before .before .before .before .before .before .before .before .before .before .before .before .if2 .left)) (c .before .before .before .before .before .before .before .before .before .before .before .before .pop .ensures) (not-false _ (c .before .before .before .before .before .before .before .before .before .before .if3 .left)) (c .before .before .before .before .before .before .take-node .ensures) (not-true _ (c .if4 .taken))
 
 same-length-5 : tie.Need-same-length-5
 same-length-5 c = c .before .before .before .before .before .frames .given
@@ -53,7 +53,7 @@ same-length-6 : tie.Need-same-length-6
 same-length-6 c = c .before .before .before .work .given
 
 returns-5 : tie.Need-returns-5
-returns-5 c = close-done (omega arith) (c .before .before .before .before .before .before .before .before .before .before .before .before .before .before .before .before .top .ensures) (yes (c .before .before .before .before .before .before .before .before .before .before .before .before .before .before .before .same-kind .ensures) (c .before .before .before .before .before .before .before .before .before .before .before .before .before .before .if2 .left)) (c .before .before .before .before .before .before .before .before .before .before .before .before .pop .ensures) (not-false _ (c .before .before .before .before .before .before .before .before .before .before .if3 .left)) (c .before .before .before .before .before .before .take-node .ensures) (not-false _ (c .if4 .left))
+returns-5 c = close-done (omega (arith, c .before .before .before .before .before .before .before .before .before .before .before .before .before .before .before .before .before .before .if1 .left)) (c .before .before .before .before .before .before .before .before .before .before .before .before .before .before .before .before .top .ensures) (yes (c .before .before .before .before .before .before .before .before .before .before .before .before .before .before .before .same-kind .ensures) (c .before .before .before .before .before .before .before .before .before .before .before .before .before .before .if2 .left)) (c .before .before .before .before .before .before .before .before .before .before .before .before .pop .ensures) (not-false _ (c .before .before .before .before .before .before .before .before .before .before .if3 .left)) (c .before .before .before .before .before .before .take-node .ensures) (not-false _ (c .if4 .left))
 
 pub close-node-spec : {M : Type 1} → statement M
 close-node-spec =

@@ -23,17 +23,17 @@ array-read-wide c = search needs
 wide-requires : tie.Need-wide-requires
 wide-requires c κs = search needs
 
-sub-t8 : tie.Need-sub-t8
-sub-t8 c = search needs
-
 array-read-wide-2 : tie.Need-array-read-wide-2
 array-read-wide-2 c = search needs
 
 wide-requires-2 : tie.Need-wide-requires-2
 wide-requires-2 c κs = search needs
 
+sub-depth : tie.Need-sub-depth
+sub-depth c = search needs
+
 returns-3 : tie.Need-returns-3
-returns-3 c = rw (c .before .before .wide .ensures .0, c .wide2 .ensures .0) (pop-done (omega arith) (c .before .before .before .before .before .before .before .if2 .left) (c .before .before .before .before .before .load .ensures))
+returns-3 c = rw (c .before .before .before .before .before .before .wide .ensures .0, c .before .before .before .before .before .wide2 .ensures .0) (pop-done (omega arith) (c .before .before .before .before .before .before .before .before .before .before .before .if2 .left) (c .before .before .before .before .before .before .before .before .before .load .ensures))
 
 pub pop-spec : {M : Type 1} → statement M
 pop-spec =
@@ -45,7 +45,7 @@ pop-spec =
     load-requires
     array-read-wide
     wide-requires
-    sub-t8
     array-read-wide-2
     wide-requires-2
+    sub-depth
     returns-3)

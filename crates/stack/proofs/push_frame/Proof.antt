@@ -16,13 +16,10 @@ store-requires : tie.Need-store-requires
 store-requires c κs = search needs
 
 same-length : tie.Need-same-length
-same-length c = search needs
+same-length c = c .before .before .frames .given
 
 returns-3 : tie.Need-returns-3
 returns-3 c = push-short (omega arith) (omega arith) (c .before .before .before .store .ensures) (not-true _ (c .if3 .taken))
-
-add-t10 : tie.Need-add-t10
-add-t10 c = search needs
 
 array-read-wide : tie.Need-array-read-wide
 array-read-wide c = search needs
@@ -30,11 +27,14 @@ array-read-wide c = search needs
 wide-requires : tie.Need-wide-requires
 wide-requires c κs = search needs
 
+add-depth : tie.Need-add-depth
+add-depth c = search needs
+
 same-length-2 : tie.Need-same-length-2
-same-length-2 c = search needs
+same-length-2 c = c .before .before .before .before .before .before .before .before .before .frames .given
 
 returns-4 : tie.Need-returns-4
-returns-4 c = rw (c .wide .ensures .0) (push-done (omega arith) (omega arith) (c .before .before .before .before .before .store .ensures) (not-false _ (c .before .before .if3 .left)))
+returns-4 c = rw (c .before .before .before .before .before .before .wide .ensures .0) (push-done (omega arith) (omega arith) (c .before .before .before .before .before .before .before .before .before .before .store .ensures) (not-false _ (c .before .before .before .before .before .before .before .if3 .left)))
 
 pub push-frame-spec : {M : Type 1} → statement M
 push-frame-spec =
@@ -45,8 +45,8 @@ push-frame-spec =
     store-requires
     same-length
     returns-3
-    add-t10
     array-read-wide
     wide-requires
+    add-depth
     same-length-2
     returns-4)
