@@ -28,7 +28,7 @@ put-words-requires-2 : tie.Need-put-words-requires-2
 put-words-requires-2 c κs = omega (arith, slice-aggregate-put-words-2 c)
 
 slice-aggregate-put-words-3 : tie.Need-slice-aggregate-put-words-3
-slice-aggregate-put-words-3 c = search needs
+slice-aggregate-put-words-3 c = search (needs, c .before .before .before .before .before .before .before .before .before .before .before .before .before .before .before .before .before .before .before .before .before .before .good .1 .0)
 
 put-words-requires-3 : tie.Need-put-words-requires-3
 put-words-requires-3 c κs = omega (arith, slice-aggregate-put-words-3 c)
