@@ -26,7 +26,7 @@ use Rattle.state.specs.Held.{held}
 use Rattle.state.specs.Stay.{bindings-kept}
 use Rattle.stack.specs.declared.Changed.{Changed}
 use Rattle.stack.specs.Change.{Holds, flat, labelledTo, labelled-holds}
-use Rattle.stack.specs.Calls.{frameOf, Pushes, mayPush, topFrame, Counts, mayCount}
+use Rattle.stack.specs.Calls.{frameOf, Pushes, mayPush, topFrame, CountsLi, mayCount}
 use Rattle.stack.specs.Laws.{Bound, New, push-holds, top-deep, Numbered, li-may, li-holds, li-stands, li-below}
 use Rattle.names.specs.Tag.{attributesOf}
 use Rattle.element.specs.declared.Next.{Next}
@@ -271,14 +271,14 @@ pub record Commits (r : Registers) (fs bs w e s : List ℕ) (m k : ℕ) (a : Lis
 
 -- `count_if`
 pub record CountsIf (r : Registers) (fs : List ℕ) (li : Bool) (gs : List ℕ) : Type 0 where
-  pub yes : li ≡ true → Counts r fs (mayCount r fs) gs
+  pub yes : li ≡ true → CountsLi r fs (mayCount r fs) gs
   pub no : li ≡ false → gs ≡ fs
   pub same : length gs ≡ length fs
 
 pub counts-not : {r : Registers} {fs : List ℕ} {li : Bool} → li ≡ false → CountsIf r fs li fs
 counts-not n = record { yes = λ y. absurd (false≢true (sym n ∙ y)); no = λ _. refl; same = refl }
 
-pub counts-does : {r : Registers} {fs gs : List ℕ} {li b : Bool} → li ≡ true → Counts r fs b gs → CountsIf r fs li gs
+pub counts-does : {r : Registers} {fs gs : List ℕ} {li b : Bool} → li ≡ true → CountsLi r fs b gs → CountsIf r fs li gs
 counts-does y c = record { yes = λ _. rw (c .answer) at c; no = λ n. absurd (false≢true (sym n ∙ y)); same = c .same }
 
 -- an element that is no rdf:li is not counted

@@ -11,7 +11,9 @@ use frames::Row;
 use frames::wide;
 use stack::Changed;
 use stack::Found;
+use state::Counts;
 use state::Registers;
+use state::Store;
 
 // One more element inside, whose name and bindings stand in the work store from `at` up to `low`, with bindings up to `bound`.
 pub fn open_inside(
@@ -193,9 +195,17 @@ fn ceiling(inners: &[u32], i: usize) -> usize
 fn inside(r: Registers, inner: usize, low: usize, bound: usize) -> Registers
     ensures { λ q. ⌜ q ≡ insideTo r inner low bound ⌝ }
 {
-    let mut q = r;
-    q.store.low = low;
-    q.counts.inner = inner;
-    q.counts.bindings = bound;
-    q
+    let store = Store {
+        base: r.store.base,
+        top: r.store.top,
+        low,
+    };
+    let counts = Counts {
+        depth: r.counts.depth,
+        inner,
+        outer: r.counts.outer,
+        bindings: bound,
+        labels: r.counts.labels,
+    };
+    Registers::of(r.flags, store, counts)
 }

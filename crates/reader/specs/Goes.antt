@@ -24,7 +24,7 @@ use Rattle.reader.specs.Core.{firstAccepted, Accepts, Takes}
 use Rattle.report.specs.declared.fed.Pause.{Pause}
 use Rattle.report.specs.declared.fed.Pause.the-variants.{Full, Stop}
 use Rattle.report.specs.declared.fed.Fed.{Fed}
-use Rattle.report.specs.Fed.{nothing, further, Counts, stopped}
+use Rattle.report.specs.Fed.{nothing, further, Sums, stopped}
 
 -- k events from the front of s, one behind the other, each done within its room: n bytes of s, output o, from the document d to d′
 pub data Does (last : Bool) (s : Bytes) (d : Doc) : ℕ → ℕ → Bytes → Doc → Type 0 where
@@ -204,7 +204,7 @@ module _ {last : Bool} {s : Bytes} {r : Registers} {count : ℕ} {f : Fed} {l : 
   pub going-further : {n : ℕ} {a : Advance} {f′ : Fed} → o ≡ taken.Did n a → f′ ≡ further f n a → Going last s r count f′ l (lent fs′ bs′ is′ w′ ia′ il′ st′ back)
   going-further q e = rw e (record { went = further-went (done q); full = refl })
 
-  pub further-counts : {n : ℕ} {a : Advance} → o ≡ taken.Did n a → length s * 1 < 9_223_372_036_854_775_808 → length (l .out) * 1 < 9_223_372_036_854_775_808 → Counts f n a
+  pub further-counts : {n : ℕ} {a : Advance} → o ≡ taken.Did n a → length s * 1 < 9_223_372_036_854_775_808 → length (l .out) * 1 < 9_223_372_036_854_775_808 → Sums f n a
   further-counts q h k =
       let x = further-went (done q) in
       record {

@@ -23,7 +23,7 @@ further f n a =
     }
 
 -- its counts fit a word, since they are those of bytes at hand
-pub record Counts (f : Fed) (n : ℕ) (a : Advance) : Type 0 where
+pub record Sums (f : Fed) (n : ℕ) (a : Advance) : Type 0 where
   pub events : f .events < 9_223_372_036_854_775_808
   pub consumed : f .consumed < 9_223_372_036_854_775_808
   pub written : f .written < 9_223_372_036_854_775_808

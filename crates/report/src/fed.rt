@@ -1,6 +1,6 @@
 // How far a row of events came, for a caller that does many at a time.
 ghost use mathlib.Core.Path.{_≡_};
-ghost use Rattle.report.specs.Fed.{nothing, further, Counts, stopped};
+ghost use Rattle.report.specs.Fed.{nothing, further, Sums, stopped};
 use event::Advance;
 use spec::Refusal;
 use state::Registers;
@@ -44,7 +44,7 @@ impl Fed {
 
     // One event more, of `n` bytes.
     pub fn further(self, n: usize, a: Advance) -> Self
-        requires { ⌜ Counts self n a ⌝ }
+        requires { ⌜ Sums self n a ⌝ }
         ensures { λ f. ⌜ f ≡ further self n a ⌝ }
     {
         let registers = a.registers;

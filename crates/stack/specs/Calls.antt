@@ -108,7 +108,7 @@ unfoldable pub mayCount : Registers → List ℕ → Bool
 mayCount r fs =
     sameKind (topFrame r fs .kind) NodeElt && (ltb 0 (r .counts .depth) && (ltb (count (topFrame r fs)) mostLabels && leb ((r .counts .depth - 1) * FRAME + FRAME) (length fs)))
 
-pub record Counts (r : Registers) (fs : List ℕ) (b : Bool) (gs : List ℕ) : Type 0 where
+pub record CountsLi (r : Registers) (fs : List ℕ) (b : Bool) (gs : List ℕ) : Type 0 where
   pub answer : b ≡ mayCount r fs
   pub stored : mayCount r fs ≡ true → gs ≡ storedAt fs ((r .counts .depth - 1) * FRAME) (wordsOf (counted (topFrame r fs)))
   pub kept : mayCount r fs ≡ false → gs ≡ fs
@@ -302,24 +302,24 @@ module _ {r : Registers} {fs w t : List ℕ} {f : Frame} (e : f ≡ topFrame r f
   xml-done n y p = record { tails = λ _. rw (← e) p; dropped = λ z. differ (rw (← e) at z) n; kept = λ z _. differ y (rw (← e) at z) }
 
 module _ {r : Registers} {fs : List ℕ} {f : Frame} (e : f ≡ topFrame r fs) where
-  count-refused : {gs : List ℕ} → mayCount r fs ≡ false → gs ≡ fs → Counts r fs false gs
+  count-refused : {gs : List ℕ} → mayCount r fs ≡ false → gs ≡ fs → CountsLi r fs false gs
   count-refused n q = record { answer = sym n; stored = λ y. differ y n; kept = λ _. q; same = ap length q }
 
-  pub count-other : sameKind (f .kind) NodeElt ≡ false → Counts r fs false fs
+  pub count-other : sameKind (f .kind) NodeElt ≡ false → CountsLi r fs false fs
   unfolding L.all mayCount
   count-other n = count-refused (rw (← e, n)) refl
 
   module _ (y : sameKind (f .kind) NodeElt ≡ true) where
-    pub count-empty : r .counts .depth ≡ 0 → Counts r fs false fs
+    pub count-empty : r .counts .depth ≡ 0 → CountsLi r fs false fs
     unfolding L.all mayCount
     count-empty z = count-refused (rw (← e, y, le-ltb 0 (r .counts .depth) (omega arith))) refl
 
     module _ (d : r .counts .depth ≡ 0 → ⊥) where
-      pub count-spent : 99_999_999 ≤ count f → Counts r fs false fs
+      pub count-spent : 99_999_999 ≤ count f → CountsLi r fs false fs
       unfolding L.all mayCount
       count-spent h = count-refused (rw (← e, y, lt-ltb 0 (r .counts .depth) (positive (r .counts .depth) d), le-ltb (count f) 99_999_999 h)) refl
 
-      pub count-done : {gs : List ℕ} {q : Bool} → count f < 99_999_999 → StoredFrame fs (r .counts .depth - 1) (counted f) gs q → Counts r fs q gs
+      pub count-done : {gs : List ℕ} {q : Bool} → count f < 99_999_999 → StoredFrame fs (r .counts .depth - 1) (counted f) gs q → CountsLi r fs q gs
       unfolding L.all mayCount
       count-done {gs} {q} h s =
           let m : mayCount r fs ≡ leb ((r .counts .depth - 1) * FRAME + FRAME) (length fs) = rw (← e, y, lt-ltb 0 (r .counts .depth) (positive (r .counts .depth) d), lt-ltb (count f) 99_999_999 h) in

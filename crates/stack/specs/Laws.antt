@@ -36,7 +36,7 @@ use Rattle.state.specs.Tests.{positive}
 use Rattle.state.specs.Stay.{chained-on, chained-kept, bindings-kept, stands-kept, below-kept}
 use Rattle.stack.specs.declared.Changed.{Changed}
 use Rattle.stack.specs.Change.{Holds, On, pushed, popped, top-frame}
-use Rattle.stack.specs.Calls.{Pushes, mayPush, Pops, mayPop, Binds, mayBind, topFrame, sameKind, tailTo, counted, Tails, mayTail, Texts, Xmls, Counts, mayCount}
+use Rattle.stack.specs.Calls.{Pushes, mayPush, Pops, mayPop, Binds, mayBind, topFrame, sameKind, tailTo, counted, Tails, mayTail, Texts, Xmls, CountsLi, mayCount}
 use Rattle.stack.specs.Top.{Alike, alike-property, retailed, topped-change, topped-same, topped-flat}
 
 -- ---- bytes of a part among others
@@ -526,7 +526,7 @@ li-may r fs n d l =
     node-differs : NodeElt ≡ Rdf → ⊥
     node-differs e = false≢true (ap (λ (g : Kind). sameKind g NodeElt) (sym e))
 
-pub li-holds : {r : Registers} {fs bs is w gs : List ℕ} {b : Bool} → Valid r fs bs is w → r .counts .inner ≡ 0 → Counts r fs b gs → b ≡ true → (i : Bytes) → isLi i ≡ true
+pub li-holds : {r : Registers} {fs bs is w gs : List ℕ} {b : Bool} → Valid r fs bs is w → r .counts .inner ≡ 0 → CountsLi r fs b gs → b ≡ true → (i : Bytes) → isLi i ≡ true
     → Holds r gs bs is w (startOf r w) (countLi i (elementsOf r fs bs is w)) (r .flags .rooted) (r .counts .labels)
 li-holds {r} {fs} {bs} {is} {w} {gs} {b} x z p y i li =
     let m : mayCount r fs ≡ true = sym (p .answer) ∙ y in
@@ -552,7 +552,7 @@ li-holds {r} {fs} {bs} {is} {w} {gs} {b} x z p y i li =
     rw (← topped-flat x n (k .depth) z i) (rw (tp .ends) at res)
 
 -- what one more rdf:li leaves to the element that comes next: where it may stand, and the subject around it
-module _ {r : Registers} {fs gs : List ℕ} {b : Bool} (p : Counts r fs b gs) (y : b ≡ true) where
+module _ {r : Registers} {fs gs : List ℕ} {b : Bool} (p : CountsLi r fs b gs) (y : b ≡ true) where
   li-frame : frameAt gs (r .counts .depth - 1) ≡ counted (frameAt fs (r .counts .depth - 1))
   unfolding topFrame
   li-frame =

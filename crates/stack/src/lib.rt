@@ -4,13 +4,16 @@ ghost use mathlib.Core.Path.{_≡_};
 ghost use Prim.Native.Nat.{_+_, _-_, _*_, _≤_, _<_};
 ghost use lib.ListN.{length};
 ghost use Rattle.stack.specs.Change.{toppedTo, labelledTo};
-ghost use Rattle.stack.specs.Calls.{frameOf, Pushes, Pops, Binds, topFrame, sameKind, Texts, Xmls, Counts, Tails};
+ghost use Rattle.stack.specs.Calls.{frameOf, Pushes, Pops, Binds, topFrame, sameKind, Texts, Xmls, CountsLi, Tails};
 use frames::Frame;
 use frames::Kind;
 use frames::Row;
 use frames::wide;
 use label::BlankNodeIdGenerator;
+use state::Counts;
+use state::Flags;
 use state::Registers;
+use state::Store;
 
 // What a change answers. Where it cannot be made `ok` is false, and nothing changed.
 pub struct Changed {
@@ -63,14 +66,21 @@ pub fn pop(r: Registers, frames: &[u32]) -> Changed
     let first = wide(has[Frame::FIRST]);
     let top = wide(at[Frame::NAME]);
     let depth = r.counts.depth - 1;
-    let mut registers = r;
-    registers.store.top = top;
-    registers.counts.depth = depth;
-    registers.counts.outer = first;
-    registers.counts.bindings = first;
+    let store = Store {
+        base: r.store.base,
+        top,
+        low: r.store.low,
+    };
+    let counts = Counts {
+        depth,
+        inner: r.counts.inner,
+        outer: first,
+        bindings: first,
+        labels: r.counts.labels,
+    };
     Changed {
         ok: true,
-        registers,
+        registers: Registers::of(r.flags, store, counts),
     }
 }
 
@@ -162,7 +172,7 @@ pub fn add_xml(r: Registers, frames: &mut [u32], work: &mut [u8], text: &[u8]) -
 
 // One more rdf:li of the node on top.
 pub fn count_li(r: Registers, frames: &mut [u32]) -> bool
-    ensures { λ b. ⌜ Counts r (now (frames .entry)) b (now (frames .exit)) ⌝ }
+    ensures { λ b. ⌜ CountsLi r (now (frames .entry)) b (now (frames .exit)) ⌝ }
 {
     let f = top(r, frames);
     let at = f.at;
@@ -207,15 +217,26 @@ fn push_frame(r: Registers, frames: &mut [u32], f: Frame, bound: usize) -> Chang
     }
     let top = wide(at[Frame::END]);
     let depth = r.counts.depth + 1;
-    let mut registers = r;
-    registers.flags.rooted = true;
-    registers.store.top = top;
-    registers.counts.depth = depth;
-    registers.counts.outer = bound;
-    registers.counts.bindings = bound;
+    let flags = Flags {
+        closed: r.flags.closed,
+        rooted: true,
+        based: r.flags.based,
+    };
+    let store = Store {
+        base: r.store.base,
+        top,
+        low: r.store.low,
+    };
+    let counts = Counts {
+        depth,
+        inner: r.counts.inner,
+        outer: bound,
+        bindings: bound,
+        labels: r.counts.labels,
+    };
     Changed {
         ok: true,
-        registers,
+        registers: Registers::of(flags, store, counts),
     }
 }
 
@@ -270,17 +291,25 @@ fn write_tail(
 pub fn with_top(r: Registers, top: usize) -> Registers
     ensures { λ q. ⌜ q ≡ toppedTo r top ⌝ }
 {
-    let mut q = r;
-    q.store.top = top;
-    q
+    let store = Store {
+        base: r.store.base,
+        top,
+        low: r.store.low,
+    };
+    Registers::of(r.flags, store, r.counts)
 }
 
 pub fn with_labels(r: Registers, labels: u64) -> Registers
     ensures { λ q. ⌜ q ≡ labelledTo r labels ⌝ }
 {
-    let mut q = r;
-    q.counts.labels = labels;
-    q
+    let counts = Counts {
+        depth: r.counts.depth,
+        inner: r.counts.inner,
+        outer: r.counts.outer,
+        bindings: r.counts.bindings,
+        labels,
+    };
+    Registers::of(r.flags, r.store, counts)
 }
 
 pub fn same_kind(a: Kind, b: Kind) -> bool

@@ -53,6 +53,31 @@ impl Registers {
     // Bytes that an event may leave held.
     pub const MOST_HELD: usize = 49_152;
 
+    // Of these groups, number by number: a group that is copied as a whole is copied through memory.
+    pub fn of(flags: Flags, store: Store, counts: Counts) -> Self
+        ensures { λ r. ⌜ r ≡ record { flags = flags; store = store; counts = counts } ⌝ }
+    {
+        Registers {
+            flags: Flags {
+                closed: flags.closed,
+                rooted: flags.rooted,
+                based: flags.based,
+            },
+            store: Store {
+                base: store.base,
+                top: store.top,
+                low: store.low,
+            },
+            counts: Counts {
+                depth: counts.depth,
+                inner: counts.inner,
+                outer: counts.outer,
+                bindings: counts.bindings,
+                labels: counts.labels,
+            },
+        }
+    }
+
     // Of a fresh document, with a start base of `base` bytes, if there is one.
     pub fn started(based: bool, base: usize) -> Self
         ensures { λ r. ⌜ r ≡ startedWith based base ⌝ }

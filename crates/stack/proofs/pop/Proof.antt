@@ -32,8 +32,11 @@ wide-requires-2 c κs = search needs
 sub-depth : tie.Need-sub-depth
 sub-depth c = search needs
 
+of-requires : tie.Need-of-requires
+of-requires c κs = search needs
+
 returns-3 : tie.Need-returns-3
-returns-3 c = rw (c .before .before .before .before .before .before .wide .ensures .0, c .before .before .before .before .before .wide2 .ensures .0) (pop-done (omega arith) (c .before .before .before .before .before .before .before .before .before .before .before .if2 .left) (c .before .before .before .before .before .before .before .before .before .load .ensures))
+returns-3 c = rw (c .of .ensures, c .before .before .before .wide .ensures .0, c .before .before .wide2 .ensures .0) (pop-done (omega arith) (c .before .before .before .before .before .before .before .before .if2 .left) (c .before .before .before .before .before .before .load .ensures))
 
 pub pop-spec : {M : Type 1} → statement M
 pop-spec =
@@ -48,4 +51,5 @@ pop-spec =
     array-read-wide-2
     wide-requires-2
     sub-depth
+    of-requires
     returns-3)

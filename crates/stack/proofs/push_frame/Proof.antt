@@ -30,11 +30,14 @@ wide-requires c κs = search needs
 add-depth : tie.Need-add-depth
 add-depth c = search needs
 
+of-requires : tie.Need-of-requires
+of-requires c κs = search needs
+
 same-length-2 : tie.Need-same-length-2
-same-length-2 c = c .before .before .before .before .before .before .before .before .before .frames .given
+same-length-2 c = c .before .before .before .before .before .frames .given
 
 returns-4 : tie.Need-returns-4
-returns-4 c = rw (c .before .before .before .before .before .before .wide .ensures .0) (push-done (omega arith) (omega arith) (c .before .before .before .before .before .before .before .before .before .before .store .ensures) (not-false _ (c .before .before .before .before .before .before .before .if3 .left)))
+returns-4 c = rw (c .of .ensures, c .before .before .wide .ensures .0) (push-done (omega arith) (omega arith) (c .before .before .before .before .before .before .store .ensures) (not-false _ (c .before .before .before .if3 .left)))
 
 pub push-frame-spec : {M : Type 1} → statement M
 push-frame-spec =
@@ -48,5 +51,6 @@ push-frame-spec =
     array-read-wide
     wide-requires
     add-depth
+    of-requires
     same-length-2
     returns-4)
