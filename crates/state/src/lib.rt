@@ -9,11 +9,12 @@ ghost use Rattle.frames.specs.Parts.{END, FRAME};
 ghost use Rattle.frames.specs.Words.{pick};
 ghost use Rattle.state.specs.Meaning.{at, childSize};
 ghost use Rattle.state.specs.Valid.{rises, emptyOr, partsOk, chained, childrenOk, kindOk, isNode, nodeBelow, stands, elementOk, framesOk, ceiling, innersOk, countsOk, lengthsOk, validState};
+ghost use Rattle.state.specs.Live.{startedWith, noRegisters};
+use copy::words::byte;
+use copy::words::wide;
 use frames::Frame;
 use frames::Kind;
 use frames::Row;
-ghost use Rattle.state.specs.Live.{startedWith, noRegisters};
-use frames::wide;
 use label::BlankNodeIdGenerator;
 
 // The numbers of a document. `base` is the start base's length; `depth` counts the open elements outside Literal content, `inner` those
@@ -243,7 +244,13 @@ fn element_ok(frames: &[u32], bindings: &[u32], work: &[u8], n: usize, top: usiz
     if b < first {
         return false;
     }
-    if !chained(bindings, first, b - first, wide(at[Frame::BINDINGS]), wide(at[Frame::BASE])) {
+    if !chained(
+        bindings,
+        first,
+        b - first,
+        wide(at[Frame::BINDINGS]),
+        wide(at[Frame::BASE]),
+    ) {
         return false;
     }
     if !kind_ok(f, work) {
@@ -346,7 +353,12 @@ fn kind_ok(f: Frame, work: &[u8]) -> bool
             if at[Frame::DATATYPE] != at[Frame::TAIL] {
                 return false;
             }
-            children_ok(work, wide(at[Frame::TAIL]), wide(has[Frame::COUNT]), wide(at[Frame::END]))
+            children_ok(
+                work,
+                wide(at[Frame::TAIL]),
+                wide(has[Frame::COUNT]),
+                wide(at[Frame::END]),
+            )
         }
         Kind::ParseTypeLiteralPropertyElt => at[Frame::DATATYPE] == at[Frame::TAIL],
         Kind::ParseTypeOtherPropertyElt => at[Frame::DATATYPE] == at[Frame::END],
@@ -400,11 +412,4 @@ fn child_size(work: &[u8], e: usize) -> usize
     ensures { λ r. ⌜ (r ≡ childSize (now (work .entry)) e) × (r < 65536) ⌝ }
 {
     byte(work[e - 4]) + 256 * byte(work[e - 3])
-}
-
-// A byte as a number.
-fn byte(x: u8) -> usize
-    ensures { λ r. ⌜ (r ≡ x) × (r < 256) ⌝ }
-{
-    x as usize
 }

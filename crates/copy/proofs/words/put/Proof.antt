@@ -1,11 +1,11 @@
--- `frames::put_words` meets its contract. The loop's invariant: the first `i` words of `src` stand in `dst` from `at` on, and all of them fit.
+-- `copy::words::put` meets its contract. The loop's invariant: the first `i` words of `src` stand in `dst` from `at` on, and all of them fit.
 use Rattle.copy.specs.Copy.{Copied, copied-begins, copied-more, copied-done, put-none}
 use lib.ListN.{length}
 use Prim.Native.Nat.{_-_}
 use native.Mathlib.Omega.{arith}
 use borrow.Author.Needs.{needs}
-use Rattle.frames.proofs.put_words.Statement.{statement}
-use Rattle.frames.proofs.put_words.Tie as tie
+use Rattle.copy.proofs.words.put.Statement.{statement}
+use Rattle.copy.proofs.words.put.Tie as tie
 
 abbrev Inv-loop : tie.InvT-loop
 Inv-loop dst₀ at src i₀ dst i = Copied dst₀ at src dst i
@@ -55,8 +55,8 @@ same-length c = search needs
 returns-3 : tie.Need-returns-3 Inv-loop μ-loop
 returns-3 c = copied-done (c .before .loop .inv) (omega arith)
 
-pub put-words-spec : {M : Type 1} → statement M
-put-words-spec =
+pub put-spec : {M : Type 1} → statement M
+put-spec =
     tie.close
     (tie.spec
     Inv-loop

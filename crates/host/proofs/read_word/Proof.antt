@@ -1,10 +1,10 @@
--- `host::get_word` meets its contract.
+-- `host::read_word` meets its contract.
 use mathlib.Core.Path.{ap, _∙_}
 use Rattle.host.specs.Little.{valueOf}
 use Rattle.host.specs.Rows.{four-read}
 use borrow.Author.Needs.{needs}
-use Rattle.host.proofs.get_word.Statement.{statement}
-use Rattle.host.proofs.get_word.Tie as tie
+use Rattle.host.proofs.read_word.Statement.{statement}
+use Rattle.host.proofs.read_word.Tie as tie
 
 shared-slice-read-word-of : tie.Need-shared-slice-read-word-of
 shared-slice-read-word-of c = search needs
@@ -33,8 +33,8 @@ word-of-requires c κs = search needs
 returns : tie.Need-returns
 returns c = c .word-of .ensures ∙ ap valueOf (four-read _ _ (c .before .before .before .before .before .before .pre))
 
-pub get-word-spec : {M : Type 1} → statement M
-get-word-spec =
+pub read-word-spec : {M : Type 1} → statement M
+read-word-spec =
     tie.close
     (tie.spec
     shared-slice-read-word-of

@@ -1,11 +1,11 @@
--- `host::put_word` meets its contract.
+-- `host::write_word` meets its contract.
 use lib.ListN.{length-set}
 use Rattle.host.specs.Little.{little}
 use Rattle.host.specs.Rows.{four-put}
 use native.Mathlib.Omega.{arith}
 use borrow.Author.Needs.{needs}
-use Rattle.host.proofs.put_word.Statement.{statement}
-use Rattle.host.proofs.put_word.Tie as tie
+use Rattle.host.proofs.write_word.Statement.{statement}
+use Rattle.host.proofs.write_word.Tie as tie
 
 cast-b : tie.Need-cast-b
 cast-b c = search needs
@@ -47,8 +47,8 @@ returns : tie.Need-returns
 unfolding little
 returns c = four-put (omega arith)
 
-pub put-word-spec : {M : Type 1} → statement M
-put-word-spec =
+pub write-word-spec : {M : Type 1} → statement M
+write-word-spec =
     tie.close
     (tie.spec
     cast-b
