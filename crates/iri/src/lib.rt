@@ -4,10 +4,10 @@ ghost use mathlib.Core.Path.{_≡_};
 ghost use mathlib.Core.Bool.{true, _&&_};
 ghost use mathlib.Core.List.{[], _∷_};
 ghost use lib.ListN.{length};
-ghost use Rattle.spec.specs.Bytes.{among, between, inRanges};
+ghost use Rattle.spec.specs.Bytes.{among, between};
 ghost use Rattle.spec.specs.Abnf.{lower, some};
 ghost use Rattle.spec.specs.Rfc3987.{isIri, isIriReference, scheme, iauthority, IPv6address, IPvFuture, IPv4address, h16, dec-octet};
-ghost use Rattle.iri.specs.Parts.{of, grammar, classOf, allowed, escapes, unreserved, delims, pchar, row, escaped, isAlpha, isDigit, isAlphanum, isHex, isUcschar, isIprivate, pairs, lettered, Taken};
+ghost use Rattle.iri.specs.Parts.{of, grammar, classOf, allowed, escapes, unreserved, delims, pchar, row, escaped, isAlpha, isDigit, isAlphanum, isHex, isUcschar, isIprivate, lettered, Taken};
 ghost use Rattle.iri.specs.Forms.{optionally, isMark, restOf, partOf, network, server, bracketed, literal, version, colonless};
 ghost use Rattle.iri.specs.Addresses.{Counted, upToGap, octet};
 use utils::Decoded;
@@ -607,7 +607,7 @@ fn is_ucschar(c: u32) -> bool
     if c < 0xA0 {
         return false;
     }
-    in_ranges(&UCSCHAR, c)
+    utils::in_ranges(&UCSCHAR, c)
 }
 
 fn is_iprivate(c: u32) -> bool
@@ -616,21 +616,7 @@ fn is_iprivate(c: u32) -> bool
     if c < 0xE000 {
         return false;
     }
-    in_ranges(&IPRIVATE, c)
-}
-
-// A character in one of some ranges, of which a table has first and last.
-fn in_ranges(bounds: &[u32], c: u32) -> bool
-    ensures { λ r. ⌜ r ≡ inRanges (pairs (now (bounds .entry))) c ⌝ }
-{
-    let mut i: usize = 0;
-    while i + 1 < bounds.len() {
-        if (bounds[i] <= c) & (c <= bounds[i + 1]) {
-            return true;
-        }
-        i += 2;
-    }
-    false
+    utils::in_ranges(&IPRIVATE, c)
 }
 
 // A character of a set.
