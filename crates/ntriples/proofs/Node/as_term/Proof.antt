@@ -1,9 +1,9 @@
--- `ntriples::as_term` meets its contract.
+-- `ntriples::Node::as_term` meets its contract.
 use mathlib.Core.Path.{refl}
 use Rattle.ntriples.specs.Terms.{asTerm}
 use borrow.Author.Needs.{needs}
-use Rattle.ntriples.proofs.as_term.Statement.{statement}
-use Rattle.ntriples.proofs.as_term.Tie as tie
+use Rattle.ntriples.proofs.Node.as_term.Statement.{statement}
+use Rattle.ntriples.proofs.Node.as_term.Tie as tie
 
 enum-told : tie.Need-enum-told
 enum-told c = search needs
