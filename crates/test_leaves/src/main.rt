@@ -1,8 +1,13 @@
-// The verdict on each line of the file `iris`: what it is to be, an IRI or a reference to one, a tab, and the text.
+// The verdict on each line of the files `iris` and `tags`.
+use langtag::Tag;
 use libc::STDOUT_FILENO;
 
 fn main() {
-    let path = b"iris";
+    report_file(b"iris");
+    report_file(b"tags");
+}
+
+fn report_file(path: &[u8]) {
     let file = os::open_read(path);
     if file < 0 {
         os::fail(path);
@@ -33,6 +38,7 @@ fn report(line: &[u8]) {
     io::write_all(STDOUT_FILENO, b"\n");
 }
 
+// Before an IRI or a reference to one stand its kind and a tab, before a language tag nothing.
 fn is_good(line: &[u8]) -> bool {
     if copy::begins(line, b"iri\t") {
         return iri::is_iri(&line[4..]);
@@ -40,5 +46,8 @@ fn is_good(line: &[u8]) -> bool {
     if copy::begins(line, b"ref\t") {
         return iri::is_iri_reference(&line[4..]);
     }
-    false
+    match langtag::parse(line) {
+        Tag::Good => true,
+        Tag::Bad => false,
+    }
 }

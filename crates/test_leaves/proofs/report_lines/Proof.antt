@@ -1,4 +1,4 @@
--- `test_tags::report_lines` ends, and each line lies in the text. The loop's invariant says nothing; the measure is what is left.
+-- `test_leaves::report_lines` ends, and each line lies in the text. The loop's invariant says nothing; the measure is what is left.
 use mathlib.Core.Path.{_≡_}
 use Prim.Native.Nat.{ℕ, _+_, _-_, _≤_, _<_}
 use native.Mathlib.Omega.{arith}
@@ -8,8 +8,8 @@ use borrow.Author.Needs.{needs}
 use Rattle.spec.specs.Bytes.{Bytes, upTo}
 use Rattle.copy.specs.Copy.{rest-of}
 use Rattle.copy.specs.Texts.{length-upTo}
-use Rattle.test_tags.proofs.report_lines.Statement.{statement}
-use Rattle.test_tags.proofs.report_lines.Tie as tie
+use Rattle.test_leaves.proofs.report_lines.Statement.{statement}
+use Rattle.test_leaves.proofs.report_lines.Tie as tie
 
 fits : (t : Bytes) (from n : ℕ) → from < length t → n ≡ length (upTo (λ c. eqb c 10) (take (length t - from) (drop from t))) → from + n ≤ length t
 fits t from n l found =

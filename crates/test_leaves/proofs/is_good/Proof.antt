@@ -1,10 +1,10 @@
--- `test_iris::is_good` meets its contract. A text behind its four letters lies in the line.
+-- `test_leaves::is_good` meets its contract. A text behind its four letters lies in the line.
 use mathlib.Core.Path.{sym, _∙_}
 use native.Mathlib.Omega.{arith}
 use borrow.Author.Needs.{needs}
 use Rattle.copy.specs.Texts.{begins-length}
-use Rattle.test_iris.proofs.is_good.Statement.{statement}
-use Rattle.test_iris.proofs.is_good.Tie as tie
+use Rattle.test_leaves.proofs.is_good.Statement.{statement}
+use Rattle.test_leaves.proofs.is_good.Tie as tie
 
 slice-aggregate-begins : tie.Need-slice-aggregate-begins
 slice-aggregate-begins c = search needs
@@ -48,8 +48,20 @@ is-iri-reference-requires c κs = search needs
 returns-2 : tie.Need-returns-2
 returns-2 c = search needs
 
+parse-requires : tie.Need-parse-requires
+parse-requires c κs = search needs
+
+enum-told : tie.Need-enum-told
+enum-told c = search needs
+
+enum-told-2 : tie.Need-enum-told-2
+enum-told-2 c = search needs
+
 returns-3 : tie.Need-returns-3
 returns-3 c = search needs
+
+returns-4 : tie.Need-returns-4
+returns-4 c = search needs
 
 pub is-good-spec : {M : Type 1} → statement M
 is-good-spec =
@@ -69,4 +81,8 @@ is-good-spec =
     part-is-iri-reference-end
     is-iri-reference-requires
     returns-2
-    returns-3)
+    parse-requires
+    enum-told
+    enum-told-2
+    returns-3
+    returns-4)
