@@ -25,9 +25,7 @@ use Rattle.inside.specs.Calls.{languageIn}
 use Rattle.inside.specs.Laws.{found, language-read}
 use Rattle.writer.specs.Put.{Put, put-as, put-none}
 use Rattle.ntriples.specs.declared.Node.{Node}
-use Rattle.ntriples.specs.declared.Node.the-variants as node-kind
 use Rattle.ntriples.specs.declared.Term.{Term}
-use Rattle.ntriples.specs.declared.Term.the-variants as term-kind
 use Rattle.ntriples.specs.Terms as T
 use Rattle.ntriples.specs.Terms.{idOf as given}
 use Rattle.attributes.specs.Properties.{propertiesFrom}
@@ -65,29 +63,12 @@ linesOf x f l w e v k a cs rs =
     told (x .plan .lines) (mainOf x e a) (objectOf x e a) (languageBy x l w e a) (propertiesFrom e v w cs rs 0 k) (maybe (x .kind) e a)
     (given (x .named) (textOf (x .iri) e a)) (propertyOf x e a (subjectOf f w))
 
--- ---- terms: a label where b, else an IRI
+-- ---- nodes: a label where b, else an IRI
 
-pub record NodeFor (b : Bool) (n : Node) : Type 0 where
-  pub says : (s : Bytes) → T.subjectOf n s ≡ nodeIs b s
-
-pub record TermFor (b : Bool) (t : Term) : Type 0 where
-  pub says : (s x : Bytes) → T.termOf t s x ≡ node (nodeIs b s)
-
-pub node-blank : {b : Bool} → b ≡ true → NodeFor b node-kind.Blank
-unfolding T.subjectOf nodeIs
-node-blank h = record { says = λ s. rw h }
-
-pub node-named : {b : Bool} → b ≡ false → NodeFor b node-kind.Named
-unfolding T.subjectOf nodeIs
-node-named h = record { says = λ s. rw h }
-
-pub term-blank : {b : Bool} → b ≡ true → TermFor b term-kind.Blank
-unfolding T.termOf nodeIs
-term-blank h = record { says = λ s x. rw h }
-
-pub term-named : {b : Bool} → b ≡ false → TermFor b term-kind.Named
-unfolding T.termOf nodeIs
-term-named h = record { says = λ s x. rw h }
+node-is : (b : Bool) {n : Node} → n ≡ T.nodeFor b → (s : Bytes) → T.subjectOf n s ≡ nodeIs b s
+unfolding T.subjectOf T.nodeFor nodeIs
+node-is true e s = rw e
+node-is false e s = rw e
 
 -- the subject of a frame, whose mark is h
 marked : (h : ℕ) (s : Bytes) → nodeIs (not (eqb h 0)) s ≡ nodeOf h s
@@ -139,15 +120,15 @@ part-is s e a o q = rw (o, q) (given-text s e a)
 
 module _ {on : Bool} {d f : List ℕ} {from to : ℕ} (x : Start) (l : Found) (w e v : List ℕ) (k : ℕ) (a cs rs : List ℕ) {g : Bool} {y z : Bytes} {h : Bool} {n : Node} {s : Bytes}
     (i : g ≡ (isThere (x .plan .parts .tag) || l .there)) (j : LanguageFor (x .plan .parts .tag) l w e a y) (o : h ≡ isThere (x .kind)) (q : z ≡ textOf (x .kind) e a) where
-  pub node-told : {u : Bytes} → NodeFor (x .plan .parts .blank) n → s ≡ textOf (x .plan .parts .main) e a → u ≡ textOf (x .iri) e a
+  pub node-told : {u : Bytes} → n ≡ T.nodeFor (x .plan .parts .blank) → s ≡ textOf (x .plan .parts .main) e a → u ≡ textOf (x .iri) e a
       → Put on d f from to (write ((attributeLines (T.subjectOf n s) (given g y) (propertiesFrom e v w cs rs 0 k) ++ typeLine (T.subjectOf n s) (given h z)) ++ typeLine (T.subjectOf n s) (given (x .named) u)))
       → Put on d f from to (write (nodeLines x l w e v k a cs rs))
-  node-told b c m p = put-as p (rw (b .says s, c, m, language-is j i, part-is (x .kind) e a o q))
+  node-told b c m p = put-as p (rw (node-is (x .plan .parts .blank) b s, c, m, language-is j i, part-is (x .kind) e a o q))
 
-  pub object-told : NodeFor (eqb (x .plan .parts .what) 2) n → s ≡ textOf (x .plan .parts .object) e a
+  pub object-told : n ≡ T.nodeFor (eqb (x .plan .parts .what) 2) → s ≡ textOf (x .plan .parts .object) e a
       → Put on d f from to (write (attributeLines (T.subjectOf n s) (given g y) (propertiesFrom e v w cs rs 0 k) ++ typeLine (T.subjectOf n s) (given h z)))
       → Put on d f from to (write (objectLines x l w e v k a cs rs))
-  object-told b c p = put-as p (rw (b .says s, c, language-is j i, part-is (x .kind) e a o q))
+  object-told b c p = put-as p (rw (node-is (eqb (x .plan .parts .what) 2) b s, c, language-is j i, part-is (x .kind) e a o q))
 
 -- the bytes from a to b, as they are lent
 pub span-lent : {r : List ℕ} {from n : ℕ} (w : List ℕ) (a b : ℕ) → r ≡ part w from n → from ≡ a → n ≡ b - a → r ≡ span w a b
@@ -155,14 +136,14 @@ unfolding span
 span-lent w a b e p q = e ∙ rw (p, q)
 
 -- r is the frame of the node around
-pub resource-told : {on : Bool} {d f : List ℕ} {from to : ℕ} (x : Start) (r : Frame) (w e a : List ℕ) {h : Bool} {i s p o : Bytes} {n : Node} {t : Term}
-    → NodeFor (not (eqb (has r BLANK) 0)) n → s ≡ span w (at r MAIN) (at r ID) → h ≡ isThere (x .id) → i ≡ textOf (x .id) e a → p ≡ textOf (x .property) e a
-    → TermFor (x .plan .parts .blank) t → o ≡ textOf (x .plan .parts .main) e a
+pub resource-told : {on : Bool} {d f : List ℕ} {from to : ℕ} (x : Start) (r : Frame) (w e a : List ℕ) {h : Bool} {i s p o : Bytes} {n own : Node} {t : Term}
+    → n ≡ T.nodeFor (not (eqb (has r BLANK) 0)) → s ≡ span w (at r MAIN) (at r ID) → h ≡ isThere (x .id) → i ≡ textOf (x .id) e a → p ≡ textOf (x .property) e a
+    → own ≡ T.nodeFor (x .plan .parts .blank) → t ≡ T.asTerm own → o ≡ textOf (x .plan .parts .main) e a
     → Put on d f from to (write (statement (T.propertyOf h i (T.subjectOf n s) p) (T.termOf t o [])))
     → Put on d f from to (write (resourceLines x (subjectOf r w) e a))
 unfolding T.propertyOf subjectOf
-resource-told x r w e a {s = s} {o = o} b c j q u t m y =
-    put-as y (rw (b .says s, marked (has r BLANK) s, c, part-is (x .id) e a j q, u, t .says o [], m))
+resource-told x r w e a {s = s} {o = o} {own = own} b c j q u v t m y =
+    put-as y (rw (node-is (not (eqb (has r BLANK) 0)) b s, marked (has r BLANK) s, c, part-is (x .id) e a j q, u, t, T.as-term own o [], node-is (x .plan .parts .blank) v o, m))
 
 -- ---- by the plan
 

@@ -15,18 +15,17 @@ ghost use Rattle.event.specs.Progress.{Lawful, HandlesAll, docIn, lent};
 ghost use Rattle.element.specs.Element.{textOf, maybe};
 ghost use Rattle.plan.specs.Plan.{isThere};
 ghost use Rattle.plan.specs.Goes.{Goes};
-ghost use Rattle.acting.specs.Told.{NodeFor, TermFor, LanguageFor, linesOf, nodeLines, objectLines, resourceLines};
+ghost use Rattle.acting.specs.Told.{LanguageFor, linesOf, nodeLines, objectLines, resourceLines};
 ghost use Rattle.acting.specs.Entered.{Enters};
 ghost use Rattle.frames.specs.Parts.{MAIN, ID};
+use copy::words::wide;
 use element::Source;
 use event::Advance;
 use event::Progress;
 use frames::Frame;
-use frames::wide;
 use ids::Added;
 use ids::IdTable;
 use ntriples::Node;
-use ntriples::Term;
 use plan::Lines;
 use plan::Start;
 use spec::Refusal;
@@ -248,7 +247,7 @@ fn tell_node<'a>(
     let tag = parts.tag;
     let kind = x.kind;
     let iri = x.iri;
-    let node = node_of(parts.blank);
+    let node = Node::of(parts.blank);
     let subject = element::text(main, scratch, area);
     let tagged = is_tagged(tag, language);
     let own = language_of(tag, language, work, scratch, area);
@@ -297,7 +296,7 @@ fn tell_object<'a>(
     let object = parts.object;
     let tag = parts.tag;
     let kind = x.kind;
-    let node = node_of(parts.what == 2);
+    let node = Node::of(parts.what == 2);
     let subject = element::text(object, scratch, area);
     let tagged = is_tagged(tag, language);
     let own = language_of(tag, language, work, scratch, area);
@@ -340,12 +339,12 @@ fn tell_resource<'a>(
     let id = x.id;
     let property = x.property;
     let marks = around.has;
-    let node = node_of(marks[Frame::BLANK] != 0);
+    let node = Node::of(marks[Frame::BLANK] != 0);
     let subject = main_of(around, work);
     let has = plan::is_there(id);
     let stated = element::text(id, scratch, area);
     let name = element::text(property, scratch, area);
-    let term = term_of(parts.blank);
+    let term = Node::of(parts.blank).as_term();
     let object = element::text(main, scratch, area);
     ntriples::statement(
         out,
@@ -402,18 +401,6 @@ fn main_of(f: Frame, work: &[u8]) -> &[u8]
         return names::piece(work, from, 0);
     }
     names::piece(work, from, to - from)
-}
-
-fn node_of(blank: bool) -> Node
-    ensures { λ n. ⌜ NodeFor blank n ⌝ }
-{
-    if blank { Node::Blank } else { Node::Named }
-}
-
-fn term_of(blank: bool) -> Term
-    ensures { λ t. ⌜ TermFor blank t ⌝ }
-{
-    if blank { Term::Blank } else { Term::Named }
 }
 
 // The rdf:ID is entered, if there is one.

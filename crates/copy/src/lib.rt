@@ -8,6 +8,8 @@ ghost use Rattle.copy.specs.Copy.{Put};
 ghost use Rattle.copy.specs.Scan.{Sought};
 ghost use Rattle.copy.specs.Blocks.{Tails};
 
+pub mod words;
+
 // All of `src` into `dst`, from `at` on. Where it does not fit, nothing changes and the answer is false.
 pub fn put(dst: &mut [u8], at: usize, src: &[u8]) -> bool
     ensures { λ r. ⌜ Put (now (dst .entry)) at (now (src .entry)) (now (dst .exit)) r ⌝ }

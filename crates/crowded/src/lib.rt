@@ -134,7 +134,15 @@ fn repeats_expanded<'a>(
         return crate::own::repeated_expanded(scratch, spans, k, work, bindings, r.counts.bindings);
     }
     let mut classes = [0usize; FEW * Class::WORDS];
-    names::classify(scratch, spans, k, work, bindings, r.counts.bindings, &mut classes);
+    names::classify(
+        scratch,
+        spans,
+        k,
+        work,
+        bindings,
+        r.counts.bindings,
+        &mut classes,
+    );
     names::repeated_expanded(scratch, spans, k, work, &classes)
 }
 

@@ -9,6 +9,7 @@ ghost use Rattle.names.specs.Pairs.{behindIn, pairs};
 ghost use Rattle.names.specs.Classes.{sameKeys};
 ghost use Rattle.crowded.specs.Marks.{byteFromEnd, markOf, Room, Marked, Marks, Clear, Next};
 use crate::PLACES;
+use copy::words::byte;
 use names::Class;
 use names::XML;
 
@@ -145,7 +146,7 @@ fn mark(front: &[u8], back: &[u8], skip: usize) -> u64
     let mut m: u64 = 0;
     let mut i = 0;
     while i < BYTES {
-        m = m % 72_057_594_037_927_936 * 256 + wide(byte_from_end(front, back, skip + i));
+        m = m % 72_057_594_037_927_936 * 256 + byte(byte_from_end(front, back, skip + i)) as u64;
         i += 1;
     }
     m
@@ -163,11 +164,4 @@ fn byte_from_end(front: &[u8], back: &[u8], i: usize) -> u8
         return front[front.len() - 1 - more];
     }
     0
-}
-
-// A byte as a number.
-fn wide(b: u8) -> u64
-    ensures { λ n. ⌜ (n ≡ b) × (n < 256) ⌝ }
-{
-    b as u64
 }

@@ -1,8 +1,7 @@
 // What is kept of a document between events, as numbers: the records of its tables, and how they stand in lent words.
 ghost use mathlib.Core.Path.{_≡_};
-ghost use Prim.Native.Nat.{_<_};
-ghost use Rattle.copy.specs.Copy.{Put};
 ghost use Rattle.frames.specs.Words.{kindOf, kindNumber, loadFrame, StoredFrame, noFrame, loadRow, StoredRow};
+use copy::words;
 
 // What an open element outside Literal content is: the states of the Rust's parser.
 pub enum Kind {
@@ -136,8 +135,8 @@ impl Frame {
         let a = from + 1;
         let h = from + Self::HEAD;
         let e = from + Self::WORDS;
-        put_words(&mut at, 0, &frames[a..h]);
-        put_words(&mut has, 0, &frames[h..e]);
+        words::put(&mut at, 0, &frames[a..h]);
+        words::put(&mut has, 0, &frames[h..e]);
         Frame { kind, at, has }
     }
 
@@ -152,8 +151,8 @@ impl Frame {
         let has = f.has;
         let kind = f.kind;
         frames[from] = kind.word();
-        put_words(frames, from + 1, &at);
-        put_words(frames, from + Self::HEAD, &has)
+        words::put(frames, from + 1, &at);
+        words::put(frames, from + Self::HEAD, &has)
     }
 }
 
@@ -200,29 +199,4 @@ impl Row {
         rows[from + 2] = r.more;
         true
     }
-}
-
-// A word as a number.
-pub fn wide(x: u32) -> usize
-    ensures { λ r. ⌜ (r ≡ x) × (r < 4294967296) ⌝ }
-{
-    x as usize
-}
-
-// All of `src` into `dst`, from `at` on. Where it does not fit, nothing changes and the answer is false.
-fn put_words(dst: &mut [u32], at: usize, src: &[u32]) -> bool
-    ensures { λ r. ⌜ Put (now (dst .entry)) at (now (src .entry)) (now (dst .exit)) r ⌝ }
-{
-    if dst.len() < at {
-        return false;
-    }
-    if dst.len() - at < src.len() {
-        return false;
-    }
-    let mut i = 0;
-    while i < src.len() {
-        dst[at + i] = src[i];
-        i += 1;
-    }
-    true
 }

@@ -12,7 +12,7 @@ use Rattle.copy.specs.Copy.{part, part-add, length-part, Wrote, then, wrote-one
 use Rattle.host.specs.Little.{little, valueOf, rows, rowsAt, unrow, Below, rows-append, rows-one, unrow-more}
 
 -- numbers of a width, written from a place on
-pub record PutRows (k : ℕ) (b : Bytes) (at : ℕ) (ns : List ℕ) (b′ : Bytes) : Type 0 where
+pub record WroteRows (k : ℕ) (b : Bytes) (at : ℕ) (ns : List ℕ) (b′ : Bytes) : Type 0 where
   pub same : length b′ ≡ length b
   pub wrote : Wrote b b′ at (at + length ns * k) (rows k ns)
   pub fits : Below (256 ^ k) ns
@@ -77,44 +77,44 @@ eight-put n p q x =
 
 -- ---- the loops: i numbers are done
 
-pub record Putting (k : ℕ) (b : Bytes) (at : ℕ) (ns : List ℕ) (b′ : Bytes) (i : ℕ) : Type 0 where
+pub record Writing (k : ℕ) (b : Bytes) (at : ℕ) (ns : List ℕ) (b′ : Bytes) (i : ℕ) : Type 0 where
   pub upto : i ≤ length ns
   pub fits : at + length ns * k ≤ length b
   pub same : length b′ ≡ length b
   pub wrote : Wrote b b′ at (at + i * k) (rows k (take i ns))
 
-pub putting-begins : {k : ℕ} {b : Bytes} {at : ℕ} {ns : List ℕ} → at + length ns * k ≤ length b → Putting k b at ns b 0
+pub writing-begins : {k : ℕ} {b : Bytes} {at : ℕ} {ns : List ℕ} → at + length ns * k ≤ length b → Writing k b at ns b 0
 unfolding rows
-putting-begins {k} {b} {at} {ns} h =
+writing-begins {k} {b} {at} {ns} h =
     let z : at + 0 * k ≡ at = omega arith in
     record { upto = omega arith; fits = h; same = refl; wrote = rw z (wrote-none (omega arith)) }
 
-pub putting-more : {k : ℕ} {b : Bytes} {at : ℕ} {ns : List ℕ} {d e : Bytes} {i : ℕ} → Putting k b at ns d i → i < length ns → Wrote d e (at + i * k) (at + i * k + k) (little k (getD ns i 0))
-    → Putting k b at ns e (i + 1)
-putting-more {k} {b} {at} {ns} {d} {e} {i} h l w =
+pub writing-more : {k : ℕ} {b : Bytes} {at : ℕ} {ns : List ℕ} {d e : Bytes} {i : ℕ} → Writing k b at ns d i → i < length ns → Wrote d e (at + i * k) (at + i * k + k) (little k (getD ns i 0))
+    → Writing k b at ns e (i + 1)
+writing-more {k} {b} {at} {ns} {d} {e} {i} h l w =
     let x : at + i * k + k ≡ at + (i + 1) * k = omega arith in
     let y : rows k (take i ns) ++ little k (getD ns i 0) ≡ rows k (take (i + 1) ns) =
     sym (rw (add-one, take-suc ns i 0 l, rows-append, rows-one)) in
     record { upto = omega arith; fits = h .fits; same = wrote-same w ∙ h .same; wrote = wrote-as (rw x at (then (h .wrote) w)) y }
 
-pub putting-done : {k : ℕ} {b : Bytes} {at : ℕ} {ns : List ℕ} {e : Bytes} {i : ℕ} → Putting k b at ns e i → length ns ≤ i → Below (256 ^ k) ns → PutRows k b at ns e
-putting-done {k} {b} {at} {ns} {e} {i} h l f =
+pub writing-done : {k : ℕ} {b : Bytes} {at : ℕ} {ns : List ℕ} {e : Bytes} {i : ℕ} → Writing k b at ns e i → length ns ≤ i → Below (256 ^ k) ns → WroteRows k b at ns e
+writing-done {k} {b} {at} {ns} {e} {i} h l f =
     let q : i ≡ length ns = omega arith in
     record { same = h .same; wrote = rw (q, take-length ns) at (h .wrote); fits = f }
 
-pub record Getting (k : ℕ) (b : Bytes) (at : ℕ) (ns₀ ns : List ℕ) (i : ℕ) : Type 0 where
+pub record Reading (k : ℕ) (b : Bytes) (at : ℕ) (ns₀ ns : List ℕ) (i : ℕ) : Type 0 where
   pub upto : i ≤ length ns
   pub same : length ns ≡ length ns₀
   pub fits : at + length ns * k ≤ length b
   pub front : take i ns ≡ rowsAt k b at i
 
-pub getting-begins : {k : ℕ} {b : Bytes} {at : ℕ} {ns : List ℕ} → at + length ns * k ≤ length b → Getting k b at ns ns 0
+pub reading-begins : {k : ℕ} {b : Bytes} {at : ℕ} {ns : List ℕ} → at + length ns * k ≤ length b → Reading k b at ns ns 0
 unfolding rowsAt unrow
-getting-begins {k} {b} {at} {ns} h = record { upto = omega arith; same = refl; fits = h; front = refl }
+reading-begins {k} {b} {at} {ns} h = record { upto = omega arith; same = refl; fits = h; front = refl }
 
-pub getting-more : {k : ℕ} {b : Bytes} {at : ℕ} {ns₀ ns : List ℕ} {i v : ℕ} → Getting k b at ns₀ ns i → i < length ns → v ≡ valueOf (part b (at + i * k) k) → Getting k b at ns₀ (set ns i v) (i + 1)
+pub reading-more : {k : ℕ} {b : Bytes} {at : ℕ} {ns₀ ns : List ℕ} {i v : ℕ} → Reading k b at ns₀ ns i → i < length ns → v ≡ valueOf (part b (at + i * k) k) → Reading k b at ns₀ (set ns i v) (i + 1)
 unfolding rowsAt part
-getting-more {k} {b} {at} {ns₀} {ns} {i} {v} h l e =
+reading-more {k} {b} {at} {ns₀} {ns} {i} {v} h l e =
     record {
       upto = rw length-set (omega arith);
       same = length-set ns i v ∙ h .same;
@@ -122,7 +122,7 @@ getting-more {k} {b} {at} {ns₀} {ns} {i} {v} h l e =
       front = rw (add-one, take-suc-set ns i v l, h .front, e, unrow-more, drop-drop);
     }
 
-pub getting-done : {k : ℕ} {b : Bytes} {at : ℕ} {ns₀ ns : List ℕ} {i : ℕ} → Getting k b at ns₀ ns i → length ns ≤ i → ns ≡ rowsAt k b at (length ns₀)
-getting-done {k} {b} {at} {ns₀} {ns} {i} h l =
+pub reading-done : {k : ℕ} {b : Bytes} {at : ℕ} {ns₀ ns : List ℕ} {i : ℕ} → Reading k b at ns₀ ns i → length ns ≤ i → ns ≡ rowsAt k b at (length ns₀)
+reading-done {k} {b} {at} {ns₀} {ns} {i} h l =
     let q : i ≡ length ns = omega arith in
     sym (take-length ns) ∙ ap (λ (m : ℕ). take m ns) (sym q) ∙ (h .front ∙ rw (q, h .same))

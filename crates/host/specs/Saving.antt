@@ -16,7 +16,7 @@ use Rattle.host.specs.declared.Image.{Image}
 use Rattle.host.specs.Little.{rows, rowsAt, Below}
 use Rattle.host.specs.Image.{stateBytes, numbersOf, encode, registersOf, flagsOk, stateOf, decode, Words, Typed, decode-encode, decode-good, encode-decode}
 use Rattle.host.specs.Meets.{Stands, Loads}
-use Rattle.host.specs.Rows.{PutRows}
+use Rattle.host.specs.Rows.{WroteRows}
 
 -- ---- from bytes
 
@@ -38,18 +38,18 @@ module _ (b : Bytes) (h : Below 256 b) (l : length b ≡ stateBytes) {ns fs bs i
 -- ---- to bytes
 
 -- the table of rdf:IDs stands at the end
-pub record PutIds (b : Bytes) (t : IdTable) (b′ : Bytes) : Type 0 where
+pub record WroteIds (b : Bytes) (t : IdTable) (b′ : Bytes) : Type 0 where
   pub same : length b′ ≡ length b
   pub wrote : Wrote b b′ 7_016 11_112 (rows 4 (t .at) ++ rows 4 (t .len))
   pub at : Words 512 (t .at)
   pub len : Words 512 (t .len)
 
 -- a row that ends where the next begins
-ended : {k : ℕ} {b : Bytes} {at : ℕ} {ns : List ℕ} {b′ : Bytes} (to n : ℕ) → PutRows k b at ns b′ → length ns ≡ n → at + n * k ≡ to → Wrote b b′ at to (rows k ns)
+ended : {k : ℕ} {b : Bytes} {at : ℕ} {ns : List ℕ} {b′ : Bytes} (to n : ℕ) → WroteRows k b at ns b′ → length ns ≡ n → at + n * k ≡ to → Wrote b b′ at to (rows k ns)
 ended to n p l e = rw (l, e) at (p .wrote)
 
-pub put-both : {b c d : Bytes} {t : IdTable} → PutRows 4 b 7_016 (t .at) c → PutRows 4 c 9_064 (t .len) d → length (t .at) ≡ 512 → length (t .len) ≡ 512 → PutIds b t d
-put-both p q l m =
+pub write-both : {b c d : Bytes} {t : IdTable} → WroteRows 4 b 7_016 (t .at) c → WroteRows 4 c 9_064 (t .len) d → length (t .at) ≡ 512 → length (t .len) ≡ 512 → WroteIds b t d
+write-both p q l m =
     record {
       same = q .same ∙ p .same;
       wrote = then (ended 9_064 512 p l (omega arith)) (ended 11_112 512 q m (omega arith));
@@ -57,8 +57,8 @@ put-both p q l m =
       len = record { size = m; fits = q .fits };
     }
 
-module _ {b b₁ b₂ b₃ b₄ b₅ : Bytes} (s : State) (l : length b ≡ stateBytes) (p : PutRows 8 b 0 (numbersOf s) b₁) (q : PutRows 4 b₁ 104 (s .frames) b₂)
-    (r : PutRows 4 b₂ 4_712 (s .bindings) b₃) (t : PutRows 4 b₃ 6_248 (s .inners) b₄) (u : PutIds b₄ (s .ids) b₅)
+module _ {b b₁ b₂ b₃ b₄ b₅ : Bytes} (s : State) (l : length b ≡ stateBytes) (p : WroteRows 8 b 0 (numbersOf s) b₁) (q : WroteRows 4 b₁ 104 (s .frames) b₂)
+    (r : WroteRows 4 b₂ 4_712 (s .bindings) b₃) (t : WroteRows 4 b₃ 6_248 (s .inners) b₄) (u : WroteIds b₄ (s .ids) b₅)
     (x : length (s .frames) ≡ 1_152) (y : length (s .bindings) ≡ 384) (z : length (s .inners) ≡ 192) where
   typed : Typed s
   typed =

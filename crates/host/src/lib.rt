@@ -9,8 +9,8 @@ ghost use Rattle.copy.specs.Copy.{part, Wrote};
 ghost use Rattle.host.specs.Little.{little, valueOf, rowsAt};
 ghost use Rattle.host.specs.Image.{flag, stateBytes, numbersOf, flagsOk, registersOf};
 ghost use Rattle.host.specs.Meets.{yes, Stands, Loads, StartsIn, StepsIn, FinishesIn};
-ghost use Rattle.host.specs.Rows.{PutRows};
-ghost use Rattle.host.specs.Saving.{PutIds};
+ghost use Rattle.host.specs.Rows.{WroteRows};
+ghost use Rattle.host.specs.Saving.{WroteIds};
 use frames::Frame;
 use frames::Row;
 use ids::IdTable;
@@ -143,7 +143,7 @@ fn load(b: &[u8]) -> Image
         return Image::none();
     }
     let mut numbers = [0; Image::NUMBERS];
-    get_numbers(b, 0, &mut numbers);
+    read_numbers(b, 0, &mut numbers);
     if !flags_ok(numbers) {
         return Image::none();
     }
@@ -152,11 +152,11 @@ fn load(b: &[u8]) -> Image
     let mut inners = [0; Row::INNERS];
     let mut at = [0; IdTable::MOST];
     let mut len = [0; IdTable::MOST];
-    get_words(b, Image::FRAMES, &mut frames);
-    get_words(b, Image::BINDINGS, &mut bindings);
-    get_words(b, Image::INNERS, &mut inners);
-    get_words(b, Image::IDS_AT, &mut at);
-    get_words(b, Image::IDS_LEN, &mut len);
+    read_words(b, Image::FRAMES, &mut frames);
+    read_words(b, Image::BINDINGS, &mut bindings);
+    read_words(b, Image::INNERS, &mut inners);
+    read_words(b, Image::IDS_AT, &mut at);
+    read_words(b, Image::IDS_LEN, &mut len);
     let registers = registers_of(numbers);
     let ids = IdTable {
         count: numbers[11],
@@ -180,26 +180,26 @@ fn save(b: &mut [u8], s: State)
     ensures { λ _. ⌜ Stands (now (b .exit)) s ⌝ }
 {
     let numbers = numbers_of(s);
-    put_numbers(b, 0, &numbers);
+    write_numbers(b, 0, &numbers);
     let frames = s.frames;
-    put_words(b, Image::FRAMES, &frames);
+    write_words(b, Image::FRAMES, &frames);
     let bindings = s.bindings;
-    put_words(b, Image::BINDINGS, &bindings);
+    write_words(b, Image::BINDINGS, &bindings);
     let inners = s.inners;
-    put_words(b, Image::INNERS, &inners);
+    write_words(b, Image::INNERS, &inners);
     let ids = s.ids;
-    put_ids(b, ids);
+    write_ids(b, ids);
 }
 
 // The table of rdf:IDs, at the end.
-fn put_ids(b: &mut [u8], ids: IdTable)
+fn write_ids(b: &mut [u8], ids: IdTable)
     requires { ⌜ length (now b) ≡ stateBytes ⌝ }
-    ensures { λ _. ⌜ PutIds (now (b .entry)) ids (now (b .exit)) ⌝ }
+    ensures { λ _. ⌜ WroteIds (now (b .entry)) ids (now (b .exit)) ⌝ }
 {
     let at = ids.at;
-    put_words(b, Image::IDS_AT, &at);
+    write_words(b, Image::IDS_AT, &at);
     let len = ids.len;
-    put_words(b, Image::IDS_LEN, &len);
+    write_words(b, Image::IDS_LEN, &len);
 }
 
 // The numbers of a state, in the order of their places.
@@ -262,38 +262,38 @@ fn registers_of(ns: [usize; Image::NUMBERS]) -> Registers
     }
 }
 
-// Numbers end to end, from a place on; words likewise.
-fn put_numbers(b: &mut [u8], at: usize, ns: &[usize])
+// Numbers written as bytes, end to end, from a place on; words likewise.
+fn write_numbers(b: &mut [u8], at: usize, ns: &[usize])
     requires { ⌜ at + length (now ns) * 8 ≤ length (now b) ⌝ }
-    ensures { λ _. ⌜ PutRows 8 (now (b .entry)) at (now (ns .entry)) (now (b .exit)) ⌝ }
+    ensures { λ _. ⌜ WroteRows 8 (now (b .entry)) at (now (ns .entry)) (now (b .exit)) ⌝ }
 {
     let mut i = 0;
     while i < ns.len() {
-        put_number(b, at + i * 8, ns[i]);
+        write_number(b, at + i * 8, ns[i]);
         i += 1;
     }
 }
 
-fn put_words(b: &mut [u8], at: usize, ws: &[u32])
+fn write_words(b: &mut [u8], at: usize, ws: &[u32])
     requires { ⌜ at + length (now ws) * 4 ≤ length (now b) ⌝ }
-    ensures { λ _. ⌜ PutRows 4 (now (b .entry)) at (now (ws .entry)) (now (b .exit)) ⌝ }
+    ensures { λ _. ⌜ WroteRows 4 (now (b .entry)) at (now (ws .entry)) (now (b .exit)) ⌝ }
 {
     let mut i = 0;
     while i < ws.len() {
-        put_word(b, at + i * 4, ws[i]);
+        write_word(b, at + i * 4, ws[i]);
         i += 1;
     }
 }
 
-fn put_number(b: &mut [u8], at: usize, n: usize)
+fn write_number(b: &mut [u8], at: usize, n: usize)
     requires { ⌜ at + 8 ≤ length (now b) ⌝ }
     ensures { λ _. ⌜ Wrote (now (b .entry)) (now (b .exit)) at (at + 8) (little 8 n) ⌝ }
 {
-    put_word(b, at, (n % 4_294_967_296) as u32);
-    put_word(b, at + 4, (n / 4_294_967_296) as u32);
+    write_word(b, at, (n % 4_294_967_296) as u32);
+    write_word(b, at + 4, (n / 4_294_967_296) as u32);
 }
 
-fn put_word(b: &mut [u8], at: usize, w: u32)
+fn write_word(b: &mut [u8], at: usize, w: u32)
     requires { ⌜ at + 4 ≤ length (now b) ⌝ }
     ensures { λ _. ⌜ Wrote (now (b .entry)) (now (b .exit)) at (at + 4) (little 4 w) ⌝ }
 {
@@ -304,38 +304,38 @@ fn put_word(b: &mut [u8], at: usize, w: u32)
 }
 
 // And back: as many as `ns` has places.
-fn get_numbers(b: &[u8], at: usize, ns: &mut [usize])
+fn read_numbers(b: &[u8], at: usize, ns: &mut [usize])
     requires { ⌜ at + length (now ns) * 8 ≤ length (now b) ⌝ }
     ensures { λ _. ⌜ now (ns .exit) ≡ rowsAt 8 (now (b .entry)) at (length (now (ns .entry))) ⌝ }
 {
     let mut i = 0;
     while i < ns.len() {
-        ns[i] = get_number(b, at + i * 8);
+        ns[i] = read_number(b, at + i * 8);
         i += 1;
     }
 }
 
-fn get_words(b: &[u8], at: usize, ws: &mut [u32])
+fn read_words(b: &[u8], at: usize, ws: &mut [u32])
     requires { ⌜ at + length (now ws) * 4 ≤ length (now b) ⌝ }
     ensures { λ _. ⌜ now (ws .exit) ≡ rowsAt 4 (now (b .entry)) at (length (now (ws .entry))) ⌝ }
 {
     let mut i = 0;
     while i < ws.len() {
-        ws[i] = get_word(b, at + i * 4);
+        ws[i] = read_word(b, at + i * 4);
         i += 1;
     }
 }
 
-fn get_number(b: &[u8], at: usize) -> usize
+fn read_number(b: &[u8], at: usize) -> usize
     requires { ⌜ at + 8 ≤ length (now b) ⌝ }
     ensures { λ n. ⌜ n ≡ valueOf (part (now (b .entry)) at 8) ⌝ }
 {
-    let low = get_word(b, at) as usize;
-    let high = get_word(b, at + 4) as usize;
+    let low = read_word(b, at) as usize;
+    let high = read_word(b, at + 4) as usize;
     low + 4_294_967_296 * high
 }
 
-fn get_word(b: &[u8], at: usize) -> u32
+fn read_word(b: &[u8], at: usize) -> u32
     requires { ⌜ at + 4 ≤ length (now b) ⌝ }
     ensures { λ w. ⌜ w ≡ valueOf (part (now (b .entry)) at 4) ⌝ }
 {

@@ -1,11 +1,12 @@
 // The rdf:IDs that accepted events have used, as spans of a lent store. A type of its own: it knows nothing of the rest of the reader's state.
 ghost use mathlib.Core.Path.{_≡_};
-ghost use Prim.Native.Nat.{_+_, _<_, _≤_};
+ghost use Prim.Native.Nat.{_+_, _≤_};
 ghost use lib.ListN.{length};
 ghost use Rattle.spec.specs.Bytes.{same};
 ghost use Rattle.copy.specs.Copy.{part};
 ghost use Rattle.ids.specs.Ids.{validIds, roomFor, SpansIn, found};
 ghost use Rattle.ids.specs.Adding.{Fresh, Adds};
+use copy::words::wide;
 use resolve::Resolved;
 
 // Place `i` holds the ID that lies in the store from `at[i]` on and is `len[i]` bytes long. `count` places are in use, the oldest first;
@@ -162,11 +163,4 @@ fn is_at(store: &[u8], from: usize, n: usize, id: &[u8]) -> bool
     ensures { λ r. ⌜ r ≡ same (now (id .entry)) (part (now (store .entry)) from n) ⌝ }
 {
     copy::equal_from_end(id, &store[from..from + n])
-}
-
-// A word of the table as a number.
-fn wide(x: u32) -> usize
-    ensures { λ r. ⌜ (r ≡ x) × (r < 4294967296) ⌝ }
-{
-    x as usize
 }

@@ -1,13 +1,13 @@
 -- The tests of one character: an alternative that holds decides, and one that does not leaves the others.
 use mathlib.Core.Path.{_≡_, refl, sym, _∙_}
 use mathlib.Core.Bool.{Bool, true, false, _&&_, _||_, or-false}
-use mathlib.Core.List.{List, [], _∷_}
+use mathlib.Core.List.{[], _∷_}
 use Prim.Native.Nat.{ℕ, _+_, _<_, _≤_}
 use native.Mathlib.Omega.{arith}
 use lib.Dec.{eqb, leb}
 use lib.ListN.{length, getD}
 use borrow.Author.Tests.{eq-eqb, ne-eqb, eqb-true, le-leb, lt-leb, leb-true}
-use Rattle.spec.specs.Bytes.{Bytes, byte, between, inRanges}
+use Rattle.spec.specs.Bytes.{Bytes, byte, between}
 use Rattle.spec.specs.Abnf.{lower}
 use Rattle.spec.proofs.Booleans.{and-left, and-right}
 use Rattle.iri.specs.Parts.{isDigit, isAlphanum, isHex, escaped}
@@ -53,17 +53,6 @@ module _ (c : ℕ) where
   pub no-letter : {t : Bool} → between 97 122 c ≡ false → between 65 90 c ≡ false → t ≡ isDigit c → t ≡ isAlphanum c
   unfolding P.all
   no-letter h q e = e ∙ rw (q, h)
-
--- ---- ranges from a number on
-
-unfoldable pub from-on : ℕ → List (ℕ × ℕ) → Bool
-from-on m [] = true
-from-on m (r ∷ rs) = leb m (r .0) && from-on m rs
-
-pub below : (m c : ℕ) (rs : List (ℕ × ℕ)) → from-on m rs ≡ true → c < m → inRanges rs c ≡ false
-unfolding inRanges between from-on
-below m c [] h l = refl
-below m c (r ∷ rs) h l = rw (lt-leb (r .0) c (omega (arith, leb-true m (r .0) (and-left (leb m (r .0)) (from-on m rs) h)))) (below m c rs (and-right (leb m (r .0)) (from-on m rs) h) l)
 
 -- ---- "%" and two digits
 

@@ -1,50 +1,15 @@
 -- The loops that search: what is left to find from the position that a loop has come to.
 use mathlib.Core.Path.{_≡_, refl, sym, _∙_}
-use mathlib.Core.Bool.{true, false, _&&_}
-use mathlib.Core.List.{List, [], _∷_}
+use mathlib.Core.Bool.{true, false}
+use mathlib.Core.List.{_∷_}
 use Prim.Native.Nat.{ℕ, suc, _+_, _<_, _≤_}
 use native.Mathlib.Omega.{arith}
-use native.Mathlib.Numerals.{add-one, add-two}
-use lib.Dec.{leb}
-use lib.ListN.{length, drop, getD, drop-of-length-le, length-drop}
+use native.Mathlib.Numerals.{add-one}
+use lib.ListN.{length, drop, getD, drop-of-length-le}
 use lib.Seq.{drop-cons}
 use borrow.Author.Tests.{eq-eqb, ne-eqb}
-use Rattle.spec.specs.Bytes.{Bytes, ascii, begins, among, between, inRanges, if_then_else_}
-use Rattle.iri.specs.Parts.{pairs}
+use Rattle.spec.specs.Bytes.{Bytes, ascii, begins, among, if_then_else_}
 use Rattle.iri.specs.Addresses.{upToGap}
-
--- ---- a table of ranges: those before the ith number do not hold c
-
-pub record Ranged (t : List ℕ) (c i : ℕ) : Type 0 where
-  pub upto : i ≤ length t
-  pub rest : inRanges (pairs t) c ≡ inRanges (pairs (drop i t)) c
-
-pub ranged-begins : (t : List ℕ) (c : ℕ) → Ranged t c 0
-ranged-begins t c = record { upto = omega arith; rest = refl }
-
-module _ {t : List ℕ} {c i : ℕ} (h : Ranged t c i) where
-  ranged-next : i + 1 < length t → drop i t ≡ getD t i 0 ∷ getD t (i + 1) 0 ∷ drop (i + 2) t
-  ranged-next l =
-      let a : i < length t = omega arith in
-      let b : suc i < length t = omega arith in
-      drop-cons t i 0 a ∙ rw (drop-cons t (suc i) 0 b, add-one i, add-two i)
-
-  pub ranged-hit : i + 1 < length t → (leb (getD t i 0) c && leb c (getD t (i + 1) 0)) ≡ true → true ≡ inRanges (pairs t) c
-  unfolding inRanges pairs between
-  ranged-hit l e = sym (h .rest ∙ rw (ranged-next l, e))
-
-  pub ranged-more : i + 1 < length t → (leb (getD t i 0) c && leb c (getD t (i + 1) 0)) ≡ false → Ranged t c (i + 2)
-  unfolding inRanges pairs between
-  ranged-more l e = record { upto = omega arith; rest = h .rest ∙ rw (ranged-next l, e) }
-
-  pub ranged-done : length t ≤ i + 1 → false ≡ inRanges (pairs t) c
-  unfolding inRanges pairs
-  ranged-done l = sym (h .rest ∙ by (drop i t) (omega (arith, length-drop i t)))
-    where
-      by : (u : List ℕ) → length u ≤ 1 → inRanges (pairs u) c ≡ false
-      by [] k = refl
-      by (a ∷ []) k = refl
-      by (a ∷ z ∷ u) k = absurd (omega arith)
 
 -- ---- a set of characters
 

@@ -112,12 +112,6 @@ lettered Fragment = true
 unfoldable pub row : Part → Grammar ℕ
 row p = many (grammar (classOf p))
 
--- the ranges whose first and last numbers stand one behind the other
-unfoldable pub pairs : List ℕ → List (ℕ × ℕ)
-pairs [] = []
-pairs (a ∷ []) = []
-pairs (a ∷ z ∷ t) = (a, z) ∷ pairs t
-
 -- does a text begin with "%" and two hexadecimal digits?
 unfoldable pub escaped : Bytes → Bool
 escaped [] = false

@@ -4,10 +4,10 @@ ghost use mathlib.Core.Path.{_≡_};
 ghost use mathlib.Core.Bool.{true, _&&_};
 ghost use mathlib.Core.List.{[], _∷_};
 ghost use lib.ListN.{length};
-ghost use Rattle.spec.specs.Bytes.{among, between, inRanges};
+ghost use Rattle.spec.specs.Bytes.{among, between};
 ghost use Rattle.spec.specs.Abnf.{lower, some};
 ghost use Rattle.spec.specs.Rfc3987.{isIri, isIriReference, scheme, iauthority, IPv6address, IPvFuture, IPv4address, h16, dec-octet};
-ghost use Rattle.iri.specs.Parts.{of, grammar, classOf, allowed, escapes, unreserved, delims, pchar, row, escaped, isAlpha, isDigit, isAlphanum, isHex, isUcschar, isIprivate, pairs, lettered, Taken};
+ghost use Rattle.iri.specs.Parts.{of, grammar, classOf, allowed, escapes, unreserved, delims, pchar, row, escaped, isAlpha, isDigit, isAlphanum, isHex, isUcschar, isIprivate, lettered, Taken};
 ghost use Rattle.iri.specs.Forms.{optionally, isMark, restOf, partOf, network, server, bracketed, literal, version, colonless};
 ghost use Rattle.iri.specs.Addresses.{Counted, upToGap, octet};
 use utils::Decoded;
@@ -97,7 +97,7 @@ fn is_scheme(s: &[u8]) -> bool
     if s.len() == 0 {
         return false;
     }
-    if !is_alpha(wide(s[0])) {
+    if !is_alpha(as_char(s[0])) {
         return false;
     }
     is_row(Part::Scheme, &s[1..])
@@ -227,7 +227,7 @@ fn is_future(s: &[u8]) -> bool
     if s.len() == 0 {
         return false;
     }
-    if lowered(wide(s[0])) != 118 {
+    if lowered(as_char(s[0])) != 118 {
         return false;
     }
     is_version(&s[1..])
@@ -342,13 +342,13 @@ fn is_octet(s: &[u8]) -> bool
     ensures { λ r. ⌜ r ≡ of dec-octet (now (s .entry)) ⌝ }
 {
     if s.len() == 1 {
-        return is_digit(wide(s[0]));
+        return is_digit(as_char(s[0]));
     }
     if s.len() == 2 {
-        return is_two_digits(wide(s[0]), wide(s[1]));
+        return is_two_digits(as_char(s[0]), as_char(s[1]));
     }
     if s.len() == 3 {
-        return is_three_digits(wide(s[0]), wide(s[1]), wide(s[2]));
+        return is_three_digits(as_char(s[0]), as_char(s[1]), as_char(s[2]));
     }
     false
 }
@@ -385,7 +385,7 @@ fn is_row(part: Part, s: &[u8]) -> bool
     let lettered = has_letters(part);
     let mut at: usize = 0;
     while at < s.len() {
-        if lettered & is_alphanum(wide(s[at])) {
+        if lettered & is_alphanum(as_char(s[at])) {
             at += 1;
             continue;
         }
@@ -447,7 +447,7 @@ fn is_escaped(part: Part, s: &[u8]) -> bool
     if s[0] != 37 {
         return false;
     }
-    is_hex(wide(s[1])) & is_hex(wide(s[2]))
+    is_hex(as_char(s[1])) & is_hex(as_char(s[2]))
 }
 
 // Scheme, port and address have none.
@@ -607,7 +607,7 @@ fn is_ucschar(c: u32) -> bool
     if c < 0xA0 {
         return false;
     }
-    in_ranges(&UCSCHAR, c)
+    utils::in_ranges(&UCSCHAR, c)
 }
 
 fn is_iprivate(c: u32) -> bool
@@ -616,21 +616,7 @@ fn is_iprivate(c: u32) -> bool
     if c < 0xE000 {
         return false;
     }
-    in_ranges(&IPRIVATE, c)
-}
-
-// A character in one of some ranges, of which a table has first and last.
-fn in_ranges(bounds: &[u32], c: u32) -> bool
-    ensures { λ r. ⌜ r ≡ inRanges (pairs (now (bounds .entry))) c ⌝ }
-{
-    let mut i: usize = 0;
-    while i + 1 < bounds.len() {
-        if (bounds[i] <= c) & (c <= bounds[i + 1]) {
-            return true;
-        }
-        i += 2;
-    }
-    false
+    utils::in_ranges(&IPRIVATE, c)
 }
 
 // A character of a set.
@@ -639,7 +625,7 @@ fn is_among(set: &[u8], c: u32) -> bool
 {
     let mut i: usize = 0;
     while i < set.len() {
-        if wide(set[i]) == c {
+        if as_char(set[i]) == c {
             return true;
         }
         i += 1;
@@ -663,7 +649,8 @@ fn lowered(c: u32) -> u32
     c
 }
 
-fn wide(b: u8) -> u32
+// A byte as a character.
+fn as_char(b: u8) -> u32
     ensures { λ r. ⌜ r ≡ b ⌝ }
 {
     b as u32

@@ -16,6 +16,7 @@ ghost use Rattle.names.specs.Found.{foundBytes, scope, IsOwn, IsHeld, he
 ghost use Rattle.names.specs.Pairs.{behindIn, pairs};
 ghost use Rattle.names.specs.Repeats.{sameWritten};
 ghost use Rattle.names.specs.Classes.{wordsOf, classOf, classAt, StoredClass, Says, Classifies, kindOf, sameKeys, spaceBy, tailAt, Keyed};
+use copy::words::wide;
 
 // The namespace that `xml` is always bound to.
 pub const XML: [u8; 36] = *b"http://www.w3.org/XML/1998/namespace";
@@ -699,11 +700,4 @@ fn numbers(what: usize, at: usize, size: usize) -> ClassWords
     ensures { λ r. ⌜ r ≡ record { what = what; at = at; size = size } ⌝ }
 {
     ClassWords { what, at, size }
-}
-
-// A word as a number.
-fn wide(x: u32) -> usize
-    ensures { λ r. ⌜ (r ≡ x) × (r < 4294967296) ⌝ }
-{
-    x as usize
 }

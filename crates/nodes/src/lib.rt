@@ -5,9 +5,10 @@ ghost use lib.ListN.{length};
 ghost use Rattle.spec.specs.Limits.{workStoreBytes};
 ghost use Rattle.copy.specs.Copy.{part, storedAt};
 ghost use Rattle.nodes.specs.Take.{mayTake, objectWord, blankByte, TakesObject, TakesChild, TakesNode, ClosesNode, childIn};
+use copy::words::byte;
+use copy::words::wide;
 use frames::Frame;
 use frames::Kind;
-use frames::wide;
 use stack::Changed;
 use state::Registers;
 
@@ -209,10 +210,4 @@ fn minus(a: usize, b: usize) -> usize
     ensures { λ r. ⌜ r ≡ a - b ⌝ }
 {
     if a < b { 0 } else { a - b }
-}
-
-fn byte(x: u8) -> usize
-    ensures { λ r. ⌜ (r ≡ x) × (r < 256) ⌝ }
-{
-    x as usize
 }

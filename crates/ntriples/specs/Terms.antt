@@ -14,6 +14,11 @@ use Rattle.ntriples.specs.declared.Node.the-variants as node-kind
 use Rattle.ntriples.specs.declared.Term.{Term}
 use Rattle.ntriples.specs.declared.Term.the-variants as term-kind
 
+-- with a label, or with an IRI
+unfoldable pub nodeFor : Bool → Node
+nodeFor true = node-kind.Blank
+nodeFor false = node-kind.Named
+
 -- an IRI, or a label
 unfoldable pub subjectOf : Node → Bytes → Subject
 subjectOf node-kind.Named i = named i

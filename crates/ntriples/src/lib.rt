@@ -6,7 +6,7 @@ ghost use mathlib.Core.Option.{some};
 ghost use Rattle.spec.specs.NTriples.{blank, tagged, typed, triple, writeIri, writeSubject, quoted, writeTerm, line, write};
 ghost use Rattle.spec.specs.Productions.{reification, statement};
 ghost use Rattle.writer.specs.Put.{Put};
-ghost use Rattle.ntriples.specs.Terms.{subjectOf, termOf, asTerm, inRdf, propertyOf, cellOf};
+ghost use Rattle.ntriples.specs.Terms.{nodeFor, subjectOf, termOf, asTerm, inRdf, propertyOf, cellOf};
 
 // What a subject is: its IRI or its label stands beside it.
 pub enum Node {
@@ -21,6 +21,25 @@ pub enum Term {
     Plain,
     Tagged,
     Typed,
+}
+
+impl Node {
+    // A blank node, or a named one.
+    pub fn of(blank: bool) -> Self
+        ensures { λ r. ⌜ r ≡ nodeFor blank ⌝ }
+    {
+        if blank { Node::Blank } else { Node::Named }
+    }
+
+    // As an object.
+    pub fn as_term(self) -> Term
+        ensures { λ r. ⌜ r ≡ asTerm self ⌝ }
+    {
+        match self {
+            Node::Named => Term::Named,
+            Node::Blank => Term::Blank,
+        }
+    }
 }
 
 // The rdf namespace.
@@ -180,7 +199,7 @@ pub fn reification(
         b"Statement",
         b"",
     );
-    let to = rdf_line(out, to, on, n, id, b"subject", as_term(node), s, b"", b"");
+    let to = rdf_line(out, to, on, n, id, b"subject", node.as_term(), s, b"", b"");
     let to = rdf_line(
         out,
         to,
@@ -255,7 +274,7 @@ pub fn cell(
         n,
         label,
         b"first",
-        as_term(first),
+        first.as_term(),
         member,
         b"",
         b"",
@@ -267,21 +286,11 @@ pub fn cell(
         n,
         label,
         b"rest",
-        as_term(rest),
+        rest.as_term(),
         others,
         b"",
         b"",
     )
-}
-
-// A node as an object.
-fn as_term(node: Node) -> Term
-    ensures { λ r. ⌜ r ≡ asTerm node ⌝ }
-{
-    match node {
-        Node::Named => Term::Named,
-        Node::Blank => Term::Blank,
-    }
 }
 
 fn label(out: &mut [u8], at: usize, on: bool, front: &[u8], back: &[u8]) -> usize

@@ -37,7 +37,15 @@ pub fn check_form<'a>(
     if !names::all_legal(scratch, spans, k) {
         return Form::Stop(Refusal::NotWellFormed);
     }
-    names::classify(scratch, spans, k, work, bindings, r.counts.bindings, classes);
+    names::classify(
+        scratch,
+        spans,
+        k,
+        work,
+        bindings,
+        r.counts.bindings,
+        classes,
+    );
     if names::repeated_expanded(scratch, spans, k, work, classes) {
         return Form::Stop(Refusal::NotWellFormed);
     }

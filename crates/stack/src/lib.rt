@@ -5,10 +5,10 @@ ghost use Prim.Native.Nat.{_+_, _-_, _*_, _≤_, _<_};
 ghost use lib.ListN.{length};
 ghost use Rattle.stack.specs.Change.{toppedTo, labelledTo};
 ghost use Rattle.stack.specs.Calls.{frameOf, Pushes, Pops, Binds, topFrame, sameKind, Texts, Xmls, CountsLi, Tails};
+use copy::words::wide;
 use frames::Frame;
 use frames::Kind;
 use frames::Row;
-use frames::wide;
 use label::BlankNodeIdGenerator;
 use state::Counts;
 use state::Flags;
@@ -167,7 +167,15 @@ pub fn add_xml(r: Registers, frames: &mut [u32], work: &mut [u8], text: &[u8]) -
             registers: r,
         };
     }
-    write_tail(r, frames, work, f, wide(at[Frame::END]), has[Frame::PENDING], text)
+    write_tail(
+        r,
+        frames,
+        work,
+        f,
+        wide(at[Frame::END]),
+        has[Frame::PENDING],
+        text,
+    )
 }
 
 // One more rdf:li of the node on top.

@@ -65,7 +65,18 @@ pub fn judge_tag(
             let plan = x.plan;
             let parts = plan.parts;
             let id = x.id;
-            if !fits(parts, id, r.store.top, count, used, scratch, spans, m, k, area) {
+            if !fits(
+                parts,
+                id,
+                r.store.top,
+                count,
+                used,
+                scratch,
+                spans,
+                m,
+                k,
+                area,
+            ) {
                 return Verdict::Stop(Refusal::OverLimit);
             }
             Verdict::Go(x)

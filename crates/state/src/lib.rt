@@ -9,11 +9,12 @@ ghost use Rattle.frames.specs.Parts.{END, FRAME};
 ghost use Rattle.frames.specs.Words.{pick};
 ghost use Rattle.state.specs.Meaning.{at, childSize};
 ghost use Rattle.state.specs.Valid.{rises, emptyOr, partsOk, chained, childrenOk, kindOk, isNode, nodeBelow, stands, elementOk, framesOk, ceiling, innersOk, countsOk, lengthsOk, validState};
+ghost use Rattle.state.specs.Live.{startedWith};
+use copy::words::byte;
+use copy::words::wide;
 use frames::Frame;
 use frames::Kind;
 use frames::Row;
-ghost use Rattle.state.specs.Live.{startedWith};
-use frames::wide;
 use label::BlankNodeIdGenerator;
 
 // The numbers of a document, in groups: one more number touches the literals of its own group.
@@ -114,10 +115,25 @@ pub fn valid(r: Registers, frames: &[u32], bindings: &[u32], inners: &[u32], wor
     if !counts_ok(r) {
         return false;
     }
-    if !inners_ok(inners, bindings, r.counts.outer, r.counts.inner, r.store.low, r.counts.bindings) {
+    if !inners_ok(
+        inners,
+        bindings,
+        r.counts.outer,
+        r.counts.inner,
+        r.store.low,
+        r.counts.bindings,
+    ) {
         return false;
     }
-    frames_ok(frames, bindings, work, r.store.base, r.counts.depth, r.store.top, r.counts.outer)
+    frames_ok(
+        frames,
+        bindings,
+        work,
+        r.store.base,
+        r.counts.depth,
+        r.store.top,
+        r.counts.outer,
+    )
 }
 
 fn lengths_ok(frames: &[u32], bindings: &[u32], inners: &[u32], work: &[u8]) -> bool
@@ -269,7 +285,13 @@ fn element_ok(frames: &[u32], bindings: &[u32], work: &[u8], n: usize, top: usiz
     if b < first {
         return false;
     }
-    if !chained(bindings, first, b - first, wide(at[Frame::BINDINGS]), wide(at[Frame::BASE])) {
+    if !chained(
+        bindings,
+        first,
+        b - first,
+        wide(at[Frame::BINDINGS]),
+        wide(at[Frame::BASE]),
+    ) {
         return false;
     }
     if !kind_ok(f, work) {
@@ -372,7 +394,12 @@ fn kind_ok(f: Frame, work: &[u8]) -> bool
             if at[Frame::DATATYPE] != at[Frame::TAIL] {
                 return false;
             }
-            children_ok(work, wide(at[Frame::TAIL]), wide(has[Frame::COUNT]), wide(at[Frame::END]))
+            children_ok(
+                work,
+                wide(at[Frame::TAIL]),
+                wide(has[Frame::COUNT]),
+                wide(at[Frame::END]),
+            )
         }
         Kind::ParseTypeLiteralPropertyElt => at[Frame::DATATYPE] == at[Frame::TAIL],
         Kind::ParseTypeOtherPropertyElt => at[Frame::DATATYPE] == at[Frame::END],
@@ -426,11 +453,4 @@ fn child_size(work: &[u8], e: usize) -> usize
     ensures { λ r. ⌜ (r ≡ childSize (now (work .entry)) e) × (r < 65536) ⌝ }
 {
     byte(work[e - 4]) + 256 * byte(work[e - 3])
-}
-
-// A byte as a number.
-fn byte(x: u8) -> usize
-    ensures { λ r. ⌜ (r ≡ x) × (r < 256) ⌝ }
-{
-    x as usize
 }

@@ -35,7 +35,7 @@ use Rattle.ntriples.specs.declared.Node.{Node}
 use Rattle.ntriples.specs.Terms.{cellOf}
 use Rattle.ntriples.specs.Terms as T
 use Rattle.ntriples.specs.Lines.{cells-more}
-use Rattle.statements.specs.Object.{NodeFor}
+use Rattle.statements.specs.Object.{node-is}
 
 -- the list with no members
 abbrev pub nil : Subject
@@ -69,10 +69,10 @@ next-label n g l h =
 
 -- ---- one cell
 
-pub celled : {own s : List ℕ} {m : Node} {others : Subject} (c : Child) (w : List ℕ) (first n : ℕ) → own ≡ label (n + 1) → NodeFor (c .blank) m → s ≡ part w (c .at) (c .len)
+pub celled : {own s : List ℕ} {m : Node} {others : Subject} (c : Child) (w : List ℕ) (first n : ℕ) → own ≡ label (n + 1) → m ≡ T.nodeFor (c .blank) → s ≡ part w (c .at) (c .len)
     → others ≡ listAt first n → write (cellOf own (T.subjectOf m s) others) ≡ write (cellOf (label (n + 1)) (childNode c w) (listAt first n))
 unfolding childNode
-celled {s = s} c w first n o m p l = rw (o, m .says s, p, l)
+celled {s = s} c w first n o m p l = rw (o, node-is (c .blank) m s, p, l)
 
 -- ---- the loop of `cells`: of k children up to z, i are left, the last of which ends at e, and n labels were generated
 

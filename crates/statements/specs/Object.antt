@@ -20,7 +20,6 @@ use Rattle.state.specs.Meaning.{at, has, span, optional, nodeOf, objectOf, subj
 use Rattle.stack.specs.declared.Found.{Found}
 use Rattle.inside.specs.Laws.{found}
 use Rattle.ntriples.specs.declared.Node.{Node}
-use Rattle.ntriples.specs.declared.Node.the-variants as node-kind
 use Rattle.ntriples.specs.declared.Term.{Term}
 use Rattle.ntriples.specs.declared.Term.the-variants as term-kind
 use Rattle.ntriples.specs.Terms as T
@@ -36,10 +35,6 @@ literalLines n f w = statement (propertyOf f w (subjectOf n w)) (typed (span w (
 
 -- ---- what kind of term it is, whatever its bytes are
 
--- a node, blank or not
-pub record NodeFor (b : Bool) (r : Node) : Type 0 where
-  pub says : (s : Bytes) → T.subjectOf r s ≡ pick b (blank s) (named s)
-
 -- a literal: t marks a datatype, and there may be a language
 pub record LiteralFor (t : ℕ) (there : Bool) (r : Term) : Type 0 where
   pub says : (v d l : Bytes) → T.termOf r v (pick (eqb t 0) l d) ≡ literalOf (optional t d) (pick there (some l) none) v
@@ -48,18 +43,16 @@ pub record LiteralFor (t : ℕ) (there : Bool) (r : Term) : Type 0 where
 pub record TermFor (h t : ℕ) (there : Bool) (r : Term) : Type 0 where
   pub says : (s d l : Bytes) → T.termOf r (pick (eqb h 0) [] s) (pick (eqb t 0) l d) ≡ objectTerm (optional t d) (pick there (some l) none) (objectOf h s)
 
-pub node-blank : NodeFor true node-kind.Blank
-unfolding T.subjectOf
-node-blank = record { says = λ s. refl }
-
-pub node-named : NodeFor false node-kind.Named
-unfolding T.subjectOf
-node-named = record { says = λ s. refl }
+-- a node, blank or not
+pub node-is : (b : Bool) {r : Node} → r ≡ T.nodeFor b → (s : Bytes) → T.subjectOf r s ≡ pick b (blank s) (named s)
+unfolding T.subjectOf T.nodeFor
+node-is true e s = rw e
+node-is false e s = rw e
 
 -- the mark of a frame, 0 for a named node
-pub node-marked : (h : ℕ) {r : Node} → NodeFor (not (eqb h 0)) r → (s : Bytes) → T.subjectOf r s ≡ nodeOf h s
+pub node-marked : (h : ℕ) {r : Node} → r ≡ T.nodeFor (not (eqb h 0)) → (s : Bytes) → T.subjectOf r s ≡ nodeOf h s
 unfolding nodeOf
-node-marked h n s = n .says s ∙ go (eqb h 0)
+node-marked h e s = node-is (not (eqb h 0)) e s ∙ go (eqb h 0)
   where
     go : (t : Bool) → pick (not t) (blank s) (named s) ≡ pick t (named s) (blank s)
     go true = refl
@@ -130,7 +123,7 @@ property-marked f w s = go (eqb (has f IDENTIFIED) 0)
     go false = refl
 
 pub stated : {id s iri : List ℕ} {node : Node} (n f : Frame) (w front extra : List ℕ) (term : Term)
-    → NodeFor (not (eqb (has n BLANK) 0)) node → s ≡ span w (at n MAIN) (at n ID) → iri ≡ span w (at f MAIN) (at f ID) → id ≡ span w (at f ID) (at f DATATYPE)
+    → node ≡ T.nodeFor (not (eqb (has n BLANK) 0)) → s ≡ span w (at n MAIN) (at n ID) → iri ≡ span w (at f MAIN) (at f ID) → id ≡ span w (at f ID) (at f DATATYPE)
     → write (statement (T.propertyOf (not (eqb (has f IDENTIFIED) 0)) id (T.subjectOf node s) (iri ++ [])) (T.termOf term (front ++ []) extra))
     ≡ write (statement (propertyOf f w (subjectOf n w)) (T.termOf term front extra))
 unfolding subjectOf

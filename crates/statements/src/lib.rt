@@ -17,11 +17,11 @@ ghost use Rattle.state.specs.Meaning.{at, has, count, span, childrenOf, subject
 ghost use Rattle.nodes.specs.Laws.{childNode};
 ghost use Rattle.writer.specs.Put.{Put};
 ghost use Rattle.ntriples.specs.Terms.{termOf, cellOf};
-ghost use Rattle.statements.specs.Object.{propertyLines, literalLines, NodeFor, LiteralFor, TermFor};
+ghost use Rattle.statements.specs.Object.{propertyLines, literalLines, LiteralFor, TermFor};
 ghost use Rattle.statements.specs.Room.{objectRoom, StatementFits};
 ghost use Rattle.statements.specs.Cells.{nil, listAt, Listed};
+use copy::words::wide;
 use frames::Frame;
-use frames::wide;
 use label::BlankNodeId;
 use label::BlankNodeIdGenerator;
 use nodes::Child;
@@ -174,7 +174,7 @@ fn cell(out: &mut [u8], at: usize, on: bool, c: Child, first: u64, n: u64, work:
 {
     let own = label_of(n + 1);
     let id = own.id;
-    let node = node_of(c.blank);
+    let node = Node::of(c.blank);
     let member = names::piece(work, c.at, c.len);
     if n == first {
         return ntriples::cell(
@@ -220,7 +220,7 @@ fn statement(
 {
     let marks = n.has;
     let has = f.has;
-    let node = node_of(marks[Frame::BLANK] != 0);
+    let node = Node::of(marks[Frame::BLANK] != 0);
     let s = part_of(work, n, Frame::MAIN);
     let iri = part_of(work, f, Frame::MAIN);
     let id = part_of(work, f, Frame::ID);
@@ -343,10 +343,4 @@ fn part_size(f: Frame, k: usize) -> usize
         return 0;
     }
     to - from
-}
-
-fn node_of(blank: bool) -> Node
-    ensures { λ r. ⌜ NodeFor blank r ⌝ }
-{
-    if blank { Node::Blank } else { Node::Named }
 }

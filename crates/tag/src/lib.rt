@@ -78,7 +78,16 @@ pub fn read_tag<'a>(
     ensures { λ t. ⌜ Reads r (now (frames .entry)) (now (bindings .entry)) (now (work .entry)) count (now (starts .entry)) (now (sizes .entry)) (now (ids .entry)) (now (scratch .entry)) (now (spans .entry)) m k (now (classes .entry)) (now (roles .entry)) (now (area .entry)) (now (roles .exit)) (now (area .exit)) t ⌝ }
 {
     let name = names::piece(scratch, 0, m);
-    let found = names::element(name, c, scratch, spans, k, work, bindings, r.counts.bindings);
+    let found = names::element(
+        name,
+        c,
+        scratch,
+        spans,
+        k,
+        work,
+        bindings,
+        r.counts.bindings,
+    );
     if is_unknown(found) {
         return Read::Stop(Refusal::NoNamespace);
     }

@@ -51,7 +51,7 @@ fn report(s: &[u8]) {
 fn print_bytes(s: &[u8]) {
     let mut i = 0;
     while i < s.len() {
-        io::print_hex(STDOUT_FILENO, wide(s[i]), 2);
+        io::print_hex(STDOUT_FILENO, as_u64(s[i]), 2);
         io::write_all(STDOUT_FILENO, b" ");
         i += 1;
     }
@@ -104,6 +104,6 @@ fn say(yes: bool, words: &[u8]) {
     }
 }
 
-fn wide(b: u8) -> u64 {
+fn as_u64(b: u8) -> u64 {
     b as u64
 }

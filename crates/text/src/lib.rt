@@ -10,11 +10,11 @@ ghost use Rattle.event.specs.Result.{Asks};
 ghost use Rattle.literal.specs.Quiet.{Quietly};
 ghost use Rattle.text.specs.Blank.{Unchanged, BlankOnly};
 ghost use Rattle.text.specs.Object.{TakesText, textTo};
+use copy::words::wide;
 use event::Done;
 use event::Outcome;
 use event::Place;
 use frames::Frame;
-use frames::wide;
 use spec::Refusal;
 use state::Registers;
 

@@ -1,7 +1,7 @@
 // UTF-8, and the characters and names of XML: utils.rs and the end of parser.rs.
 ghost use mathlib.Core.Path.{_≡_};
 ghost use mathlib.Core.Bool.{true};
-ghost use Prim.Native.Nat.{_-_, _*_, _<_, _≤_};
+ghost use Prim.Native.Nat.{_<_, _≤_};
 ghost use lib.ListN.{length};
 ghost use Rattle.spec.specs.Bytes.{ascii, upTo, among, every, inRanges};
 ghost use Rattle.spec.specs.Utf8.{leadingOnes, goesOn, isScalar, asCharacters};
@@ -33,8 +33,8 @@ enum Joined {
     Value(u32),
 }
 
-// First and last character of each range: sixteen that may start a name, and six that may only go on with one.
-const NAME_RANGES: [u32; 44] = [
+// First and last character of each range of those that may start a name.
+const START_RANGES: [u32; 32] = [
     0x3A,
     0x3A,
     0x41,
@@ -67,6 +67,10 @@ const NAME_RANGES: [u32; 44] = [
     0xFFFD,
     0x10000,
     0xEFFFF,
+];
+
+// Of those that may only go on with one.
+const FURTHER_RANGES: [u32; 12] = [
     0x2D,
     0x2D,
     0x2E,
@@ -125,7 +129,7 @@ pub fn is_char(c: u32) -> bool
 pub fn is_name_start_char(c: u32) -> bool
     ensures { λ r. ⌜ r ≡ isNameStart c ⌝ }
 {
-    in_ranges(&NAME_RANGES, c, 0, 16)
+    in_ranges(&START_RANGES, c)
 }
 
 pub fn is_name_char(c: u32) -> bool
@@ -134,7 +138,26 @@ pub fn is_name_char(c: u32) -> bool
     if is_name_start_char(c) {
         return true;
     }
-    in_ranges(&NAME_RANGES, c, 16, 22)
+    in_ranges(&FURTHER_RANGES, c)
+}
+
+// Is a character in one of the ranges of which a table has first and last?
+// They ascend, so the first that begins above it ends the search.
+pub fn in_ranges(bounds: &[u32], c: u32) -> bool
+    requires { ⌜ ascendingFrom 0 (ranges (now bounds)) ≡ true ⌝ }
+    ensures { λ r. ⌜ r ≡ inRanges (ranges (now (bounds .entry))) c ⌝ }
+{
+    let mut i = 0;
+    while i + 1 < bounds.len() {
+        if c < bounds[i] {
+            return false;
+        }
+        if c <= bounds[i + 1] {
+            return true;
+        }
+        i += 2;
+    }
+    false
 }
 
 pub fn is_whitespace(b: u8) -> bool
@@ -261,25 +284,6 @@ fn sequence(s: &[u8], n: usize, bits: u32, low: u32) -> Decoded
             }
         }
     }
-}
-
-// Is a character in one of the ranges from one up to another? They ascend, so the first that begins above it ends the search.
-fn in_ranges(bounds: &[u32], c: u32, from: usize, to: usize) -> bool
-    requires { ⌜ to * 2 ≤ length (now bounds) ⌝ }
-    requires { ⌜ ascendingFrom 0 (ranges (now bounds) from (to - from)) ≡ true ⌝ }
-    ensures { λ r. ⌜ r ≡ inRanges (ranges (now (bounds .entry)) from (to - from)) c ⌝ }
-{
-    let mut i = from;
-    while i < to {
-        if c < bounds[i * 2] {
-            return false;
-        }
-        if c <= bounds[i * 2 + 1] {
-            return true;
-        }
-        i += 1;
-    }
-    false
 }
 
 // How many bytes stand at the front in blocks of eight plain ones.

@@ -4,8 +4,8 @@ use borrow.Author.Needs.{needs}
 use Rattle.acting.proofs.tell_node.Statement.{statement}
 use Rattle.acting.proofs.tell_node.Tie as tie
 
-node-of-requires : tie.Need-node-of-requires
-node-of-requires c κs = search needs
+of-requires : tie.Need-of-requires
+of-requires c κs = search needs
 
 text-requires : tie.Need-text-requires
 text-requires c κs = search needs
@@ -32,13 +32,13 @@ same-length : tie.Need-same-length
 same-length c = c .before .out .given
 
 returns : tie.Need-returns
-returns c = node-told (c .before .before .before .before .before .before .before .before .before .before .before .before .before .before .before .before .before .before .before .before .args .x) _ _ _ _ _ _ _ _ (c .before .before .before .before .before .before .before .before .is-tagged .ensures) (c .before .before .before .before .before .before .before .language-of .ensures) (c .before .before .before .before .before .before .is-there .ensures) (c .before .before .before .before .before .text2 .ensures) (c .before .before .before .before .before .before .before .before .before .before .node-of .ensures) (c .before .before .before .before .before .before .before .before .before .text .ensures) (c .before .before .before .before .text3 .ensures) (c .before .before .node-lines .ensures)
+returns c = node-told (c .before .before .before .before .before .before .before .before .before .before .before .before .before .before .before .before .before .before .before .before .args .x) _ _ _ _ _ _ _ _ (c .before .before .before .before .before .before .before .before .is-tagged .ensures) (c .before .before .before .before .before .before .before .language-of .ensures) (c .before .before .before .before .before .before .is-there .ensures) (c .before .before .before .before .before .text2 .ensures) (c .before .before .before .before .before .before .before .before .before .before .of .ensures) (c .before .before .before .before .before .before .before .before .before .text .ensures) (c .before .before .before .before .text3 .ensures) (c .before .before .node-lines .ensures)
 
 pub tell-node-spec : {M : Type 1} → statement M
 tell-node-spec =
     tie.close
     (tie.spec
-    node-of-requires
+    of-requires
     text-requires
     is-tagged-requires
     language-of-requires

@@ -14,11 +14,11 @@ none-requires c κs = search needs
 returns : tie.Need-returns
 returns c = loads-none (c .none .ensures) (decode-short _ (c .before .if1 .taken))
 
-slice-aggregate-get-numbers : tie.Need-slice-aggregate-get-numbers
-slice-aggregate-get-numbers c = search needs
+slice-aggregate-read-numbers : tie.Need-slice-aggregate-read-numbers
+slice-aggregate-read-numbers c = search needs
 
-get-numbers-requires : tie.Need-get-numbers-requires
-get-numbers-requires c κs = search needs
+read-numbers-requires : tie.Need-read-numbers-requires
+read-numbers-requires c κs = search needs
 
 flags-ok-requires : tie.Need-flags-ok-requires
 flags-ok-requires c κs = search needs
@@ -27,37 +27,37 @@ none-requires-2 : tie.Need-none-requires-2
 none-requires-2 c κs = search needs
 
 returns-2 : tie.Need-returns-2
-returns-2 c = loads-none (c .none2 .ensures) (decode-flags _ (c .before .before .before .before .before .before .if1 .left) (rw (c .before .before .before .before .get-numbers .ensures) at (sym (c .before .before .flags-ok .ensures) ∙ not-true _ (c .before .if2 .taken))))
+returns-2 c = loads-none (c .none2 .ensures) (decode-flags _ (c .before .before .before .before .before .before .if1 .left) (rw (c .before .before .before .before .read-numbers .ensures) at (sym (c .before .before .flags-ok .ensures) ∙ not-true _ (c .before .if2 .taken))))
 
-slice-aggregate-get-words : tie.Need-slice-aggregate-get-words
-slice-aggregate-get-words c = search needs
+slice-aggregate-read-words : tie.Need-slice-aggregate-read-words
+slice-aggregate-read-words c = search needs
 
-get-words-requires : tie.Need-get-words-requires
-get-words-requires c κs = search needs
+read-words-requires : tie.Need-read-words-requires
+read-words-requires c κs = search needs
 
-slice-aggregate-get-words-2 : tie.Need-slice-aggregate-get-words-2
-slice-aggregate-get-words-2 c = search needs
+slice-aggregate-read-words-2 : tie.Need-slice-aggregate-read-words-2
+slice-aggregate-read-words-2 c = search needs
 
-get-words-requires-2 : tie.Need-get-words-requires-2
-get-words-requires-2 c κs = search needs
+read-words-requires-2 : tie.Need-read-words-requires-2
+read-words-requires-2 c κs = search needs
 
-slice-aggregate-get-words-3 : tie.Need-slice-aggregate-get-words-3
-slice-aggregate-get-words-3 c = search needs
+slice-aggregate-read-words-3 : tie.Need-slice-aggregate-read-words-3
+slice-aggregate-read-words-3 c = search needs
 
-get-words-requires-3 : tie.Need-get-words-requires-3
-get-words-requires-3 c κs = search needs
+read-words-requires-3 : tie.Need-read-words-requires-3
+read-words-requires-3 c κs = search needs
 
-slice-aggregate-get-words-4 : tie.Need-slice-aggregate-get-words-4
-slice-aggregate-get-words-4 c = search needs
+slice-aggregate-read-words-4 : tie.Need-slice-aggregate-read-words-4
+slice-aggregate-read-words-4 c = search needs
 
-get-words-requires-4 : tie.Need-get-words-requires-4
-get-words-requires-4 c κs = search needs
+read-words-requires-4 : tie.Need-read-words-requires-4
+read-words-requires-4 c κs = search needs
 
-slice-aggregate-get-words-5 : tie.Need-slice-aggregate-get-words-5
-slice-aggregate-get-words-5 c = search needs
+slice-aggregate-read-words-5 : tie.Need-slice-aggregate-read-words-5
+slice-aggregate-read-words-5 c = search needs
 
-get-words-requires-5 : tie.Need-get-words-requires-5
-get-words-requires-5 c κs = search needs
+read-words-requires-5 : tie.Need-read-words-requires-5
+read-words-requires-5 c κs = search needs
 
 registers-of-requires : tie.Need-registers-of-requires
 registers-of-requires c κs = search needs
@@ -69,7 +69,7 @@ array-read-t32 : tie.Need-array-read-t32
 array-read-t32 c = search needs
 
 returns-3 : tie.Need-returns-3
-returns-3 c = loads-some _ (λ i. omega (arith, c .before .before .before .before .before .before .before .before .before .before .before .before .before .before .before .before .before .before .before .before .before .before .shared-slice-known .given i)) (c .before .before .before .before .before .before .before .before .before .before .before .before .before .before .before .before .before .before .before .before .before .if1 .left) (c .before .before .before .before .before .before .before .before .before .before .before .before .before .before .before .before .before .before .before .get-numbers .ensures) (sym (c .before .before .before .before .before .before .before .before .before .before .before .before .before .before .before .before .before .flags-ok .ensures) ∙ not-false _ (c .before .before .before .before .before .before .before .before .before .before .before .before .before .before .before .before .if2 .left)) (c .registers-of .ensures) (c .before .before .before .before .before .before .before .before .before .before .before .before .before .before .get-words .ensures) (c .before .before .before .before .before .before .before .before .before .before .before .get-words2 .ensures) (c .before .before .before .before .before .before .before .before .get-words3 .ensures) (c .before .before .before .before .before .get-words4 .ensures) (c .before .before .get-words5 .ensures)
+returns-3 c = loads-some _ (λ i. omega (arith, c .before .before .before .before .before .before .before .before .before .before .before .before .before .before .before .before .before .before .before .before .before .before .shared-slice-known .given i)) (c .before .before .before .before .before .before .before .before .before .before .before .before .before .before .before .before .before .before .before .before .before .if1 .left) (c .before .before .before .before .before .before .before .before .before .before .before .before .before .before .before .before .before .before .before .read-numbers .ensures) (sym (c .before .before .before .before .before .before .before .before .before .before .before .before .before .before .before .before .before .flags-ok .ensures) ∙ not-false _ (c .before .before .before .before .before .before .before .before .before .before .before .before .before .before .before .before .if2 .left)) (c .registers-of .ensures) (c .before .before .before .before .before .before .before .before .before .before .before .before .before .before .read-words .ensures) (c .before .before .before .before .before .before .before .before .before .before .before .read-words2 .ensures) (c .before .before .before .before .before .before .before .before .read-words3 .ensures) (c .before .before .before .before .before .read-words4 .ensures) (c .before .before .read-words5 .ensures)
 
 pub load-spec : {M : Type 1} → statement M
 load-spec =
@@ -77,21 +77,21 @@ load-spec =
     (tie.spec
     none-requires
     returns
-    slice-aggregate-get-numbers
-    get-numbers-requires
+    slice-aggregate-read-numbers
+    read-numbers-requires
     flags-ok-requires
     none-requires-2
     returns-2
-    slice-aggregate-get-words
-    get-words-requires
-    slice-aggregate-get-words-2
-    get-words-requires-2
-    slice-aggregate-get-words-3
-    get-words-requires-3
-    slice-aggregate-get-words-4
-    get-words-requires-4
-    slice-aggregate-get-words-5
-    get-words-requires-5
+    slice-aggregate-read-words
+    read-words-requires
+    slice-aggregate-read-words-2
+    read-words-requires-2
+    slice-aggregate-read-words-3
+    read-words-requires-3
+    slice-aggregate-read-words-4
+    read-words-requires-4
+    slice-aggregate-read-words-5
+    read-words-requires-5
     registers-of-requires
     array-read-t11
     array-read-t32

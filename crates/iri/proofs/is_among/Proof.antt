@@ -17,14 +17,14 @@ abbrev μ-loop : tie.MeasureT-loop
 loop-holds : tie.Need-loop-holds Inv-loop μ-loop
 loop-holds c = sought-begins _ _
 
-shared-slice-read-wide : tie.Need-shared-slice-read-wide Inv-loop μ-loop
-shared-slice-read-wide c = search needs
+shared-slice-read-as-char : tie.Need-shared-slice-read-as-char Inv-loop μ-loop
+shared-slice-read-as-char c = search needs
 
-wide-requires : tie.Need-wide-requires Inv-loop μ-loop
-wide-requires c κs = search needs
+as-char-requires : tie.Need-as-char-requires Inv-loop μ-loop
+as-char-requires c κs = search needs
 
 returns : tie.Need-returns Inv-loop μ-loop
-returns c = sought-hit (c .before .before .before .before .loop .inv) (omega arith) (sym (c .before .wide .ensures) ∙ c .if1 .taken)
+returns c = sought-hit (c .before .before .before .before .loop .inv) (omega arith) (sym (c .before .as-char .ensures) ∙ c .if1 .taken)
 
 add-i : tie.Need-add-i Inv-loop μ-loop
 add-i c = search needs
@@ -33,7 +33,7 @@ loop-less : tie.Need-loop-less Inv-loop μ-loop
 loop-less c = search needs
 
 loop-again : tie.Need-loop-again Inv-loop μ-loop
-loop-again c = sought-more (c .before .before .before .before .loop .inv) (omega arith) (λ e. c .if1 .left (c .before .wide .ensures ∙ e))
+loop-again c = sought-more (c .before .before .before .before .loop .inv) (omega arith) (λ e. c .if1 .left (c .before .as-char .ensures ∙ e))
 
 returns-2 : tie.Need-returns-2 Inv-loop μ-loop
 returns-2 c = sought-done (c .before .loop .inv) (omega arith)
@@ -45,8 +45,8 @@ is-among-spec =
     Inv-loop
     μ-loop
     loop-holds
-    shared-slice-read-wide
-    wide-requires
+    shared-slice-read-as-char
+    as-char-requires
     returns
     add-i
     loop-less

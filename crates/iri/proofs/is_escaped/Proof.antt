@@ -25,20 +25,20 @@ shared-slice-read-if3 c = search needs
 returns-3 : tie.Need-returns-3
 returns-3 c = rw (escaped-other (now (c .before .before .before .before .before .before .args .s)) (c .if3 .taken)) (sym (and-false (escapes (classOf (c .before .before .before .before .before .before .args .part)))))
 
-shared-slice-read-wide : tie.Need-shared-slice-read-wide
-shared-slice-read-wide c = search needs
+shared-slice-read-as-char : tie.Need-shared-slice-read-as-char
+shared-slice-read-as-char c = search needs
 
-wide-requires : tie.Need-wide-requires
-wide-requires c κs = search needs
+as-char-requires : tie.Need-as-char-requires
+as-char-requires c κs = search needs
 
 is-hex-requires : tie.Need-is-hex-requires
 is-hex-requires c κs = search needs
 
-shared-slice-read-wide-2 : tie.Need-shared-slice-read-wide-2
-shared-slice-read-wide-2 c = search needs
+shared-slice-read-as-char-2 : tie.Need-shared-slice-read-as-char-2
+shared-slice-read-as-char-2 c = search needs
 
-wide-requires-2 : tie.Need-wide-requires-2
-wide-requires-2 c κs = search needs
+as-char-requires-2 : tie.Need-as-char-requires-2
+as-char-requires-2 c κs = search needs
 
 is-hex-requires-2 : tie.Need-is-hex-requires-2
 is-hex-requires-2 c κs = search needs
@@ -55,10 +55,10 @@ is-escaped-spec =
     returns-2
     shared-slice-read-if3
     returns-3
-    shared-slice-read-wide
-    wide-requires
+    shared-slice-read-as-char
+    as-char-requires
     is-hex-requires
-    shared-slice-read-wide-2
-    wide-requires-2
+    shared-slice-read-as-char-2
+    as-char-requires-2
     is-hex-requires-2
     returns-4)

@@ -11,17 +11,17 @@ use Rattle.iri.proofs.is_future.Tie as tie
 returns : tie.Need-returns
 returns c = future-none _ (omega arith)
 
-shared-slice-read-wide : tie.Need-shared-slice-read-wide
-shared-slice-read-wide c = search needs
+shared-slice-read-as-char : tie.Need-shared-slice-read-as-char
+shared-slice-read-as-char c = search needs
 
-wide-requires : tie.Need-wide-requires
-wide-requires c κs = search needs
+as-char-requires : tie.Need-as-char-requires
+as-char-requires c κs = search needs
 
 lowered-requires : tie.Need-lowered-requires
 lowered-requires c κs = search needs
 
 returns-2 : tie.Need-returns-2
-returns-2 c = future-other _ (omega arith) (λ e. c .if2 .taken (c .before .lowered .ensures ∙ ap lower (c .before .before .wide .ensures) ∙ e))
+returns-2 c = future-other _ (omega arith) (λ e. c .if2 .taken (c .before .lowered .ensures ∙ ap lower (c .before .before .as-char .ensures) ∙ e))
 
 sub-is-version : tie.Need-sub-is-version
 sub-is-version c = search needs
@@ -36,15 +36,15 @@ is-version-requires : tie.Need-is-version-requires
 is-version-requires c κs = search needs
 
 returns-3 : tie.Need-returns-3
-returns-3 c = rw to-end at (c .is-version .ensures) ∙ future-version _ (omega arith) (ap lower (sym (c .before .before .before .before .wide .ensures)) ∙ sym (c .before .before .before .lowered .ensures) ∙ omega arith)
+returns-3 c = rw to-end at (c .is-version .ensures) ∙ future-version _ (omega arith) (ap lower (sym (c .before .before .before .before .as-char .ensures)) ∙ sym (c .before .before .before .lowered .ensures) ∙ omega arith)
 
 pub is-future-spec : {M : Type 1} → statement M
 is-future-spec =
     tie.close
     (tie.spec
     returns
-    shared-slice-read-wide
-    wide-requires
+    shared-slice-read-as-char
+    as-char-requires
     lowered-requires
     returns-2
     sub-is-version

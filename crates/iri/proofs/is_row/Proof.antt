@@ -20,11 +20,11 @@ has-letters-requires c κs = search needs
 loop-holds : tie.Need-loop-holds Inv-loop μ-loop
 loop-holds c = walked-begins _ _
 
-shared-slice-read-wide : tie.Need-shared-slice-read-wide Inv-loop μ-loop
-shared-slice-read-wide c = search needs
+shared-slice-read-as-char : tie.Need-shared-slice-read-as-char Inv-loop μ-loop
+shared-slice-read-as-char c = search needs
 
-wide-requires : tie.Need-wide-requires Inv-loop μ-loop
-wide-requires c κs = search needs
+as-char-requires : tie.Need-as-char-requires Inv-loop μ-loop
+as-char-requires c κs = search needs
 
 is-alphanum-requires : tie.Need-is-alphanum-requires Inv-loop μ-loop
 is-alphanum-requires c κs = search needs
@@ -36,7 +36,7 @@ loop-less : tie.Need-loop-less Inv-loop μ-loop
 loop-less c = search needs
 
 loop-again : tie.Need-loop-again Inv-loop μ-loop
-loop-again c = walked-letter (c .before .before .before .before .before .loop .inv) (omega arith) (c .before .before .before .before .before .before .has-letters .ensures) (c .before .before .wide .ensures) (c .before .is-alphanum .ensures) (c .if1 .taken)
+loop-again c = walked-letter (c .before .before .before .before .before .loop .inv) (omega arith) (c .before .before .before .before .before .before .has-letters .ensures) (c .before .before .as-char .ensures) (c .before .is-alphanum .ensures) (c .if1 .taken)
 
 sub-take-one : tie.Need-sub-take-one Inv-loop μ-loop
 sub-take-one c = search needs
@@ -73,8 +73,8 @@ is-row-spec =
     μ-loop
     has-letters-requires
     loop-holds
-    shared-slice-read-wide
-    wide-requires
+    shared-slice-read-as-char
+    as-char-requires
     is-alphanum-requires
     add-at
     loop-less

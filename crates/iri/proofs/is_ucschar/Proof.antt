@@ -2,23 +2,24 @@
 use mathlib.Core.Path.{refl, sym}
 use borrow.Author.Needs.{needs}
 use Rattle.iri.specs.Parts as P
-use Rattle.iri.specs.Parts.{pairs}
-use Rattle.iri.proofs.Classes.{below, from-on}
+use Rattle.utils.specs.Ranges.{ranges, ascendingFrom}
+use Rattle.utils.proofs.Ranges.{before-all}
 use Rattle.iri.proofs.is_ucschar.Statement.{statement}
 use Rattle.iri.proofs.is_ucschar.Tie as tie
 
 returns : tie.Need-returns
-unfolding P.all from-on
-returns c = sym (below 160 _ P.ucschars refl (c .if1 .taken))
+unfolding P.all ascendingFrom
+returns c = sym (before-all 160 _ P.ucschars (c .if1 .taken) refl)
 
 slice-aggregate-in-ranges : tie.Need-slice-aggregate-in-ranges
 slice-aggregate-in-ranges c = search needs
 
 in-ranges-requires : tie.Need-in-ranges-requires
-in-ranges-requires c κs = search needs
+unfolding ranges ascendingFrom
+in-ranges-requires c κs = refl
 
 returns-2 : tie.Need-returns-2
-unfolding P.all pairs
+unfolding P.all ranges
 returns-2 c = c .in-ranges .ensures
 
 pub is-ucschar-spec : {M : Type 1} → statement M

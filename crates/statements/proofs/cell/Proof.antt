@@ -18,8 +18,8 @@ add-label-of c = search needs
 label-of-requires : tie.Need-label-of-requires
 label-of-requires c κs = search needs
 
-node-of-requires : tie.Need-node-of-requires
-node-of-requires c κs = search needs
+of-requires : tie.Need-of-requires
+of-requires c κs = search needs
 
 piece-requires : tie.Need-piece-requires
 piece-requires c κs = search needs
@@ -38,7 +38,7 @@ same-length c = search needs
 
 returns : tie.Need-returns
 unfolding subjectOf rdf ascii
-returns c = put-as (c .before .before .cell .ensures) (celled _ _ _ _ (c .before .before .before .before .before .before .before .before .before .before .label-of .ensures) (c .before .before .before .before .before .before .before .before .node-of .ensures) (c .before .before .before .before .before .before .before .piece .ensures) (list-none _ _ (c .before .before .before .before .before .before .if1 .taken)))
+returns c = put-as (c .before .before .cell .ensures) (celled _ _ _ _ (c .before .before .before .before .before .before .before .before .before .before .label-of .ensures) (c .before .before .before .before .before .before .before .before .of .ensures) (c .before .before .before .before .before .before .before .piece .ensures) (list-none _ _ (c .before .before .before .before .before .before .if1 .taken)))
 
 label-of-requires-2 : tie.Need-label-of-requires-2
 label-of-requires-2 c κs = search needs
@@ -57,7 +57,7 @@ same-length-2 c = search needs
 
 returns-2 : tie.Need-returns-2
 unfolding subjectOf
-returns-2 c = put-as (c .before .before .cell2 .ensures) (celled _ _ _ _ (c .before .before .before .before .before .before .before .before .before .before .before .before .label-of .ensures) (c .before .before .before .before .before .before .before .before .before .before .node-of .ensures) (c .before .before .before .before .before .before .before .before .before .piece .ensures) (ap blank (c .before .before .before .before .before .before .before .label-of2 .ensures) ∙ list-some _ _ (c .before .before .before .before .before .before .before .before .if1 .left)))
+returns-2 c = put-as (c .before .before .cell2 .ensures) (celled _ _ _ _ (c .before .before .before .before .before .before .before .before .before .before .before .before .label-of .ensures) (c .before .before .before .before .before .before .before .before .before .before .of .ensures) (c .before .before .before .before .before .before .before .before .before .piece .ensures) (ap blank (c .before .before .before .before .before .before .before .label-of2 .ensures) ∙ list-some _ _ (c .before .before .before .before .before .before .before .before .if1 .left)))
 
 pub cell-spec : {M : Type 1} → statement M
 cell-spec =
@@ -65,7 +65,7 @@ cell-spec =
     (tie.spec
     add-label-of
     label-of-requires
-    node-of-requires
+    of-requires
     piece-requires
     slice-aggregate-cell
     slice-aggregate-cell-2

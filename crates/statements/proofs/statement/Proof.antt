@@ -5,11 +5,11 @@ use borrow.Author.Needs.{needs}
 use Rattle.statements.proofs.statement.Statement.{statement}
 use Rattle.statements.proofs.statement.Tie as tie
 
-array-read-node-of : tie.Need-array-read-node-of
-array-read-node-of c = search needs
+array-read-of : tie.Need-array-read-of
+array-read-of c = search needs
 
-node-of-requires : tie.Need-node-of-requires
-node-of-requires c κs = search needs
+of-requires : tie.Need-of-requires
+of-requires c κs = search needs
 
 part-of-requires : tie.Need-part-of-requires
 part-of-requires c κs = search needs
@@ -36,14 +36,14 @@ same-length : tie.Need-same-length
 same-length c = search needs
 
 returns : tie.Need-returns
-returns c = put-as (c .before .before .statement .ensures) (stated _ _ _ _ _ _ (c .before .before .before .before .before .before .before .before .before .node-of .ensures) (c .before .before .before .before .before .before .before .before .part-of .ensures) (c .before .before .before .before .before .before .before .part-of2 .ensures) (c .before .before .before .before .before .before .part-of3 .ensures))
+returns c = put-as (c .before .before .statement .ensures) (stated _ _ _ _ _ _ (c .before .before .before .before .before .before .before .before .before .of .ensures) (c .before .before .before .before .before .before .before .before .part-of .ensures) (c .before .before .before .before .before .before .before .part-of2 .ensures) (c .before .before .before .before .before .before .part-of3 .ensures))
 
 pub statement-spec : {M : Type 1} → statement M
 statement-spec =
     tie.close
     (tie.spec
-    array-read-node-of
-    node-of-requires
+    array-read-of
+    of-requires
     part-of-requires
     part-of-requires-2
     part-of-requires-3

@@ -1,9 +1,8 @@
--- `is_name_char`: in one of the start ranges, or else in one of the further ranges. The code's table is that of document 01.
-use Rattle.spec.specs.Bytes.{byte}
-use Rattle.spec.specs.XmlNames.{startRanges, furtherRanges}
-use Rattle.utils.specs.Ranges.{bounds, table}
+-- `is_name_char`: in one of the start ranges, or else in one of the further ranges. Those of its table are document 01's.
 use mathlib.Core.Path.{refl, sym, _∙_}
-use Rattle.utils.proofs.Ranges.{further-asked, name-start, name-found}
+use Rattle.spec.specs.Bytes.{byte}
+use Rattle.spec.specs.XmlNames.{furtherRanges, isNameChar}
+use Rattle.utils.specs.Ranges.{ranges, ascendingFrom}
 use borrow.Author.Needs.{needs}
 use Rattle.utils.proofs.is_name_char.Statement.{statement}
 use Rattle.utils.proofs.is_name_char.Tie as tie
@@ -12,18 +11,19 @@ is-name-start-char-requires : tie.Need-is-name-start-char-requires
 is-name-start-char-requires c κs = search needs
 
 returns : tie.Need-returns
-returns c = name-start _ (sym (c .before .is-name-start-char .ensures) ∙ c .if1 .taken)
+unfolding isNameChar
+returns c = rw (sym (c .before .is-name-start-char .ensures) ∙ c .if1 .taken)
 
 slice-aggregate-in-ranges : tie.Need-slice-aggregate-in-ranges
 slice-aggregate-in-ranges c = search needs
 
 in-ranges-requires : tie.Need-in-ranges-requires
-unfolding table bounds startRanges furtherRanges byte
-in-ranges-requires c κs = further-asked _ refl
+unfolding ranges ascendingFrom
+in-ranges-requires c κs = refl
 
 returns-2 : tie.Need-returns-2
-unfolding table bounds startRanges furtherRanges byte
-returns-2 c = c .in-ranges .ensures ∙ name-found _ refl _ (sym (c .before .before .before .is-name-start-char .ensures) ∙ c .before .before .if1 .left)
+unfolding ranges isNameChar furtherRanges byte
+returns-2 c = rw (sym (c .before .before .before .is-name-start-char .ensures) ∙ c .before .before .if1 .left) (c .in-ranges .ensures)
 
 pub is-name-char-spec : {M : Type 1} → statement M
 is-name-char-spec =

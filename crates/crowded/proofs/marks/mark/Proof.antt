@@ -26,8 +26,8 @@ add-byte-from-end c = search needs
 byte-from-end-requires : tie.Need-byte-from-end-requires Inv-loop μ-loop
 byte-from-end-requires c κs = search needs
 
-wide-requires : tie.Need-wide-requires Inv-loop μ-loop
-wide-requires c κs = search needs
+byte-requires : tie.Need-byte-requires Inv-loop μ-loop
+byte-requires c κs = search needs
 
 add-m : tie.Need-add-m Inv-loop μ-loop
 add-m c = search needs
@@ -39,7 +39,7 @@ loop-less : tie.Need-loop-less Inv-loop μ-loop
 loop-less c = search needs
 
 loop-again : tie.Need-loop-again Inv-loop μ-loop
-loop-again c = marking-more (c .before .before .before .loop .inv) (omega arith) (c .wide .ensures .0 ∙ c .before .byte-from-end .ensures)
+loop-again c = marking-more (c .before .before .before .loop .inv) (omega arith) (c .byte .ensures .0 ∙ c .before .byte-from-end .ensures)
 
 returns : tie.Need-returns Inv-loop μ-loop
 returns c = marking-done (c .before .loop .inv) (omega arith)
@@ -54,7 +54,7 @@ mark-spec =
     mul-m
     add-byte-from-end
     byte-from-end-requires
-    wide-requires
+    byte-requires
     add-m
     add-i
     loop-less

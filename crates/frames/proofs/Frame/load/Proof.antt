@@ -33,44 +33,44 @@ add-h c = search needs
 add-e : tie.Need-add-e
 add-e c = search needs
 
-slice-aggregate-put-words : tie.Need-slice-aggregate-put-words
-slice-aggregate-put-words c = search needs
+slice-aggregate-put : tie.Need-slice-aggregate-put
+slice-aggregate-put c = search needs
 
-mul-put-words : tie.Need-mul-put-words
-mul-put-words c = search needs
+mul-put : tie.Need-mul-put
+mul-put c = search needs
 
-sub-put-words : tie.Need-sub-put-words
-sub-put-words c = search needs
+sub-put : tie.Need-sub-put
+sub-put c = search needs
 
-part-put-words-start : tie.Need-part-put-words-start
-part-put-words-start c = search needs
+part-put-start : tie.Need-part-put-start
+part-put-start c = search needs
 
-part-put-words-end : tie.Need-part-put-words-end
-part-put-words-end c = search needs
+part-put-end : tie.Need-part-put-end
+part-put-end c = search needs
 
-put-words-requires : tie.Need-put-words-requires
-put-words-requires c κs = search needs
+put-requires : tie.Need-put-requires
+put-requires c κs = search needs
 
-slice-aggregate-put-words-2 : tie.Need-slice-aggregate-put-words-2
-slice-aggregate-put-words-2 c = search needs
+slice-aggregate-put-2 : tie.Need-slice-aggregate-put-2
+slice-aggregate-put-2 c = search needs
 
-mul-put-words-2 : tie.Need-mul-put-words-2
-mul-put-words-2 c = search needs
+mul-put-2 : tie.Need-mul-put-2
+mul-put-2 c = search needs
 
-sub-put-words-2 : tie.Need-sub-put-words-2
-sub-put-words-2 c = search needs
+sub-put-2 : tie.Need-sub-put-2
+sub-put-2 c = search needs
 
-part-put-words-start-2 : tie.Need-part-put-words-start-2
-part-put-words-start-2 c = search needs
+part-put-start-2 : tie.Need-part-put-start-2
+part-put-start-2 c = search needs
 
-part-put-words-end-2 : tie.Need-part-put-words-end-2
-part-put-words-end-2 c = search needs
+part-put-end-2 : tie.Need-part-put-end-2
+part-put-end-2 c = search needs
 
-put-words-requires-2 : tie.Need-put-words-requires-2
-put-words-requires-2 c κs = search needs
+put-requires-2 : tie.Need-put-requires-2
+put-requires-2 c κs = search needs
 
 returns-2 : tie.Need-returns-2
-returns-2 c = rw (c .before .before .before .before .before .before .before .before .of .ensures) (frame-loaded _ _ _ _ (omega arith) (c .before .before .before .before .before .put-words .ensures) (c .before .put-words2 .ensures))
+returns-2 c = rw (c .before .before .before .before .before .before .before .before .of .ensures) (frame-loaded _ _ _ _ (omega arith) (c .before .before .before .before .before .put .ensures) (c .before .put2 .ensures))
 
 pub load-spec : {M : Type 1} → statement M
 load-spec =
@@ -85,16 +85,16 @@ load-spec =
     add-a
     add-h
     add-e
-    slice-aggregate-put-words
-    mul-put-words
-    sub-put-words
-    part-put-words-start
-    part-put-words-end
-    put-words-requires
-    slice-aggregate-put-words-2
-    mul-put-words-2
-    sub-put-words-2
-    part-put-words-start-2
-    part-put-words-end-2
-    put-words-requires-2
+    slice-aggregate-put
+    mul-put
+    sub-put
+    part-put-start
+    part-put-end
+    put-requires
+    slice-aggregate-put-2
+    mul-put-2
+    sub-put-2
+    part-put-start-2
+    part-put-end-2
+    put-requires-2
     returns-2)

@@ -22,29 +22,29 @@ mul-frames c = search needs
 slice-write-frames : tie.Need-slice-write-frames
 slice-write-frames c = search needs
 
-add-put-words : tie.Need-add-put-words
-add-put-words c = search needs
+add-put : tie.Need-add-put
+add-put c = search needs
 
-slice-aggregate-put-words : tie.Need-slice-aggregate-put-words
-slice-aggregate-put-words c = search needs
+slice-aggregate-put : tie.Need-slice-aggregate-put
+slice-aggregate-put c = search needs
 
-put-words-requires : tie.Need-put-words-requires
-put-words-requires c κs = search needs
+put-requires : tie.Need-put-requires
+put-requires c κs = search needs
 
-add-put-words-2 : tie.Need-add-put-words-2
-add-put-words-2 c = search needs
+add-put-2 : tie.Need-add-put-2
+add-put-2 c = search needs
 
-slice-aggregate-put-words-2 : tie.Need-slice-aggregate-put-words-2
-slice-aggregate-put-words-2 c = search needs
+slice-aggregate-put-2 : tie.Need-slice-aggregate-put-2
+slice-aggregate-put-2 c = search needs
 
-put-words-requires-2 : tie.Need-put-words-requires-2
-put-words-requires-2 c κs = search needs
+put-requires-2 : tie.Need-put-requires-2
+put-requires-2 c κs = search needs
 
 same-length : tie.Need-same-length
-same-length c = c .before .before .put-words2 .ensures .same ∙ (c .before .before .before .before .before .before .before .put-words .ensures .same ∙ simp length-set)
+same-length c = c .before .before .put2 .ensures .same ∙ (c .before .before .before .before .before .before .before .put .ensures .same ∙ simp length-set)
 
 returns-2 : tie.Need-returns-2
-returns-2 c = frame-stored (omega arith) (search needs) (search needs) (rw (c .before .before .before .before .before .before .before .before .before .before .word .ensures) at (c .before .before .before .before .before .before .before .put-words .ensures)) (c .before .before .put-words2 .ensures)
+returns-2 c = frame-stored (omega arith) (search needs) (search needs) (rw (c .before .before .before .before .before .before .before .before .before .before .word .ensures) at (c .before .before .before .before .before .before .before .put .ensures)) (c .before .before .put2 .ensures)
 
 pub store-spec : {M : Type 1} → statement M
 store-spec =
@@ -55,11 +55,11 @@ store-spec =
     word-requires
     mul-frames
     slice-write-frames
-    add-put-words
-    slice-aggregate-put-words
-    put-words-requires
-    add-put-words-2
-    slice-aggregate-put-words-2
-    put-words-requires-2
+    add-put
+    slice-aggregate-put
+    put-requires
+    add-put-2
+    slice-aggregate-put-2
+    put-requires-2
     same-length
     returns-2)
