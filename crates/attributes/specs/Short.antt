@@ -5,9 +5,9 @@ use mathlib.Core.Option.{some}
 use mathlib.Core.List.{List, [], _∷_, _++_}
 use Prim.Native.Nat.{ℕ, zero, suc, _+_, _-_, _<_, _≤_}
 use native.Mathlib.Omega.{arith}
-use lib.Dec.{leb}
+use lib.Dec.{eqb, leb}
 use lib.ListN.{length, length-append}
-use borrow.Author.Tests.{le-leb, lt-leb}
+use borrow.Author.Tests.{le-leb, lt-leb, eq-eqb, ne-eqb}
 use Rattle.spec.specs.Bytes.{Bytes, if_then_else_, those, present, every}
 use Rattle.spec.specs.Limits.{mostNameBytes}
 use Rattle.spec.specs.XmlNames.{prefixOf, localOf}
@@ -23,12 +23,7 @@ use Rattle.attributes.specs.Places.{places}
 
 -- of a name whose expanded name is i, where it has one
 unfoldable pub shortBy : Class → Bytes → Bool
-shortBy Declaration i = true
-shortBy Unknown i = true
-shortBy Unprefixed i = leb (length i) mostNameBytes
-shortBy Xml i = leb (length i) mostNameBytes
-shortBy (Own at n) i = leb (length i) mostNameBytes
-shortBy (Held at n) i = leb (length i) mostNameBytes
+shortBy c i = if eqb (kindOf c) 2 then leb (length i) mostNameBytes else true
 
 unfoldable pub shortAt : List ℕ → List ℕ → List ℕ → List ℕ → ℕ → Bool
 shortAt e w v cs j = shortBy (classAt cs j) (textAt e w v (classAt cs j) j)
@@ -51,27 +46,14 @@ module _ (a b : Bytes) where
 -- ---- the tests of `is_short`, by the kind m of class c
 
 pub short-written : (c : Class) (i : Bytes) {m : ℕ} → m ≡ kindOf c → (m ≡ 2 → ⊥) → true ≡ shortBy c i
-unfolding shortBy
-short-written Declaration i p h = refl
-short-written Unknown i p h = refl
-short-written Unprefixed i p h = absurd (h p)
-short-written Xml i p h = absurd (h p)
-short-written (Own at n) i p h = absurd (h p)
-short-written (Held at n) i p h = absurd (h p)
-
-expanded-short : (c : Class) (i : Bytes) → kindOf c ≡ 2 → leb (length i) mostNameBytes ≡ shortBy c i
-unfolding shortBy
-expanded-short Declaration i h = absurd (omega arith)
-expanded-short Unknown i h = absurd (omega arith)
-expanded-short Unprefixed i h = refl
-expanded-short Xml i h = refl
-expanded-short (Own at n) i h = refl
-expanded-short (Held at n) i h = refl
+unfolding shortBy if_then_else_
+short-written c i p h = rw (ne-eqb (kindOf c) 2 (λ z. h (p ∙ z)))
 
 -- its expanded name is in two parts
 pub short-expanded : (e w v : List ℕ) (j : ℕ) (c : Class) {m : ℕ} {s n : Bytes} {r : Bool} → m ≡ kindOf c → m ≡ 2 → s ≡ spaceBy e v xmlName c → n ≡ tailAt e w c j
     → r ≡ leb (length (s ++ n)) mostNameBytes → r ≡ shortBy c (textAt e w v c j)
-short-expanded e w v j c p h x y q = q ∙ rw (x, y, ← two-parts e w v c j) (expanded-short c (textAt e w v c j) (sym p ∙ h))
+unfolding shortBy if_then_else_
+short-expanded e w v j c p h x y q = q ∙ rw (x, y, eq-eqb (kindOf c) 2 (sym p ∙ h), two-parts e w v c j)
 
 -- the test of `names_short`: c is the class that was loaded
 pub short-test : (e w v cs : List ℕ) (j : ℕ) {c : Class} {r : Bool} → c ≡ classAt cs j → r ≡ shortBy c (textAt e w v c j) → shortAt e w v cs j ≡ r

@@ -7,10 +7,6 @@ use lib.ListN.{length}
 use Rattle.spec.specs.Namespaces.{declared}
 use Rattle.frames.specs.declared.Row.{Row}
 use Rattle.state.specs.Meaning.{bindingsOf}
-use Rattle.names.specs.declared.Found.{Found}
-use Rattle.names.specs.declared.Found.the-variants as found
-use Rattle.names.specs.declared.Class.{Class}
-use Rattle.names.specs.declared.Class.the-variants as class
 use Rattle.names.specs.Tag.{startAt, sizeAt, valueSizeAt, attributesOf}
 use Rattle.names.specs.Pairs.{pairs}
 use Rattle.names.specs.Classes.{sameKeys, Classified}
@@ -42,10 +38,3 @@ pub record Finds (e w : List ℕ) (k : ℕ) (v bs : List ℕ) (n : ℕ) (r : Boo
   pub classes : List ℕ
   pub are : Classified e w k v bs n classes k
   pub is : r ≡ pairs (sameKeys e w v classes) 0 k
-
--- the class of a name by where its namespace was found
-abbrev pub classHeld : Found → Class
-classHeld found.Unknown = class.Unknown
-classHeld found.Xml = class.Xml
-classHeld (found.Own at n) = class.Own at n
-classHeld (found.Held at n) = class.Held at n

@@ -21,13 +21,13 @@ use Rattle.frames.specs.declared.Row.{Row}
 use Rattle.frames.specs.Words.{StoredRow, row-wrote, row-load-store, row-kept}
 use Rattle.state.specs.Meaning.{bindingOf, bindingsOf}
 use Rattle.names.specs.declared.Found.{Found}
-use Rattle.names.specs.declared.Found.the-variants.{Unknown, Xml, Own, Held}
+use Rattle.names.specs.declared.Found.the-variants.{Unknown}
 use Rattle.names.specs.declared.Class.{Class}
 use Rattle.names.specs.Tag.{Word, start-word, startAt, sizeAt, nameAt, valueAt, attributeAt}
 use Rattle.names.specs.Tag.{attributesFrom, attributes-all, attributes-more, attributes-end}
 use Rattle.names.specs.Found.{foundBytes, scope}
-use Rattle.names.specs.Classes.{Says, Prefixed, says-found}
-use Rattle.crowded.specs.Own.{WithinAt, ownRow, Owns, classHeld}
+use Rattle.names.specs.Classes.{foundClass, Says, Prefixed, says-found, says-class}
+use Rattle.crowded.specs.Own.{WithinAt, ownRow, Owns}
 
 -- ---- one row, from the words of its declaration
 
@@ -181,16 +181,9 @@ module _ {e w : List ℕ} {k : ℕ} {rs ss : List ℕ} {d : ℕ} (o : Owns e w k
 
     -- nothing; g was found among the open elements' rows
     pub says-held : (g : Found) {m : Class}
-        → f ≡ Unknown → foundBytes e v g ≡ namespace (scope e w 0 v bs n) q → m ≡ classHeld g
+        → f ≡ Unknown → foundBytes e v g ≡ namespace (scope e w 0 v bs n) q → m ≡ foundClass g
         → Says m e v (scope e w k v bs n) a p
     unfolding orElse foundBytes
-    says-held g {m} t y z =
+    says-held g t y z =
         let u : none ≡ namespace (scope e w 0 e ss d) q = rw t at h in
-        rw z (go g (y ∙ sym (own-first q ∙ rw (← u))))
-      where
-        go : (g : Found) → foundBytes e v g ≡ namespace (scope e w k v bs n) q
-            → Says (classHeld g) e v (scope e w k v bs n) a p
-        go Unknown b = says-found e v Unknown c r s b refl refl
-        go Xml b = says-found e v Xml c r s b refl refl
-        go (Own at m) b = says-found e v (Own at m) c r s b refl refl
-        go (Held at m) b = says-found e v (Held at m) c r s b refl refl
+        says-class e v (scope e w k v bs n) a g c r s (y ∙ sym (own-first q ∙ rw (← u))) z

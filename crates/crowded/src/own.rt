@@ -6,7 +6,7 @@ ghost use lib.ListN.{length};
 ghost use Rattle.names.specs.Tag.{nameAt, colonAt, frontOf, attributeAt};
 ghost use Rattle.names.specs.Found.{scope};
 ghost use Rattle.names.specs.Classes.{Says};
-ghost use Rattle.crowded.specs.Own.{Within, WithinAt, ownRow, Owns, Finds, Classes, classHeld};
+ghost use Rattle.crowded.specs.Own.{Within, WithinAt, ownRow, Owns, Finds, Classes};
 use crate::PLACES;
 use frames::Row;
 use names::Class;
@@ -122,21 +122,9 @@ fn class_of(
     }
     let own = names::lookup(prefix, scratch, spans, 0, scratch, rows, d);
     match own {
-        Found::Unknown => class_held(names::lookup(prefix, scratch, spans, 0, work, bindings, n)),
+        Found::Unknown => names::lookup(prefix, scratch, spans, 0, work, bindings, n).class(),
         Found::Xml => Class::Xml,
         Found::Own(at, size) => Class::Own(at, size),
         Found::Held(at, size) => Class::Own(at, size),
-    }
-}
-
-// The class of a name whose prefix the tag itself does not declare, from what the open elements do.
-fn class_held(found: Found) -> Class
-    ensures { λ r. ⌜ r ≡ classHeld found ⌝ }
-{
-    match found {
-        Found::Unknown => Class::Unknown,
-        Found::Xml => Class::Xml,
-        Found::Own(at, size) => Class::Own(at, size),
-        Found::Held(at, size) => Class::Held(at, size),
     }
 }

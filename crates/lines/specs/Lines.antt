@@ -14,14 +14,12 @@ use Rattle.spec.specs.Rdf.{rdf}
 use Rattle.spec.specs.Namespaces.{xmlName}
 use Rattle.spec.specs.StartTag.{property, roleNumber, propertyAttributes, Tag}
 use Rattle.spec.specs.Productions.{literalOf, attributeLines, typeLine, tagLines, elementType}
-use Rattle.copy.specs.Copy.{part}
 use Rattle.writer.specs.Put.{Put, most, puts, put-as, put-none}
 use Rattle.ntriples.specs.declared.Term.the-variants as term-kind
 use Rattle.ntriples.specs.declared.Term as K
 use Rattle.ntriples.specs.Terms.{termOf, inRdf, idOf as given}
 use Rattle.ntriples.specs.Lines.{write-one}
 use Rattle.names.specs.declared.Class.{Class}
-use Rattle.names.specs.declared.Class.the-variants.{Declaration, Unknown, Unprefixed, Xml, Own, Held}
 use Rattle.names.specs.Tag.{valueAt}
 use Rattle.names.specs.Classes.{classAt, spaceBy}
 use Rattle.attributes.specs.Reads.{meaningsOf, Roles}
@@ -78,26 +76,6 @@ module _ {on : Bool} {d : List ℕ} {at : ℕ} (s : Subject) (l : Option Bytes) 
       → eqb (getD rs j 0) (roleNumber property) ≡ true → c ≡ classAt cs j → n ≡ spaceBy e v xmlName c → Put on d f at to (write (attributeLines s l (propertiesFrom e w v cs rs j 1)))
   unfolding attributeLines
   one-line p h q r = put-as p (rw (r, q, one e w v cs rs j h) (write-one (triple s (spaceAt e v cs j ++ localAt e w j) (literalOf none l (valueAt e w j)))))
-
--- the namespace of a class
-module _ (e v : List ℕ) {c : Class} where
-  pub space-declaration : c ≡ Declaration → [] ≡ spaceBy e v xmlName c
-  space-declaration h = rw h
-
-  pub space-unknown : c ≡ Unknown → [] ≡ spaceBy e v xmlName c
-  space-unknown h = rw h
-
-  pub space-unprefixed : c ≡ Unprefixed → [] ≡ spaceBy e v xmlName c
-  space-unprefixed h = rw h
-
-  pub space-xml : c ≡ Xml → xmlName ≡ spaceBy e v xmlName c
-  space-xml h = rw h
-
-  pub space-own : {n : Bytes} {from m : ℕ} → n ≡ part e from m → c ≡ Own from m → n ≡ spaceBy e v xmlName c
-  space-own p h = rw h p
-
-  pub space-held : {n : Bytes} {from m : ℕ} → n ≡ part v from m → c ≡ Held from m → n ≡ spaceBy e v xmlName c
-  space-held p h = rw h p
 
 -- what `property_line` writes, from what it has read
 pub property-text : (s : Subject) (n : Bytes) {x y : Bytes} {k : K.Term} (g : Bytes) (e w : List ℕ) (j : ℕ) (t : Bool) → x ≡ localAt e w j → y ≡ valueAt e w j → k ≡ literalKind t

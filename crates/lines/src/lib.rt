@@ -20,7 +20,7 @@ use ntriples::Term;
 use roles::Role;
 
 // The property attributes of the first k, a line each in written order; they take the language in force, where `tagged` says that there is one.
-pub fn emit_property_attrs(
+pub fn emit_property_attrs<'a>(
     out: &mut [u8],
     at: usize,
     on: bool,
@@ -28,10 +28,10 @@ pub fn emit_property_attrs(
     subject: &[u8],
     tagged: bool,
     language: &[u8],
-    scratch: &[u8],
+    scratch: &'a [u8],
     spans: &[u32],
     k: usize,
-    work: &[u8],
+    work: &'a [u8],
     classes: &[usize],
     roles: &[u8],
 ) -> usize
@@ -61,7 +61,7 @@ pub fn emit_property_attrs(
 }
 
 // The lines of a start tag about a subject: its property attributes, then its rdf:type, where `typed` says that there is one.
-pub fn tag_lines(
+pub fn tag_lines<'a>(
     out: &mut [u8],
     at: usize,
     on: bool,
@@ -69,10 +69,10 @@ pub fn tag_lines(
     subject: &[u8],
     tagged: bool,
     language: &[u8],
-    scratch: &[u8],
+    scratch: &'a [u8],
     spans: &[u32],
     k: usize,
-    work: &[u8],
+    work: &'a [u8],
     classes: &[usize],
     roles: &[u8],
     typed: bool,
@@ -99,7 +99,7 @@ pub fn tag_lines(
 }
 
 // The lines of a node element: those of its start tag, then the type that its name is, where `named` says so: rdf:Description is none.
-pub fn node_lines(
+pub fn node_lines<'a>(
     out: &mut [u8],
     at: usize,
     on: bool,
@@ -107,10 +107,10 @@ pub fn node_lines(
     subject: &[u8],
     tagged: bool,
     language: &[u8],
-    scratch: &[u8],
+    scratch: &'a [u8],
     spans: &[u32],
     k: usize,
-    work: &[u8],
+    work: &'a [u8],
     classes: &[usize],
     roles: &[u8],
     typed: bool,
@@ -170,7 +170,7 @@ pub fn type_line(
 }
 
 // The line of attribute j, where it is a property.
-fn emit_property_attr(
+fn emit_property_attr<'a>(
     out: &mut [u8],
     at: usize,
     on: bool,
@@ -178,10 +178,10 @@ fn emit_property_attr(
     subject: &[u8],
     tagged: bool,
     language: &[u8],
-    scratch: &[u8],
+    scratch: &'a [u8],
     spans: &[u32],
     j: usize,
-    work: &[u8],
+    work: &'a [u8],
     classes: &[usize],
     roles: &[u8],
 ) -> usize
@@ -190,87 +190,20 @@ fn emit_property_attr(
     if !is_property(roles, j) {
         return at;
     }
-    let class = Class::load(classes, j);
-    match class {
-        Class::Declaration => property_line(
-            out,
-            at,
-            on,
-            node,
-            subject,
-            b"",
-            tagged,
-            language,
-            scratch,
-            spans,
-            j,
-        ),
-        Class::Unknown => property_line(
-            out,
-            at,
-            on,
-            node,
-            subject,
-            b"",
-            tagged,
-            language,
-            scratch,
-            spans,
-            j,
-        ),
-        Class::Unprefixed => property_line(
-            out,
-            at,
-            on,
-            node,
-            subject,
-            b"",
-            tagged,
-            language,
-            scratch,
-            spans,
-            j,
-        ),
-        Class::Xml => property_line(
-            out,
-            at,
-            on,
-            node,
-            subject,
-            &XML,
-            tagged,
-            language,
-            scratch,
-            spans,
-            j,
-        ),
-        Class::Own(from, n) => property_line(
-            out,
-            at,
-            on,
-            node,
-            subject,
-            names::piece(scratch, from, n),
-            tagged,
-            language,
-            scratch,
-            spans,
-            j,
-        ),
-        Class::Held(from, n) => property_line(
-            out,
-            at,
-            on,
-            node,
-            subject,
-            names::piece(work, from, n),
-            tagged,
-            language,
-            scratch,
-            spans,
-            j,
-        ),
-    }
+    let space = names::space_of(Class::load(classes, j), scratch, work, &XML);
+    property_line(
+        out,
+        at,
+        on,
+        node,
+        subject,
+        space,
+        tagged,
+        language,
+        scratch,
+        spans,
+        j,
+    )
 }
 
 // The line of attribute j, whose namespace is `space`.

@@ -20,6 +20,7 @@ use Rattle.copy.specs.Blocks.{same-append}
 use Rattle.copy.specs.Copy.{part, Wrote, then as also, wrote-one, wrote-part, wrote-apart, wrote-same, getD-part}
 use Rattle.frames.specs.Words.{pick}
 use Rattle.names.specs.declared.Found.{Found}
+use Rattle.names.specs.declared.Found.the-variants as found
 use Rattle.names.specs.declared.Class.{Class}
 use Rattle.names.specs.declared.Class.the-variants.{Declaration, Unknown, Unprefixed, Xml, Own, Held}
 use Rattle.names.specs.declared.ClassWords.{ClassWords}
@@ -28,6 +29,13 @@ use Rattle.names.specs.Declarations.{is-empty, not-empty}
 use Rattle.names.specs.Found.{foundBytes, scope, same-scope}
 use Rattle.names.specs.Pairs.{behind, pairs}
 use Rattle.names.specs.Repeats.{Key, keyed, keyOf, sameKey, memberKey, repeatsKeys, repeats-by-keys}
+
+-- the class of a name by where its prefix's namespace was found
+abbrev pub foundClass : Found → Class
+foundClass found.Unknown = Unknown
+foundClass found.Xml = Xml
+foundClass (found.Own at n) = Own at n
+foundClass (found.Held at n) = Held at n
 
 -- ---- what a class says of an attribute a, whose prefix is p
 
@@ -142,6 +150,14 @@ pub says-found : (e v : List ℕ) {bs : List Binding} {a : Attribute} {p d : Byt
     → isDeclaration a ≡ false → d ≡ p → (length d ≡ 0 → ⊥) → foundBytes e v f ≡ namespace bs d → f ≡ g → foundBytes e v g ≡ o → Prefixed bs a p o
 says-found e v f c q s h t k = record { other = c; some = rw (← q) (not-empty _ s); is = rw (← q) (sym h ∙ (rw t k)) }
 
+pub says-class : (e v : List ℕ) (bs : List Binding) (a : Attribute) {p d : Bytes} (f : Found) {m : Class}
+    → isDeclaration a ≡ false → d ≡ p → (length d ≡ 0 → ⊥) → foundBytes e v f ≡ namespace bs d → m ≡ foundClass f → Says m e v bs a p
+unfolding foundBytes
+says-class e v bs a found.Unknown c q s h t = rw t (says-found e v found.Unknown c q s h refl refl)
+says-class e v bs a found.Xml c q s h t = rw t (says-found e v found.Xml c q s h refl refl)
+says-class e v bs a (found.Own at n) c q s h t = rw t (says-found e v (found.Own at n) c q s h refl refl)
+says-class e v bs a (found.Held at n) c q s h t = rw t (says-found e v (found.Held at n) c q s h refl refl)
+
 pub says-unprefixed : (a : Attribute) {p d : Bytes} → isDeclaration a ≡ false → d ≡ p → length d ≡ 0 → (isDeclaration a ≡ false) × (isEmpty p ≡ true)
 says-unprefixed a c q s = (c, rw (← q) (is-empty _ s))
 
@@ -196,14 +212,26 @@ module _ {e w : List ℕ} {k : ℕ} {v bs : List ℕ} {n : ℕ} {cs : List ℕ} 
 
 -- ---- what attributes are compared by, from their classes
 
--- n is the name as written, l its local part
+-- the namespace of a name of this class, empty where there is none; x is that of `xml`
+abbrev pub spaceBy : List ℕ → List ℕ → Bytes → Class → Bytes
+spaceBy e v x Declaration = []
+spaceBy e v x Unknown = []
+spaceBy e v x Unprefixed = []
+spaceBy e v x Xml = x
+spaceBy e v x (Own at m) = part e at m
+spaceBy e v x (Held at m) = part v at m
+
+-- what stands behind it: n is the name as written, l its local part
+abbrev pub tailBy : Bytes → Bytes → Class → Bytes
+tailBy n l Declaration = n
+tailBy n l Unknown = n
+tailBy n l Unprefixed = n
+tailBy n l Xml = l
+tailBy n l (Own at m) = l
+tailBy n l (Held at m) = l
+
 unfoldable pub textBy : List ℕ → List ℕ → Bytes → Bytes → Class → Bytes
-textBy e v n l Declaration = n
-textBy e v n l Unknown = n
-textBy e v n l Unprefixed = n
-textBy e v n l Xml = xmlName ++ l
-textBy e v n l (Own at m) = part e at m ++ l
-textBy e v n l (Held at m) = part v at m ++ l
+textBy e v n l c = spaceBy e v xmlName c ++ tailBy n l c
 
 abbrev pub kindOf : Class → ℕ
 kindOf Declaration = 0
@@ -287,37 +315,14 @@ module _ (e v : List ℕ) (bs : List Binding) (a : Attribute) {p : Bytes} where
   class-known (Own at m) h q = rw (h .other, ← q, h .some, h .is)
   class-known (Held at m) h q = rw (h .other, ← q, h .some, h .is)
 
--- ---- what attributes are compared by, in two parts: a namespace, or nothing, and what stands behind it
-
--- the namespace of a name of this class, empty where there is none; x is that of `xml`
-abbrev pub spaceBy : List ℕ → List ℕ → Bytes → Class → Bytes
-spaceBy e v x Declaration = []
-spaceBy e v x Unknown = []
-spaceBy e v x Unprefixed = []
-spaceBy e v x Xml = x
-spaceBy e v x (Own at m) = part e at m
-spaceBy e v x (Held at m) = part v at m
-
--- n is the name as written, l its local part
-abbrev pub tailBy : Bytes → Bytes → Class → Bytes
-tailBy n l Declaration = n
-tailBy n l Unknown = n
-tailBy n l Unprefixed = n
-tailBy n l Xml = l
-tailBy n l (Own at m) = l
-tailBy n l (Held at m) = l
+-- ---- what `is_key` compares
 
 abbrev pub tailAt : List ℕ → List ℕ → Class → ℕ → Bytes
 tailAt e w c j = tailBy (nameAt e w j) (backOf (colonAt w j) (nameAt e w j)) c
 
 pub two-parts : (e w v : List ℕ) (c : Class) (j : ℕ) → textAt e w v c j ≡ spaceBy e v xmlName c ++ tailAt e w c j
 unfolding textAt textBy
-two-parts e w v Declaration j = refl
-two-parts e w v Unknown j = refl
-two-parts e w v Unprefixed j = refl
-two-parts e w v Xml j = refl
-two-parts e w v (Own at m) j = refl
-two-parts e w v (Held at m) j = refl
+two-parts e w v c j = refl
 
 -- the words of two classes of a table are the same
 both : (a b : Bool) → (a && b) ≡ true → (a ≡ true) × (b ≡ true)

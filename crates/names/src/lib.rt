@@ -15,7 +15,7 @@ ghost use Rattle.state.specs.Meaning.{bindingOf};
 ghost use Rattle.names.specs.Found.{foundBytes, scope, IsOwn, IsHeld, heldBy, Names};
 ghost use Rattle.names.specs.Pairs.{behindIn, pairs};
 ghost use Rattle.names.specs.Repeats.{sameWritten};
-ghost use Rattle.names.specs.Classes.{wordsOf, classOf, classAt, StoredClass, Says, Classifies, kindOf, sameKeys, spaceBy, tailAt, Keyed};
+ghost use Rattle.names.specs.Classes.{foundClass, wordsOf, classOf, classAt, StoredClass, Says, Classifies, kindOf, sameKeys, spaceBy, tailAt, Keyed};
 use copy::words::wide;
 
 // The namespace that `xml` is always bound to.
@@ -47,6 +47,20 @@ struct ClassWords {
     what: usize,
     at: usize,
     size: usize,
+}
+
+impl Found {
+    // The class of a name whose prefix has this namespace.
+    pub fn class(self) -> Class
+        ensures { λ r. ⌜ r ≡ foundClass self ⌝ }
+    {
+        match self {
+            Found::Unknown => Class::Unknown,
+            Found::Xml => Class::Xml,
+            Found::Own(at, size) => Class::Own(at, size),
+            Found::Held(at, size) => Class::Held(at, size),
+        }
+    }
 }
 
 impl Class {
@@ -540,13 +554,7 @@ fn class_of(
     if prefix.len() == 0 {
         return Class::Unprefixed;
     }
-    let found = lookup(prefix, scratch, spans, k, work, bindings, n);
-    match found {
-        Found::Unknown => Class::Unknown,
-        Found::Xml => Class::Xml,
-        Found::Own(at, size) => Class::Own(at, size),
-        Found::Held(at, size) => Class::Held(at, size),
-    }
+    lookup(prefix, scratch, spans, k, work, bindings, n).class()
 }
 
 // Is attribute j legal? It is where it declares nothing.

@@ -3,7 +3,7 @@ use Prim.Native.Nat.{ℕ, _+_, _-_, _<_, _≤_}
 use mathlib.Core.Path.{_≡_, refl, sym, ap, _∙_}
 use mathlib.Core.Bool.{Bool, true, false, _&&_, not, false≢true}
 use mathlib.Core.Option.{Option, none, some}
-use mathlib.Core.List.{List, [], _++_, map}
+use mathlib.Core.List.{List, _++_, map}
 use native.Mathlib.Omega.{arith}
 use lib.Dec.{leb, ltb}
 use lib.ListN.{length, drop, length-append, length-take, length-map}
@@ -19,8 +19,10 @@ use Rattle.copy.specs.Copy.{part, Put, Wrote, put-fits, then as row, wrote-part
 use Rattle.frames.specs.Kept.{Kept, kept-all, kept-before, kept-then, kept-less}
 use Rattle.names.specs.declared.Found.{Found}
 use Rattle.names.specs.declared.Found.the-variants.{Unknown, Xml, Own, Held}
+use Rattle.names.specs.declared.Class.{Class}
 use Rattle.names.specs.Tag.{valueAt, backOf}
 use Rattle.names.specs.Found.{foundBytes, answered}
+use Rattle.names.specs.Classes.{foundClass, spaceBy}
 use Rattle.reference.specs.declared.Reference.{Reference}
 use Rattle.reference.specs.declared.Reference.the-variants.{Missing, Bad, Long, Made}
 use Rattle.reference.specs.Reference.{given, isLong, Refers, Resolves, refers-kept}
@@ -39,13 +41,6 @@ isUnknown Unknown = true
 isUnknown Xml = false
 isUnknown (Own at n) = false
 isUnknown (Held at n) = false
-
--- the namespace that was found, empty where there is none; x is that of `xml`
-abbrev pub spaceOf : List ℕ → List ℕ → Bytes → Found → Bytes
-spaceOf e v x Unknown = []
-spaceOf e v x Xml = x
-spaceOf e v x (Own at n) = part e at n
-spaceOf e v x (Held at n) = part v at n
 
 -- where the namespace was found, which it is in a good tag
 unfoldable pub iriOf : Option Bytes → Bytes → Answer (Option Bytes)
@@ -103,13 +98,13 @@ made-none e v l (Own at n) h = absurd (false≢true h)
 made-none e v l (Held at n) h = absurd (false≢true h)
 
 -- the namespace s and the local part l were joined
-pub made-joined : (e v : List ℕ) (l : Bytes) {area after : List ℕ} (f : Found) {s t : Bytes} {r : Reference} → isUnknown f ≡ false → s ≡ spaceOf e v xmlName f → t ≡ l
+pub made-joined : (e v : List ℕ) (l : Bytes) {area after : List ℕ} (f : Found) {m : Class} {s t : Bytes} {r : Reference} → isUnknown f ≡ false → m ≡ foundClass f → s ≡ spaceBy e v xmlName m → t ≡ l
     → Resolves (good (some (s ++ t))) area after 5120 r → Resolves (iriOf (foundBytes e v f) l) area after 5120 r
 unfolding iriOf foundBytes
-made-joined e v l Unknown h p q x = absurd (false≢true (sym h))
-made-joined e v l Xml h p q x = rw (← q, ← p) x
-made-joined e v l (Own at n) h p q x = rw (← q, ← p) x
-made-joined e v l (Held at n) h p q x = rw (← q, ← p) x
+made-joined e v l Unknown h m p q x = absurd (false≢true (sym h))
+made-joined e v l Xml h m p q x = rw (← q, ← rw m at p) x
+made-joined e v l (Own at n) h m p q x = rw (← q, ← rw m at p) x
+made-joined e v l (Held at n) h m p q x = rw (← q, ← rw m at p) x
 
 -- ---- the language
 

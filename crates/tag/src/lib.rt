@@ -14,7 +14,7 @@ ghost use Rattle.references.specs.Values.{valueIf};
 ghost use Rattle.attributes.specs.Places.{places};
 ghost use Rattle.attributes.specs.Short.{shortAt};
 ghost use Rattle.ids.specs.Ids.{SpansIn};
-ghost use Rattle.tag.specs.Made.{isUnknown, spaceOf, iriOf, Lowered, shortIf, shortBy, RoomToMake, Finished};
+ghost use Rattle.tag.specs.Made.{isUnknown, iriOf, Lowered, shortIf, shortBy, RoomToMake, Finished};
 ghost use Rattle.tag.specs.Tag.{Asks, Reads};
 use ids::IdTable;
 use names::Found;
@@ -198,22 +198,10 @@ fn make_iri<'a>(
         return Reference::Missing;
     }
     join(
-        space_of(found, scratch, work, &XML),
+        names::space_of(found.class(), scratch, work, &XML),
         names::back_of(name, c),
         area,
     )
-}
-
-// The namespace that was found, empty where there is none; `xml` is that of the prefix `xml`.
-fn space_of<'a>(found: Found, scratch: &'a [u8], work: &'a [u8], xml: &'a [u8]) -> &'a [u8]
-    ensures { λ s. ⌜ now s ≡ spaceOf (now (scratch .entry)) (now (work .entry)) (now (xml .entry)) found ⌝ }
-{
-    match found {
-        Found::Unknown => &scratch[0..0],
-        Found::Xml => xml,
-        Found::Own(at, n) => names::piece(scratch, at, n),
-        Found::Held(at, n) => names::piece(work, at, n),
-    }
 }
 
 fn join(space: &[u8], local: &[u8], area: &mut [u8]) -> Reference

@@ -1,8 +1,6 @@
 -- `names::class_of` meets its contract. By what `lookup` answers.
-use mathlib.Core.Path.{refl}
 use Rattle.names.specs.Declarations.{told}
-use Rattle.names.specs.Found.{foundBytes}
-use Rattle.names.specs.Classes.{says-found, says-unprefixed}
+use Rattle.names.specs.Classes.{says-class, says-unprefixed}
 use borrow.Author.Needs.{needs}
 use Rattle.names.proofs.class_of.Statement.{statement}
 use Rattle.names.proofs.class_of.Tie as tie
@@ -25,33 +23,11 @@ returns-2 c = says-unprefixed _ (told _ _ _ (c .before .before .before .before .
 lookup-requires : tie.Need-lookup-requires
 lookup-requires c κs = search needs
 
-enum-told : tie.Need-enum-told
-enum-told c = search needs
-
-enum-told-2 : tie.Need-enum-told-2
-enum-told-2 c = search needs
-
-enum-known-found : tie.Need-enum-known-found
-enum-known-found c = search needs
-
-enum-known-found-2 : tie.Need-enum-known-found-2
-enum-known-found-2 c = search needs
+class-requires : tie.Need-class-requires
+class-requires c κs = search needs
 
 returns-3 : tie.Need-returns-3
-unfolding foundBytes
-returns-3 c = says-found _ _ _ (told _ _ _ (c .before .before .before .before .before .before .before .name-of .ensures) (c .before .before .before .before .before .before .is-declaration .ensures) (c .before .before .before .before .before .if1 .left)) (c .before .before .before .before .prefix-of .ensures) (c .before .before .before .if2 .left) (c .before .before .lookup .ensures) (c .enum-told .given .1) refl
-
-returns-4 : tie.Need-returns-4
-unfolding foundBytes
-returns-4 c = says-found _ _ _ (told _ _ _ (c .before .before .before .before .before .before .before .name-of .ensures) (c .before .before .before .before .before .before .is-declaration .ensures) (c .before .before .before .before .before .if1 .left)) (c .before .before .before .before .prefix-of .ensures) (c .before .before .before .if2 .left) (c .before .before .lookup .ensures) (c .enum-told2 .given .1) refl
-
-returns-5 : tie.Need-returns-5
-unfolding foundBytes
-returns-5 c = says-found _ _ _ (told _ _ _ (c .before .before .before .before .before .before .before .before .name-of .ensures) (c .before .before .before .before .before .before .before .is-declaration .ensures) (c .before .before .before .before .before .before .if1 .left)) (c .before .before .before .before .before .prefix-of .ensures) (c .before .before .before .before .if2 .left) (c .before .before .before .lookup .ensures) (c .before .found .given .1) refl
-
-returns-6 : tie.Need-returns-6
-unfolding foundBytes
-returns-6 c = says-found _ _ _ (told _ _ _ (c .before .before .before .before .before .before .before .before .name-of .ensures) (c .before .before .before .before .before .before .before .is-declaration .ensures) (c .before .before .before .before .before .before .if1 .left)) (c .before .before .before .before .before .prefix-of .ensures) (c .before .before .before .before .if2 .left) (c .before .before .before .lookup .ensures) (c .before .found2 .given .1) refl
+returns-3 c = says-class _ _ _ _ _ (told _ _ _ (c .before .before .before .before .before .before .name-of .ensures) (c .before .before .before .before .before .is-declaration .ensures) (c .before .before .before .before .if1 .left)) (c .before .before .before .prefix-of .ensures) (c .before .before .if2 .left) (c .before .lookup .ensures) (c .class .ensures)
 
 pub class-of-spec : {M : Type 1} → statement M
 class-of-spec =
@@ -63,11 +39,5 @@ class-of-spec =
     prefix-of-requires
     returns-2
     lookup-requires
-    enum-told
-    enum-told-2
-    enum-known-found
-    enum-known-found-2
-    returns-3
-    returns-4
-    returns-5
-    returns-6)
+    class-requires
+    returns-3)

@@ -14,6 +14,9 @@ is-unknown-requires c κs = search needs
 returns : tie.Need-returns
 returns c = made-none (c .before .before .before .before .before .before .args .scratch .now) (c .before .before .before .before .before .before .args .work .now) (backOf (c .before .before .before .before .before .before .args .c) (c .before .before .before .before .before .before .args .name .now)) _ (sym (c .before .is-unknown .ensures) ∙ c .if1 .taken)
 
+class-requires : tie.Need-class-requires
+class-requires c κs = search needs
+
 slice-aggregate-space-of : tie.Need-slice-aggregate-space-of
 slice-aggregate-space-of c = search needs
 
@@ -27,11 +30,11 @@ join-requires : tie.Need-join-requires
 join-requires c κs = search needs
 
 same-length : tie.Need-same-length
-same-length c = search needs
+same-length c = c .before .area .given
 
 returns-2 : tie.Need-returns-2
 unfolding xmlName ascii
-returns-2 c = made-joined (c .before .before .before .before .before .before .before .before .before .before .before .before .before .args .scratch .now) (c .before .before .before .before .before .before .before .before .before .before .before .before .before .args .work .now) (backOf (c .before .before .before .before .before .before .before .before .before .before .before .before .before .args .c) (c .before .before .before .before .before .before .before .before .before .before .before .before .before .args .name .now)) _ (sym (c .before .before .before .before .before .before .before .before .is-unknown .ensures) ∙ c .before .before .before .before .before .before .before .if1 .left) (c .before .before .before .before .before .space-of .ensures) (c .before .before .before .before .back-of .ensures) (c .before .before .join .ensures)
+returns-2 c = made-joined (c .before .before .before .before .before .before .before .before .before .before .before .before .before .before .args .scratch .now) (c .before .before .before .before .before .before .before .before .before .before .before .before .before .before .args .work .now) (backOf (c .before .before .before .before .before .before .before .before .before .before .before .before .before .before .args .c) (c .before .before .before .before .before .before .before .before .before .before .before .before .before .before .args .name .now)) _ (sym (c .before .before .before .before .before .before .before .before .before .is-unknown .ensures) ∙ c .before .before .before .before .before .before .before .before .if1 .left) (c .before .before .before .before .before .before .before .class .ensures) (c .before .before .before .before .before .space-of .ensures) (c .before .before .before .before .back-of .ensures) (c .before .before .join .ensures)
 
 pub make-iri-spec : {M : Type 1} → statement M
 make-iri-spec =
@@ -39,6 +42,7 @@ make-iri-spec =
     (tie.spec
     is-unknown-requires
     returns
+    class-requires
     slice-aggregate-space-of
     space-of-requires
     back-of-requires

@@ -35,8 +35,8 @@ enum-told c = search needs
 lookup-requires-2 : tie.Need-lookup-requires-2
 lookup-requires-2 c κs = search needs
 
-class-held-requires : tie.Need-class-held-requires
-class-held-requires c κs = search needs
+class-requires : tie.Need-class-requires
+class-requires c κs = search needs
 
 enum-told-2 : tie.Need-enum-told-2
 enum-told-2 c = search needs
@@ -56,7 +56,7 @@ returns-3 c =
     (c .before .before .before .before .before .before .before .if1 .left))
     (c .before .before .before .before .before .before .prefix-of .ensures)
     (c .before .before .before .before .before .if2 .left) (c .before .before .before .before .lookup .ensures) _
-    (c .before .before .enum-told .given .1) (c .before .lookup2 .ensures) (c .class-held .ensures)
+    (c .before .before .enum-told .given .1) (c .before .lookup2 .ensures) (c .class .ensures)
 
 returns-4 : tie.Need-returns-4
 unfolding foundBytes
@@ -102,7 +102,7 @@ class-of-spec =
     lookup-requires
     enum-told
     lookup-requires-2
-    class-held-requires
+    class-requires
     enum-told-2
     enum-known-own
     enum-known-own-2
