@@ -1,6 +1,6 @@
 -- Refusals 14, 15 and 18, by which attributes there are; what a start tag then opens.
 use mathlib.Core.Path.{_≡_, refl, sym, _∙_}
-use mathlib.Core.Bool.{Bool, true, false, _&&_, _||_, not, false≢true}
+use mathlib.Core.Bool.{Bool, true, false, _&&_, _||_, not, Bool·not-not, false≢true}
 use mathlib.Core.Option.{Option, none, some}
 use mathlib.Core.List.{[], _++_}
 use Prim.Native.Nat.{ℕ, suc, _<_}
@@ -22,7 +22,6 @@ use Rattle.ntriples.specs.Terms.{idOf as given}
 use Rattle.roles.specs.declared.Judgment.{Judgment}
 use Rattle.roles.specs.declared.Judgment.the-variants.{Good, Stop}
 use Rattle.roles.specs.Judgment.{said}
-use Rattle.production.specs.Names.{not-not}
 use Rattle.production.specs.declared.ParseType.{ParseType}
 use Rattle.production.specs.declared.ParseType.the-variants as parse
 
@@ -273,7 +272,7 @@ property-rules : {t : Tag} {reserved li : Bool} {p : ParseType} {resource nodeID
     >> ((if takesLabel (parseTypeIs p) resource nodeID properties then oneMore n else good tt) >> good (propertyOpened (parseTypeIs p) t (propertyIn t s count) n)))))
 unfolding openProperty twoObjects propertyIn
 property-rules {t} s count n k =
-    rw (k .name, k .numbered, k .parse, k .hasResource, k .hasNodeID, k .hasProperties, not-not (mayBeProperty (t .iri)), ← two-objects (t .parseType) (isSome (t .resource)) (isSome (t .nodeID)), ← as-labels (parseTypeOf (t .parseType)) t (propertyIn t s count) n)
+    rw (k .name, k .numbered, k .parse, k .hasResource, k .hasNodeID, k .hasProperties, Bool·not-not (mayBeProperty (t .iri)), ← two-objects (t .parseType) (isSome (t .resource)) (isSome (t .nodeID)), ← as-labels (parseTypeOf (t .parseType)) t (propertyIn t s count) n)
 
 -- the tests of `judge_property`
 module _ {reserved li : Bool} {count : ℕ} {p : ParseType} {resource nodeID properties : Bool} {n : ℕ} where

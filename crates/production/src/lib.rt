@@ -1,23 +1,26 @@
 // What a start tag outside Literal content is: RDF 1.1 XML Syntax, section 7, by its element's IRI and by which attributes it has.
 ghost use mathlib.Core.Path.{_≡_};
-ghost use mathlib.Core.Bool.{_&&_, _||_, not};
-ghost use mathlib.Core.List.{_++_, map};
+ghost use mathlib.Core.Bool.{_&&_, not};
+ghost use mathlib.Core.List.{_++_};
 ghost use Prim.Native.Nat.{_+_, _<_, _≤_};
 ghost use lib.Dec.{ltb};
 ghost use lib.ListN.{length};
-ghost use Rattle.spec.specs.Bytes.{ascii, same, member};
+ghost use Rattle.spec.specs.Bytes.{same};
 ghost use Rattle.spec.specs.Limits.{mostLabels};
 ghost use Rattle.spec.specs.Rdf.{rdf, mayBeNode, mayBeProperty};
 ghost use Rattle.spec.specs.NTriples.{label, decimal};
 ghost use Rattle.spec.specs.Productions.{parseTypeOf, isLi};
 ghost use Rattle.copy.specs.Copy.{Wrote};
 ghost use Rattle.ntriples.specs.Terms.{idOf as given};
-ghost use Rattle.production.specs.Names.{nameInRdf, coreSyntaxTerms, oldTerms};
+ghost use Rattle.roles.specs.Vocabulary.{termOf};
+ghost use Rattle.production.specs.Names.{nameInRdf, reservesNode, reservesProperty};
 ghost use Rattle.production.specs.Judged.{parseTypeIs, twoOfThree, twoObjectsBy, takesLabel, NodeJudged, PropertyJudged};
 use label::BlankNodeIdGenerator;
 use label::Decimal;
 use ntriples::RDF;
 use roles::Judgment;
+use roles::vocabulary;
+use roles::vocabulary::RdfTerm;
 use spec::Refusal;
 
 // What rdf:parseType says.
@@ -82,71 +85,65 @@ pub fn is_li(iri: &[u8]) -> bool
 pub fn is_reserved_node(iri: &[u8]) -> bool
     ensures { λ r. ⌜ r ≡ not (mayBeNode (now (iri .entry))) ⌝ }
 {
-    let name = rdf_name(iri);
-    if copy::equal(name, b"li") {
-        return true;
-    }
-    is_syntax_term(name)
+    reserves_node(term_of(iri))
 }
 
 // May no property element have this name?
 pub fn is_reserved_property(iri: &[u8]) -> bool
     ensures { λ r. ⌜ r ≡ not (mayBeProperty (now (iri .entry))) ⌝ }
 {
-    let name = rdf_name(iri);
-    if copy::equal(name, b"Description") {
-        return true;
-    }
-    is_syntax_term(name)
+    reserves_property(term_of(iri))
 }
 
-// Is it reserved for nodes and properties alike? Most names are not in the rdf namespace, and are empty here.
-fn is_syntax_term(name: &[u8]) -> bool
-    ensures { λ r. ⌜ r ≡ (member (now (name .entry)) (map ascii coreSyntaxTerms) || member (now (name .entry)) (map ascii oldTerms)) ⌝ }
+// By its term.
+fn reserves_node(term: RdfTerm) -> bool
+    ensures { λ r. ⌜ r ≡ reservesNode term ⌝ }
 {
-    if name.len() == 0 {
-        return false;
+    match term {
+        RdfTerm::Rdf => true,
+        RdfTerm::Description => false,
+        RdfTerm::Id => true,
+        RdfTerm::About => true,
+        RdfTerm::ParseType => true,
+        RdfTerm::Resource => true,
+        RdfTerm::NodeId => true,
+        RdfTerm::Datatype => true,
+        RdfTerm::Li => true,
+        RdfTerm::Type => false,
+        RdfTerm::AboutEach => true,
+        RdfTerm::AboutEachPrefix => true,
+        RdfTerm::BagId => true,
+        RdfTerm::Other => false,
     }
-    if is_core_syntax_term(name) {
-        return true;
-    }
-    is_old_term(name)
 }
 
-fn is_core_syntax_term(name: &[u8]) -> bool
-    ensures { λ r. ⌜ r ≡ member (now (name .entry)) (map ascii coreSyntaxTerms) ⌝ }
+// As of nodes, but that it may be rdf:li and may not be rdf:Description.
+fn reserves_property(term: RdfTerm) -> bool
+    ensures { λ r. ⌜ r ≡ reservesProperty term ⌝ }
 {
-    if copy::equal(name, b"RDF") {
-        return true;
+    match term {
+        RdfTerm::Rdf => true,
+        RdfTerm::Description => true,
+        RdfTerm::Id => true,
+        RdfTerm::About => true,
+        RdfTerm::ParseType => true,
+        RdfTerm::Resource => true,
+        RdfTerm::NodeId => true,
+        RdfTerm::Datatype => true,
+        RdfTerm::Li => false,
+        RdfTerm::Type => false,
+        RdfTerm::AboutEach => true,
+        RdfTerm::AboutEachPrefix => true,
+        RdfTerm::BagId => true,
+        RdfTerm::Other => false,
     }
-    if copy::equal(name, b"ID") {
-        return true;
-    }
-    if copy::equal(name, b"about") {
-        return true;
-    }
-    if copy::equal(name, b"parseType") {
-        return true;
-    }
-    if copy::equal(name, b"resource") {
-        return true;
-    }
-    if copy::equal(name, b"nodeID") {
-        return true;
-    }
-    copy::equal(name, b"datatype")
 }
 
-fn is_old_term(name: &[u8]) -> bool
-    ensures { λ r. ⌜ r ≡ member (now (name .entry)) (map ascii oldTerms) ⌝ }
+// The term that the IRI is.
+fn term_of(iri: &[u8]) -> RdfTerm
+    ensures { λ r. ⌜ r ≡ termOf (now (iri .entry)) ⌝ }
 {
-    if copy::equal(name, b"aboutEach") {
-        return true;
-    }
-    if copy::equal(name, b"aboutEachPrefix") {
-        return true;
-    }
-    copy::equal(name, b"bagID")
+    vocabulary::local_term(b"", rdf_name(iri))
 }
 
 // ---- refusals 14, 15, 18

@@ -1,15 +1,16 @@
 // What an attribute is there for, its role, by its name; and whether its value is good in it.
 ghost use mathlib.Core.Path.{_≡_};
 ghost use mathlib.Core.List.{_++_};
-ghost use Prim.Native.Nat.{_≤_};
-ghost use lib.ListN.{length, drop};
-ghost use Rattle.spec.specs.Bytes.{same, require_or_};
+ghost use Rattle.spec.specs.Bytes.{require_or_};
 ghost use Rattle.spec.specs.Rfc5646.{isLanguageTag};
-ghost use Rattle.spec.specs.StartTag.{roleNumber, rdfRoles, roleAmong, roleOf, judge, rdf-nodeID};
-ghost use Rattle.roles.specs.Role.{roleIs, rdfSpace, localRole};
+ghost use Rattle.spec.specs.StartTag.{roleNumber, roleOf, judge, rdf-nodeID};
+ghost use Rattle.roles.specs.Role.{roleIs, attributeRole};
 ghost use Rattle.roles.specs.Judgment.{said};
+
+pub mod vocabulary;
+
+use crate::vocabulary::RdfTerm;
 use langtag::Tag;
-use ntriples::RDF;
 use spec::Refusal;
 
 // What an attribute is there for, by its name.
@@ -63,7 +64,7 @@ pub fn role_of(name: &[u8], space: &[u8], local: &[u8]) -> Role
     ensures { λ r. ⌜ roleIs r ≡ roleOf (now (name .entry)) (now (space .entry) ++ now (local .entry)) ⌝ }
 {
     if !copy::begins(name, b"xml") {
-        return role_among(space, local, &RDF);
+        return attribute_role(vocabulary::rdf_term(space, local));
     }
     if copy::equal(name, b"xml:lang") {
         return Role::XmlLang;
@@ -95,99 +96,26 @@ pub fn judge(role: Role, value: &[u8]) -> Judgment
     }
 }
 
-// The role by the expanded name; `rdf` is the rdf namespace. Most names are in another, and a few bytes tell.
-fn role_among(space: &[u8], local: &[u8], rdf: &[u8]) -> Role
-    requires { ⌜ now rdf ≡ rdfSpace ⌝ }
-    ensures { λ r. ⌜ roleIs r ≡ roleAmong rdfRoles (now (space .entry) ++ now (local .entry)) ⌝ }
+// The role of an attribute by the term that its expanded name is.
+fn attribute_role(term: RdfTerm) -> Role
+    ensures { λ r. ⌜ r ≡ attributeRole term ⌝ }
 {
-    if space.len() < rdf.len() {
-        return role_across(space, local, rdf);
+    match term {
+        RdfTerm::Rdf => Role::Forbidden,
+        RdfTerm::Description => Role::Property,
+        RdfTerm::Id => Role::Id,
+        RdfTerm::About => Role::About,
+        RdfTerm::ParseType => Role::ParseType,
+        RdfTerm::Resource => Role::Resource,
+        RdfTerm::NodeId => Role::NodeId,
+        RdfTerm::Datatype => Role::Datatype,
+        RdfTerm::Li => Role::Forbidden,
+        RdfTerm::Type => Role::Type,
+        RdfTerm::AboutEach => Role::Forbidden,
+        RdfTerm::AboutEachPrefix => Role::Forbidden,
+        RdfTerm::BagId => Role::BagId,
+        RdfTerm::Other => Role::Property,
     }
-    let n = rdf.len();
-    if !copy::equal(rdf, &space[0..n]) {
-        return Role::Property;
-    }
-    local_role(&space[n..], local)
-}
-
-// The same where the namespace, if it is that, ends in `local`.
-fn role_across(space: &[u8], local: &[u8], rdf: &[u8]) -> Role
-    requires { ⌜ (now rdf ≡ rdfSpace) × (length (now space) ≤ length (now rdf)) ⌝ }
-    ensures { λ r. ⌜ roleIs r ≡ roleAmong rdfRoles (now (space .entry) ++ now (local .entry)) ⌝ }
-{
-    let m = space.len();
-    let more = rdf.len() - m;
-    if !copy::begins(local, &rdf[m..]) {
-        return Role::Property;
-    }
-    if !copy::equal(space, &rdf[0..m]) {
-        return Role::Property;
-    }
-    local_role(b"", &local[more..])
-}
-
-// The role of a name of the rdf namespace, from its local part, which may be in two: here those that name a node or a statement.
-fn local_role(front: &[u8], back: &[u8]) -> Role
-    ensures { λ r. ⌜ roleIs r ≡ localRole rdfRoles (now (front .entry) ++ now (back .entry)) ⌝ }
-{
-    if is_joined(front, back, b"ID") {
-        return Role::Id;
-    }
-    if is_joined(front, back, b"bagID") {
-        return Role::BagId;
-    }
-    if is_joined(front, back, b"nodeID") {
-        return Role::NodeId;
-    }
-    if is_joined(front, back, b"about") {
-        return Role::About;
-    }
-    object_role(front, back)
-}
-
-// Those that tell of an object.
-fn object_role(front: &[u8], back: &[u8]) -> Role
-    ensures { λ r. ⌜ roleIs r ≡ localRole (drop 4 rdfRoles) (now (front .entry) ++ now (back .entry)) ⌝ }
-{
-    if is_joined(front, back, b"resource") {
-        return Role::Resource;
-    }
-    if is_joined(front, back, b"datatype") {
-        return Role::Datatype;
-    }
-    if is_joined(front, back, b"parseType") {
-        return Role::ParseType;
-    }
-    if is_joined(front, back, b"type") {
-        return Role::Type;
-    }
-    reserved_role(front, back)
-}
-
-// Those that are reserved.
-fn reserved_role(front: &[u8], back: &[u8]) -> Role
-    ensures { λ r. ⌜ roleIs r ≡ localRole (drop 8 rdfRoles) (now (front .entry) ++ now (back .entry)) ⌝ }
-{
-    if is_joined(front, back, b"aboutEach") {
-        return Role::Forbidden;
-    }
-    if is_joined(front, back, b"aboutEachPrefix") {
-        return Role::Forbidden;
-    }
-    if is_joined(front, back, b"li") {
-        return Role::Forbidden;
-    }
-    if is_joined(front, back, b"RDF") {
-        return Role::Forbidden;
-    }
-    Role::Property
-}
-
-// Are the two joined this name?
-fn is_joined(front: &[u8], back: &[u8], name: &[u8]) -> bool
-    ensures { λ r. ⌜ r ≡ same (now (front .entry) ++ now (back .entry)) (now (name .entry)) ⌝ }
-{
-    names::same_joined(front, back, name, b"")
 }
 
 // 9 and 13 of a node's name.

@@ -1,9 +1,8 @@
 -- `roles::role_of` meets its contract, test by test.
-use mathlib.Core.Path.{sym, _∙_, refl}
+use mathlib.Core.Path.{sym, _∙_}
 use borrow.Author.Tests.{not-true, not-false}
-use Rattle.spec.specs.Rdf.{rdf}
 use Rattle.spec.specs.Bytes.{ascii}
-use Rattle.roles.specs.Role.{rdfSpace, by-expanded, is-lang, is-base, is-nothing}
+use Rattle.roles.specs.Role.{by-expanded, is-lang, is-base, is-nothing}
 use borrow.Author.Needs.{needs}
 use Rattle.roles.proofs.role_of.Statement.{statement}
 use Rattle.roles.proofs.role_of.Tie as tie
@@ -14,16 +13,15 @@ slice-aggregate-begins c = search needs
 begins-requires : tie.Need-begins-requires
 begins-requires c κs = search needs
 
-slice-aggregate-role-among : tie.Need-slice-aggregate-role-among
-slice-aggregate-role-among c = search needs
+rdf-term-requires : tie.Need-rdf-term-requires
+rdf-term-requires c κs = search needs
 
-role-among-requires : tie.Need-role-among-requires
-unfolding rdfSpace rdf ascii
-role-among-requires c κs = refl
+attribute-role-requires : tie.Need-attribute-role-requires
+attribute-role-requires c κs = search needs
 
 returns : tie.Need-returns
 unfolding ascii
-returns c = c .role-among .ensures ∙ by-expanded _ _ (sym (c .before .before .before .begins .ensures) ∙ not-true _ (c .before .before .if1 .taken))
+returns c = rw (c .attribute-role .ensures, c .before .rdf-term .ensures) (by-expanded _ _ (sym (c .before .before .before .begins .ensures) ∙ not-true _ (c .before .before .if1 .taken)))
 
 slice-aggregate-equal : tie.Need-slice-aggregate-equal
 slice-aggregate-equal c = search needs
@@ -55,8 +53,8 @@ role-of-spec =
     (tie.spec
     slice-aggregate-begins
     begins-requires
-    slice-aggregate-role-among
-    role-among-requires
+    rdf-term-requires
+    attribute-role-requires
     returns
     slice-aggregate-equal
     equal-requires
