@@ -12,7 +12,7 @@ use Rattle.spec.specs.Pyx.{Event}
 use Rattle.spec.specs.Document.{Doc}
 use Rattle.spec.specs.Opening.{Step}
 use Rattle.copy.specs.Copy.{Wrote}
-use Rattle.ids.specs.Ids.{idsOf, ValidIds}
+use Rattle.state_ids.specs.Ids.{idsOf, ValidIds}
 use Rattle.state.specs.declared.Registers.{Registers}
 use Rattle.state.specs.Meaning.{docOf}
 use Rattle.state.specs.Valid.{Valid}

@@ -1,10 +1,10 @@
 // What the handler of an event answers, and where an event stands.
 ghost use mathlib.Core.Path.{_≡_};
 ghost use Rattle.event.specs.Place.{placeAt, placeOf};
-use frames::Frame;
-use frames::Kind;
 use spec::Refusal;
 use state::Registers;
+use state_words::Frame;
+use state_words::Kind;
 
 // Of an accepted event: how many bytes its lines have, and the registers behind it.
 pub struct Done {

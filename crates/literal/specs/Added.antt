@@ -17,19 +17,19 @@ use Rattle.spec.specs.Document.{Frame as Element, changeValue}
 use Rattle.spec.specs.XmlLiteral.{takesXml}
 use Rattle.copy.specs.Copy.{part, wrote-part}
 use Rattle.writer.specs.Put.{Put, most, counted, put-wrote}
-use Rattle.frames.specs.Parts.{END, FRAME}
-use Rattle.frames.specs.declared.Kind.{Kind}
-use Rattle.frames.specs.declared.Kind.the-variants.{ParseTypeLiteralPropertyElt, ParseTypeOtherPropertyElt}
-use Rattle.frames.specs.Words.{pick}
+use Rattle.state_words.specs.Parts.{END, FRAME}
+use Rattle.state_words.specs.declared.Kind.{Kind}
+use Rattle.state_words.specs.declared.Kind.the-variants.{ParseTypeLiteralPropertyElt, ParseTypeOtherPropertyElt}
+use Rattle.state_words.specs.Words.{pick}
 use Rattle.state.specs.declared.Registers.{Registers}
 use Rattle.state.specs.Meaning.{at, startOf, elementsOf}
 use Rattle.state.specs.Valid.{Valid}
 use Rattle.state.specs.Held.{room}
-use Rattle.stack.specs.declared.Changed.{Changed}
-use Rattle.stack.specs.Calls.{topFrame, sameKind, Xmls, mayTail}
-use Rattle.stack.specs.Change.{Holds, toppedTo, top-frame}
-use Rattle.stack.specs.Laws.{by, xml-holds, topmost, top-deep}
-use Rattle.inside.specs.Calls.{heldIn, held-is}
+use Rattle.state_stack.specs.declared.Changed.{Changed}
+use Rattle.state_stack.specs.Calls.{topFrame, sameKind, Xmls, mayTail}
+use Rattle.state_stack.specs.Change.{Holds, toppedTo, top-frame}
+use Rattle.state_stack.specs.Laws.{by, xml-holds, topmost, top-deep}
+use Rattle.state_inner.specs.Calls.{heldIn, held-is}
 use Rattle.event.specs.declared.Done.{Done}
 use Rattle.event.specs.declared.Outcome.{Outcome}
 use Rattle.event.specs.declared.Outcome.the-variants.{Stop, Did}

@@ -10,7 +10,7 @@ use Rattle.spec.specs.Pyx.{Attribute, attribute}
 use Rattle.spec.specs.XmlLiteral.{attributeXml, attributesXml, startTagXml}
 use Rattle.writer.specs.Put.{Put, most, puts, put-as, put-none}
 use Rattle.xmltext.specs.Tags.{openXml, closeXml, start-tag, attributes-more}
-use Rattle.names.specs.Tag.{nameAt, valueAt, attributesOf, attributesFrom, last-attribute}
+use Rattle.start_names.specs.Tag.{nameAt, valueAt, attributesOf, attributesFrom, last-attribute}
 
 -- the loop of `attributes`: the first j stand from `at` up to `to`
 pub record Copying (d x e sp : List ℕ) (k at to j : ℕ) : Type 0 where

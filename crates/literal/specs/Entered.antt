@@ -16,19 +16,19 @@ use Rattle.spec.specs.Namespaces.{Binding, declared}
 use Rattle.spec.specs.Document.{Frame as Element, xmlElement, bindingBytes, kindBytes, frameBytes, placeIn, xml}
 use Rattle.spec.specs.XmlLiteral.{startTagXml}
 use Rattle.copy.specs.Copy.{part, Put, Wrote, put-fits, wrote-part, wrote-same}
-use Rattle.frames.specs.Kept.{kept-then, kept-less, kept-before, kept-behind}
+use Rattle.state_words.specs.Kept.{kept-then, kept-less, kept-before, kept-behind}
 use Rattle.state.specs.declared.Registers.{Registers}
 use Rattle.state.specs.Meaning.{startOf, elementsOf}
 use Rattle.state.specs.Valid.{Valid}
 use Rattle.state.specs.Held.{room}
-use Rattle.stack.specs.declared.Changed.{Changed}
-use Rattle.stack.specs.Change.{Holds, toppedTo}
-use Rattle.inside.specs.Calls.{Opens, mayOpen, held-is}
-use Rattle.inside.specs.Laws.{Written, open-holds}
-use Rattle.names.specs.Tag.{attributesOf}
-use Rattle.element.specs.declared.Next.{Next}
-use Rattle.element.specs.Sizes.{length-part-of}
-use Rattle.element.specs.Rows.{Fits, Entered}
+use Rattle.state_stack.specs.declared.Changed.{Changed}
+use Rattle.state_stack.specs.Change.{Holds, toppedTo}
+use Rattle.state_inner.specs.Calls.{Opens, mayOpen, held-is}
+use Rattle.state_inner.specs.Laws.{Written, open-holds}
+use Rattle.start_names.specs.Tag.{attributesOf}
+use Rattle.start_element.specs.declared.Next.{Next}
+use Rattle.start_element.specs.Sizes.{length-part-of}
+use Rattle.start_element.specs.Rows.{Fits, Entered}
 use Rattle.event.specs.declared.Done.{Done}
 use Rattle.event.specs.declared.Outcome.{Outcome}
 use Rattle.event.specs.declared.Outcome.the-variants.{Stop, Did}

@@ -13,15 +13,15 @@ use Rattle.spec.specs.XmlLiteral.{textXml, endTagXml, takesXml, addXml}
 use Rattle.spec.specs.EndTag.{closeElement, endKind}
 use Rattle.spec.specs.RdfXml.{onEvent, onText}
 use Rattle.copy.specs.Copy.{part}
-use Rattle.frames.specs.Words.{rowAt, load-row}
+use Rattle.state_words.specs.Words.{rowAt, load-row}
 use Rattle.state.specs.declared.Registers.{Registers}
 use Rattle.state.specs.Meaning.{bindingsOf, framesOf, innerOf, innersOf, startOf, elementsOf, docOf}
 use Rattle.state.specs.Valid.{Valid}
-use Rattle.stack.specs.declared.Changed.{Changed}
-use Rattle.stack.specs.declared.Found.{Found}
-use Rattle.stack.specs.Change.{Holds, inside-element}
-use Rattle.inside.specs.Calls.{Closes, nameIn}
-use Rattle.inside.specs.Laws.{close-holds}
+use Rattle.state_stack.specs.declared.Changed.{Changed}
+use Rattle.state_stack.specs.declared.Found.{Found}
+use Rattle.state_stack.specs.Change.{Holds, inside-element}
+use Rattle.state_inner.specs.Calls.{Closes, nameIn}
+use Rattle.state_inner.specs.Laws.{close-holds}
 use Rattle.event.specs.declared.Outcome.the-variants.{Stop}
 use Rattle.literal.specs.Quiet.{Quietly, Quiet, quiet-refused}
 

@@ -26,7 +26,7 @@ use Rattle.state.specs.Meaning.{bindingsOf, elementsOf, docOf}
 use Rattle.state.specs.Valid.{Valid}
 use Rattle.state.specs.Held.{depth}
 use Rattle.state.specs.Live.{in-scope}
-use Rattle.names.specs.Tag.{attributesFrom, Split, Splits}
+use Rattle.start_names.specs.Tag.{attributesFrom, Split, Splits}
 use Rattle.event.specs.declared.Outcome.the-variants.{Stop as Refused}
 use Rattle.literal.specs.declared.Judged.{Judged}
 use Rattle.literal.specs.declared.Judged.the-variants.{Stop, Go}

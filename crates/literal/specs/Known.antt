@@ -12,12 +12,12 @@ use Rattle.spec.specs.Limits as L
 use Rattle.spec.specs.Bytes.{Bytes, isEmpty, isSome}
 use Rattle.spec.specs.Namespaces.{Binding, declared, isDeclaration, nameOf, namespace, isKnown}
 use Rattle.state.specs.Meaning.{bindingsOf}
-use Rattle.stack.specs.Laws.{by}
-use Rattle.names.specs.declared.Found.{Found}
-use Rattle.names.specs.declared.Found.the-variants.{Unknown}
-use Rattle.names.specs.Tag.{nameAt, colonAt, attributeAt, attributesFrom, attributesOf, attributes-all, attributes-more, attributes-end, frontOf, Split, Splits}
-use Rattle.names.specs.Declarations.{is-empty, not-empty}
-use Rattle.names.specs.Found.{foundBytes, scope}
+use Rattle.state_stack.specs.Laws.{by}
+use Rattle.start_names.specs.declared.Found.{Found}
+use Rattle.start_names.specs.declared.Found.the-variants.{Unknown}
+use Rattle.start_names.specs.Tag.{nameAt, colonAt, attributeAt, attributesFrom, attributesOf, attributes-all, attributes-more, attributes-end, frontOf, Split, Splits}
+use Rattle.start_names.specs.Declarations.{is-empty, not-empty}
+use Rattle.start_names.specs.Found.{foundBytes, scope}
 use Rattle.literal.specs.Judged.{counts, allKnown, length-bindings, length-attributes}
 
 -- is a prefix known, or empty?

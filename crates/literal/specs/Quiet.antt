@@ -21,9 +21,9 @@ use Rattle.copy.specs.Copy.{wrote-none}
 use Rattle.state.specs.declared.Registers.{Registers}
 use Rattle.state.specs.Meaning.{startOf, elementsOf, docOf}
 use Rattle.state.specs.Valid.{Valid}
-use Rattle.stack.specs.Change.{Holds, holds-doc}
-use Rattle.inside.specs.Calls.{heldIn}
-use Rattle.inside.specs.Laws.{held-read}
+use Rattle.state_stack.specs.Change.{Holds, holds-doc}
+use Rattle.state_inner.specs.Calls.{heldIn}
+use Rattle.state_inner.specs.Laws.{held-read}
 use Rattle.event.specs.declared.Outcome.{Outcome}
 use Rattle.event.specs.declared.Outcome.the-variants.{Stop, Did}
 use Rattle.event.specs.Result.{handled-by, refused-on, over-limit, all-fits, fits-held, IdsFit, stopped, done, Handles, Asks}

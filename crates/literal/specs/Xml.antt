@@ -10,17 +10,17 @@ use Rattle.spec.specs.Bytes.{Bytes, if_then_else_, total}
 use Rattle.spec.specs.NTriples.{Subject}
 use Rattle.spec.specs.Document.{default, collection, literal, other, Kind as What, rdfRDF, nodeElement, propertyElement, xmlElement, Frame as Element, withKind, onValue, isXmlElement, changeValue, valueBytes, kindBytes, frameBytes}
 use Rattle.spec.specs.XmlLiteral.{takesXml}
-use Rattle.frames.specs.declared.Kind.{Kind}
-use Rattle.frames.specs.declared.Kind.the-variants.{Rdf, NodeElt, PropertyElt, ParseTypeCollectionPropertyElt, ParseTypeLiteralPropertyElt, ParseTypeOtherPropertyElt}
-use Rattle.frames.specs.declared.Frame.{Frame}
-use Rattle.frames.specs.Words.{frameAt, rowAt}
+use Rattle.state_words.specs.declared.Kind.{Kind}
+use Rattle.state_words.specs.declared.Kind.the-variants.{Rdf, NodeElt, PropertyElt, ParseTypeCollectionPropertyElt, ParseTypeLiteralPropertyElt, ParseTypeOtherPropertyElt}
+use Rattle.state_words.specs.declared.Frame.{Frame}
+use Rattle.state_words.specs.Words.{frameAt, rowAt}
 use Rattle.state.specs.declared.Registers.{Registers}
 use Rattle.state.specs.Meaning.{whatOf, elementOf, framesOf, innerOf, innersOf, subjectBelow, elementsOf}
 use Rattle.state.specs.Valid.{Valid}
-use Rattle.stack.specs.Calls.{topFrame, sameKind}
-use Rattle.stack.specs.Change.{top-element}
-use Rattle.stack.specs.Top.{what-outside}
-use Rattle.stack.specs.Laws.{topmost}
+use Rattle.state_stack.specs.Calls.{topFrame, sameKind}
+use Rattle.state_stack.specs.Change.{top-element}
+use Rattle.state_stack.specs.Top.{what-outside}
+use Rattle.state_stack.specs.Laws.{topmost}
 
 -- ---- which property keeps XML text
 

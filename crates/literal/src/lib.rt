@@ -11,25 +11,25 @@ ghost use Rattle.spec.specs.Document.{placeIn, xml};
 ghost use Rattle.spec.specs.XmlLiteral.{attributesXml, startTagXml};
 ghost use Rattle.writer.specs.Put.{Put};
 ghost use Rattle.state.specs.Meaning.{elementsOf};
-ghost use Rattle.inside.specs.Calls.{heldIn};
-ghost use Rattle.names.specs.Tag.{attributesOf, Split, Splits};
-ghost use Rattle.names.specs.Found.{scope};
+ghost use Rattle.state_inner.specs.Calls.{heldIn};
+ghost use Rattle.start_names.specs.Tag.{attributesOf, Split, Splits};
+ghost use Rattle.start_names.specs.Found.{scope};
 ghost use Rattle.event.specs.Result.{Asks};
 ghost use Rattle.literal.specs.Quiet.{Quietly};
 ghost use Rattle.literal.specs.Added.{Adds, keptOf};
 ghost use Rattle.literal.specs.Judged.{Tag, Judges, counts, allKnown};
 ghost use Rattle.literal.specs.Known.{knownPrefix, knownAt};
 ghost use Rattle.literal.specs.Entered.{Ready, Room, Enters};
-use element::Next;
 use event::Done;
 use event::Outcome;
-use frames::Frame;
-use frames::Kind;
-use frames::Row;
-use names::Class;
-use names::Found;
 use spec::Refusal;
+use start_element::Next;
+use start_names::Class;
+use start_names::Found;
 use state::Registers;
+use state_words::Frame;
+use state_words::Kind;
+use state_words::Row;
 
 // What a start tag comes to, before anything changes.
 enum Judged {
@@ -67,10 +67,10 @@ pub fn end_inside(
     requires { ⌜ Asks r (now frames) (now bindings) (now inners) (now work) × (mostHeldBytes ≤ length (now area)) × (0 < r .counts .inner) ⌝ }
     ensures { λ o. ⌜ Quietly (closing (now (name .entry))) r o (now (frames .entry)) (now (bindings .entry)) (now (inners .entry)) (now (work .entry)) (now (frames .exit)) (now (bindings .entry)) (now (inners .entry)) (now (work .exit)) ⌝ }
 {
-    let c = inside::close_inside(r, inners);
+    let c = state_inner::close_inside(r, inners);
     let behind = c.registers;
-    let own = inside::name(r, frames, inners);
-    if !copy::equal(name, names::piece(work, own.at, own.len)) {
+    let own = state_inner::name(r, frames, inners);
+    if !copy::equal(name, start_names::piece(work, own.at, own.len)) {
         return Outcome::Stop(Refusal::NotWellFormed);
     }
     let n = xmltext::end_tag(area, 0, true, name);
@@ -95,7 +95,7 @@ pub fn start_inside(
     requires { ⌜ Asks r (now frames) (now bindings) (now inners) (now work) × (mostHeldBytes ≤ length (now area)) × (placeIn (elementsOf r (now frames) (now bindings) (now inners) (now work)) ≡ xml) × Tag (now scratch) (now spans) m c k ⌝ }
     ensures { λ o. ⌜ Quietly (opening (take m (now (scratch .entry))) (attributesOf (now (scratch .entry)) (now (spans .entry)) k)) r o (now (frames .entry)) (now (bindings .entry)) (now (inners .entry)) (now (work .entry)) (now (frames .exit)) (now (bindings .exit)) (now (inners .exit)) (now (work .exit)) ⌝ }
 {
-    let name = names::piece(scratch, 0, m);
+    let name = start_names::piece(scratch, 0, m);
     let judged = judge(r, bindings, work, scratch, spans, name, c, k);
     match judged {
         Judged::Stop(n) => Outcome::Stop(n),
@@ -131,7 +131,7 @@ fn add(
     if !has_room(r, size, more) {
         return Outcome::Stop(Refusal::OverLimit);
     }
-    let c = stack::add_xml(r, frames, work, &area[0..size]);
+    let c = state_stack::add_xml(r, frames, work, &area[0..size]);
     let behind = c.registers;
     Outcome::Did(Done {
         written: 0,
@@ -143,9 +143,9 @@ fn add(
 fn kept(r: Registers, frames: &[u32], n: usize) -> usize
     ensures { λ m. ⌜ m ≡ keptOf r (now (frames .entry)) n ⌝ }
 {
-    let f = stack::top(r, frames);
+    let f = state_stack::top(r, frames);
     let kind = f.kind;
-    if stack::same_kind(kind, Kind::ParseTypeLiteralPropertyElt) {
+    if state_stack::same_kind(kind, Kind::ParseTypeLiteralPropertyElt) {
         n
     } else {
         0
@@ -156,7 +156,7 @@ fn kept(r: Registers, frames: &[u32], n: usize) -> usize
 fn has_room(r: Registers, size: usize, more: usize) -> bool
     ensures { λ b. ⌜ b ≡ leb (heldIn r + size + more) mostHeldBytes ⌝ }
 {
-    let held = inside::held(r);
+    let held = state_inner::held(r);
     if held > Registers::MOST_HELD {
         return false;
     }
@@ -182,16 +182,16 @@ fn judge(
     ensures { λ j. ⌜ Judges r (now (bindings .entry)) (now (work .entry)) (now (name .entry)) (attributesOf (now (scratch .entry)) (now (spans .entry)) k) j ⌝ }
 {
     let n = r.counts.bindings;
-    if !names::all_legal(scratch, spans, k) {
+    if !start_names::all_legal(scratch, spans, k) {
         return Judged::Stop(Refusal::NotWellFormed);
     }
-    if names::repeated_written(scratch, spans, k) {
+    if start_names::repeated_written(scratch, spans, k) {
         return Judged::Stop(Refusal::NotWellFormed);
     }
     if !counts_fit(r, scratch, spans, k) {
         return Judged::Stop(Refusal::OverLimit);
     }
-    let prefix = names::front_of(name, c);
+    let prefix = start_names::front_of(name, c);
     if !known(prefix, scratch, spans, k, work, bindings, n) {
         return Judged::Stop(Refusal::NoNamespace);
     }
@@ -217,7 +217,7 @@ fn counts_fit(r: Registers, scratch: &[u8], spans: &[u32], k: usize) -> bool
     if r.counts.bindings > Row::MOST_BINDINGS {
         return false;
     }
-    names::count_declared(scratch, spans, k) <= Row::MOST_BINDINGS - r.counts.bindings
+    start_names::count_declared(scratch, spans, k) <= Row::MOST_BINDINGS - r.counts.bindings
 }
 
 // Are the prefixes of all attributes known?
@@ -254,10 +254,10 @@ fn known_at(
 ) -> bool
     ensures { λ b. ⌜ b ≡ knownAt (scope (now (scratch .entry)) (now (spans .entry)) k (now (work .entry)) (now (bindings .entry)) n) (now (scratch .entry)) (now (spans .entry)) j ⌝ }
 {
-    if names::is_declaration(names::name_of(scratch, spans, j)) {
+    if start_names::is_declaration(start_names::name_of(scratch, spans, j)) {
         return true;
     }
-    let prefix = names::prefix_of(scratch, spans, j);
+    let prefix = start_names::prefix_of(scratch, spans, j);
     known(prefix, scratch, spans, k, work, bindings, n)
 }
 
@@ -276,7 +276,7 @@ fn known(
     if prefix.len() == 0 {
         return true;
     }
-    let found = names::lookup(prefix, scratch, spans, k, work, bindings, n);
+    let found = start_names::lookup(prefix, scratch, spans, k, work, bindings, n);
     match found {
         Found::Unknown => false,
         Found::Xml => true,
@@ -302,7 +302,7 @@ fn copy_element(
     ensures { λ o. ⌜ Quietly (opening (now (name .entry)) (attributesOf (now (scratch .entry)) (now (spans .entry)) k)) r o (now (frames .entry)) (now (bindings .entry)) (now (inners .entry)) (now (work .entry)) (now (frames .exit)) (now (bindings .exit)) (now (inners .exit)) (now (work .exit)) ⌝ }
 {
     let size = start_tag(area, scratch, spans, name, k);
-    let more = name.len() + element::declared_size(scratch, spans, k);
+    let more = name.len() + start_element::declared_size(scratch, spans, k);
     let added = add(r, frames, work, area, size, more);
     match added {
         Outcome::Stop(n) => Outcome::Stop(n),
@@ -348,8 +348,8 @@ fn enter(
         at: at + name.len(),
         row: r.counts.bindings,
     };
-    let next = element::bind_all(work, bindings, from, scratch, spans, k);
-    let c = inside::open_inside(r, inners, at, name.len(), next.row);
+    let next = start_element::bind_all(work, bindings, from, scratch, spans, k);
+    let c = state_inner::open_inside(r, inners, at, name.len(), next.row);
     c.registers
 }
 
@@ -369,8 +369,8 @@ fn attributes(area: &mut [u8], at: usize, scratch: &[u8], spans: &[u32], k: usiz
     let mut to = at;
     let mut j = 0;
     while j < k {
-        let name = names::name_of(scratch, spans, j);
-        let value = names::value_of(scratch, spans, j);
+        let name = start_names::name_of(scratch, spans, j);
+        let value = start_names::value_of(scratch, spans, j);
         to = xmltext::attribute(area, to, true, name, value);
         j += 1;
     }

@@ -10,16 +10,16 @@ use Rattle.spec.specs.Numbers.{number}
 use Rattle.spec.specs.declared.Refusal.{Refusal}
 use Rattle.spec.specs.declared.Refusal.the-variants.{Incomplete}
 use Rattle.copy.specs.Copy.{part}
-use Rattle.frames.specs.Parts.{TABLE}
-use Rattle.frames.specs.Words.{pick}
+use Rattle.state_words.specs.Parts.{TABLE}
+use Rattle.state_words.specs.Words.{pick}
 use Rattle.state.specs.declared.Registers.{Registers}
 use Rattle.state.specs.Live.{startedWith}
 use Rattle.event.specs.Progress.{Lent, docIn}
 use Rattle.reader.specs.Asked.{Asks}
-use Rattle.report.specs.declared.fed.Pause.{Pause}
-use Rattle.report.specs.declared.fed.Pause.the-variants.{Full, Stop}
-use Rattle.report.specs.declared.fed.Fed.{Fed}
-use Rattle.report.specs.Meaning.{overIn}
+use Rattle.reader_contract.specs.declared.fed.Pause.{Pause}
+use Rattle.reader_contract.specs.declared.fed.Pause.the-variants.{Full, Stop}
+use Rattle.reader_contract.specs.declared.fed.Fed.{Fed}
+use Rattle.reader_contract.specs.Meaning.{overIn}
 use Rattle.streams.specs.declared.Got.{Got}
 use Rattle.streams.specs.declared.Got.the-variants as got
 use Rattle.streams.specs.declared.Printed.{Printed}

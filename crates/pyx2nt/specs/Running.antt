@@ -7,7 +7,7 @@ use native.Mathlib.Omega.{arith}
 use lib.ListN.{length, replicate, length-replicate}
 use Rattle.spec.specs.Limits.{idStoreBytes, mostIds}
 use Rattle.copy.specs.Copy.{part}
-use Rattle.ids.specs.Ids.{idsOf, endToEnd, ValidIds}
+use Rattle.state_ids.specs.Ids.{idsOf, endToEnd, ValidIds}
 use Rattle.state.specs.Live.{started, started-means}
 use Rattle.event.specs.Progress.{Lent, lent, docIn}
 use Rattle.reader.specs.Asked.{Asks}
@@ -19,7 +19,7 @@ use Rattle.pyx2nt.specs.declared.How.{How}
 use Rattle.pyx2nt.specs.declared.How.the-variants.{Done, Unwritten, Unread}
 use Rattle.pyx2nt.specs.Way.{Spot, start, Leads, leads-here, leads-then, leads-end, leads-cut, leads-unfinished}
 use Rattle.pyx2nt.specs.Places.{firstPlace, spotAt, Within, Made, Stands, Lengths, ComesBy, Comes, Cases, Turns}
-use Rattle.frames.specs.Parts.{TABLE}
+use Rattle.state_words.specs.Parts.{TABLE}
 
 -- the turns that are left bound the events and bytes to come
 pub record Running (p : Place) (turns : ℕ) (l : Lent) (input : List ℕ) : Type 0 where

@@ -19,17 +19,17 @@ use Rattle.spec.specs.Calls.{isOpen, finished, callFinish}
 use Rattle.spec.specs.Calls as calls
 use Rattle.theorems.specs.Calls.{number-injective}
 use Rattle.copy.specs.Copy.{part, length-part, part-add}
-use Rattle.frames.specs.Words.{pick}
+use Rattle.state_words.specs.Words.{pick}
 use Rattle.state.specs.declared.Registers.{Registers}
 use Rattle.event.specs.Progress.{Lent, docIn}
 use Rattle.reader.specs.Asked.{Asks}
-use Rattle.report.specs.declared.fed.Pause.{Pause}
-use Rattle.report.specs.declared.fed.Pause.the-variants.{Full, Stop}
-use Rattle.report.specs.declared.fed.Fed.{Fed}
+use Rattle.reader_contract.specs.declared.fed.Pause.{Pause}
+use Rattle.reader_contract.specs.declared.fed.Pause.the-variants.{Full, Stop}
+use Rattle.reader_contract.specs.declared.fed.Fed.{Fed}
 use Rattle.reader.specs.Goes.{Goes}
 use Rattle.reader.specs.Waiting.{waits-short}
-use Rattle.report.specs.declared.State.{State}
-use Rattle.report.specs.Meaning.{docFrom, overIn, over-read}
+use Rattle.reader_contract.specs.declared.State.{State}
+use Rattle.reader_contract.specs.Meaning.{docFrom, overIn, over-read}
 use Rattle.streams.specs.declared.Got.{Got}
 use Rattle.streams.specs.declared.Got.the-variants as got
 use Rattle.streams.specs.declared.Printed.{Printed}

@@ -18,7 +18,7 @@ use Rattle.spec.specs.Pyx2nt.{lastLine, pyx2nt}
 use Rattle.state.specs.declared.Registers.{Registers}
 use Rattle.event.specs.Progress.{Lent, docIn}
 use Rattle.reader.specs.Core.{firstAccepted}
-use Rattle.report.specs.declared.fed.Fed.{Fed}
+use Rattle.reader_contract.specs.declared.fed.Fed.{Fed}
 use Rattle.reader.specs.Goes.{Goes}
 use Rattle.reader.specs.Prints.{Prints, reads, refused, over, goes-on, prints-pyx2nt}
 

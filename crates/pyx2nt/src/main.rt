@@ -10,14 +10,14 @@ ghost use Rattle.reader.specs.Asked.{Roomy, Areas};
 ghost use Rattle.pyx2nt.specs.Way.{start, Ended};
 ghost use Rattle.pyx2nt.specs.Places.{firstPlace, Sums, behindOf, overAt, withMore, amount, resumedWith, finishing, Moves, Readable, Reads, Paused, Follows};
 ghost use Rattle.pyx2nt.specs.Places.{Counted, GoesOn, Stands, Turns, Made, Comes};
-use frames::Frame;
-use frames::Row;
-use ids::IdTable;
 use reader::stream::Taken;
-use report::fed::Fed;
-use report::fed::Pause;
+use reader_contract::fed::Fed;
+use reader_contract::fed::Pause;
 use spec::Refusal;
 use state::Registers;
+use state_ids::IdTable;
+use state_words::Frame;
+use state_words::Row;
 use streams::Got;
 use streams::Printed;
 
@@ -301,7 +301,7 @@ fn follow(place: Place, pause: Pause, input: &mut [u8]) -> Next
     match pause {
         Pause::Full => Next::On(place),
         Pause::Stop(why) => {
-            let number = report::number_of(why);
+            let number = reader_contract::number_of(why);
             if number != 1 {
                 return place.over(How::Done(number));
             }
@@ -317,10 +317,10 @@ fn follow(place: Place, pause: Pause, input: &mut [u8]) -> Next
 fn finish(registers: Registers) -> u8
     ensures { λ n. ⌜ n ≡ finishing registers ⌝ }
 {
-    if report::may_finish(registers) {
+    if reader_contract::may_finish(registers) {
         return 0;
     }
-    report::number_of(Refusal::NotWellFormed)
+    reader_contract::number_of(Refusal::NotWellFormed)
 }
 
 // A block behind the rest.

@@ -19,8 +19,8 @@ use Rattle.spec.specs.RdfXml.{onEvent}
 use Rattle.pyx.specs.declared.Event.{Event}
 use Rattle.pyx.specs.declared.Event.the-variants.{Malformed, NoScratch, Instruction, Text, Closing, Opening, Crowded}
 use Rattle.pyx.specs.Decode.{unread, Decodes}
-use Rattle.names.specs.Tag.{attributesOf}
-use Rattle.ids.specs.Ids.{idsOf}
+use Rattle.start_names.specs.Tag.{attributesOf}
+use Rattle.state_ids.specs.Ids.{idsOf}
 use Rattle.state.specs.declared.Registers.{Registers}
 use Rattle.state.specs.Meaning.{elementsOf, docOf}
 use Rattle.event.specs.declared.Outcome.{Outcome}
@@ -30,8 +30,8 @@ use Rattle.event.specs.Result.{parsed, Handles}
 use Rattle.event.specs.Progress.{Lent, lent, docIn, Progresses, HandlesAll, stopped}
 use Rattle.literal.specs.Quiet.{Quiet, Quietly}
 use Rattle.text.specs.Blank.{Unchanged}
-use Rattle.crowded.specs.Tie.{colon-tells, splits}
-use Rattle.crowded.specs.Crowd.{Crowd, Refuses, crowd, refused-call}
+use Rattle.start_form.specs.Tie.{colon-tells, splits}
+use Rattle.start_form.specs.Crowd.{Crowd, Refuses, crowd, refused-call}
 use Rattle.reader.specs.Asked.{Asks, Roomy, Tagged, handler-asks}
 use Rattle.reader.specs.Dispatch.{withIds, without-ids, decoded-malformed, decoded-instruction, decoded-text, decoded-closing, decoded-opening, never-unread}
 

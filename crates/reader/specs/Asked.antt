@@ -9,7 +9,7 @@ use Rattle.spec.specs.Limits.{mostHeldBytes}
 use Rattle.state.specs.declared.Registers.{Registers}
 use Rattle.event.specs.Result as handler
 use Rattle.event.specs.Progress.{Lent, Lawful}
-use Rattle.opening.specs.Form.{Decoded}
+use Rattle.start_form.specs.Form.{Decoded}
 
 -- the state of an open document
 pub record Asks (r : Registers) (count used : ℕ) (l : Lent) : Type 0 where

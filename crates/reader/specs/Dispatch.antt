@@ -16,8 +16,8 @@ use Rattle.spec.specs.Opening.{Step}
 use Rattle.pyx.specs.declared.Event.{Event}
 use Rattle.pyx.specs.declared.Event.the-variants.{Malformed, NoScratch, Instruction, Text, Closing, Opening, Crowded}
 use Rattle.pyx.specs.Decode.{unread, noScratch, Decodes, Says, Opened, Over}
-use Rattle.names.specs.Tag.{attributesOf}
-use Rattle.ids.specs.Ids.{idsOf, ValidIds, length-ids, total-ids}
+use Rattle.start_names.specs.Tag.{attributesOf}
+use Rattle.state_ids.specs.Ids.{idsOf, ValidIds, length-ids, total-ids}
 use Rattle.state.specs.declared.Registers.{Registers}
 use Rattle.event.specs.declared.Outcome.{Outcome}
 use Rattle.event.specs.declared.Outcome.the-variants as outcome
@@ -26,7 +26,7 @@ use Rattle.event.specs.declared.Progress.{Progress}
 use Rattle.event.specs.declared.Progress.the-variants.{Stop, Did}
 use Rattle.event.specs.Result.{handled, parsed, IdsFit, Handles}
 use Rattle.event.specs.Progress.{Lent, lent, docIn, Progresses, HandlesAll, stopped, without-stop, without-did}
-use Rattle.crowded.specs.Tie.{attributes-same}
+use Rattle.start_form.specs.Tie.{attributes-same}
 
 -- ---- an event that enters no rdf:ID
 

@@ -21,10 +21,10 @@ use Rattle.reader.specs.Asked.{Asks, Roomy, Areas}
 use Rattle.reader.specs.declared.stream.Taken.{Taken}
 use Rattle.reader.specs.declared.stream.Taken.the-variants as taken
 use Rattle.reader.specs.Core.{firstAccepted, Accepts, Takes}
-use Rattle.report.specs.declared.fed.Pause.{Pause}
-use Rattle.report.specs.declared.fed.Pause.the-variants.{Full, Stop}
-use Rattle.report.specs.declared.fed.Fed.{Fed}
-use Rattle.report.specs.Fed.{nothing, further, Sums, stopped}
+use Rattle.reader_contract.specs.declared.fed.Pause.{Pause}
+use Rattle.reader_contract.specs.declared.fed.Pause.the-variants.{Full, Stop}
+use Rattle.reader_contract.specs.declared.fed.Fed.{Fed}
+use Rattle.reader_contract.specs.Fed.{nothing, further, Sums, stopped}
 
 -- k events from the front of s, one behind the other, each done within its room: n bytes of s, output o, from the document d to d′
 pub data Does (last : Bool) (s : Bytes) (d : Doc) : ℕ → ℕ → Bytes → Doc → Type 0 where

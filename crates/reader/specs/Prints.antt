@@ -27,8 +27,8 @@ use Rattle.copy.specs.Copy.{wrote-front}
 use Rattle.state.specs.declared.Registers.{Registers}
 use Rattle.event.specs.Progress.{Lent, docIn}
 use Rattle.reader.specs.Core.{firstAccepted}
-use Rattle.report.specs.declared.fed.Pause.the-variants.{Stop}
-use Rattle.report.specs.declared.fed.Fed.{Fed}
+use Rattle.reader_contract.specs.declared.fed.Pause.the-variants.{Stop}
+use Rattle.reader_contract.specs.declared.fed.Fed.{Fed}
 use Rattle.reader.specs.Goes.{Does, none, one, Goes}
 
 -- a program's way from event k on, over a rest at hand and pieces to come; the last is all that it prints

@@ -21,13 +21,13 @@ use Rattle.spec.specs.RdfXml.{finish}
 use Rattle.spec.specs.Calls.{isOpen, markClosed, mayStart, started, callStart, finished, callFinish}
 use Rattle.spec.proofs.Booleans.{and-left, and-right}
 use Rattle.copy.specs.Copy.{Put, part, put-fits, wrote-part, wrote-none}
-use Rattle.frames.specs.Words.{pick}
-use Rattle.report.specs.declared.State.{State}
-use Rattle.report.specs.declared.Answer.{Answer}
-use Rattle.report.specs.declared.Answer.the-variants.{Done, Refused}
-use Rattle.report.specs.declared.Report.{Report}
-use Rattle.report.specs.Meaning.{baseOf, lawfulState, meaningOf, closedState, marked, meaning-closed, means-unlawful, means-closed, means-open, overIn, over-read, Fresh, fresh-means}
-use Rattle.report.specs.Meets.{Starts, Finishes, lengthsRight, refusing, doing, meets-refused, meets-marked}
+use Rattle.state_words.specs.Words.{pick}
+use Rattle.reader_contract.specs.declared.State.{State}
+use Rattle.reader_contract.specs.declared.Answer.{Answer}
+use Rattle.reader_contract.specs.declared.Answer.the-variants.{Done, Refused}
+use Rattle.reader_contract.specs.declared.Report.{Report}
+use Rattle.reader_contract.specs.Meaning.{baseOf, lawfulState, meaningOf, closedState, marked, meaning-closed, means-unlawful, means-closed, means-open, overIn, over-read, Fresh, fresh-means}
+use Rattle.reader_contract.specs.Meets.{Starts, Finishes, lengthsRight, refusing, doing, meets-refused, meets-marked}
 
 -- an answer, in the definitions' words
 abbrev pub told : Answer → numbers.Answer (Unit {0})

@@ -12,12 +12,12 @@ use Rattle.spec.specs.declared.Refusal.the-variants.{BadState, Closed}
 use Rattle.spec.specs.Calls.{isOpen, stepped, callStep}
 use Rattle.event.specs.declared.Advance.{Advance}
 use Rattle.event.specs.Progress.{Lent, lent, docIn}
-use Rattle.report.specs.declared.State.{State}
-use Rattle.report.specs.declared.Report.{Report}
+use Rattle.reader_contract.specs.declared.State.{State}
+use Rattle.reader_contract.specs.declared.Report.{Report}
 use Rattle.reader.specs.declared.stream.Taken.{Taken}
 use Rattle.reader.specs.declared.stream.Taken.the-variants.{Stop, Did}
-use Rattle.report.specs.Meaning.{lentBy, lawfulState, docFrom, meaningOf, marked, means-unlawful, means-closed, means-open, facts-lawful}
-use Rattle.report.specs.Meets.{Steps, refusing, stateOf, accepting, meets-marked}
+use Rattle.reader_contract.specs.Meaning.{lentBy, lawfulState, docFrom, meaningOf, marked, means-unlawful, means-closed, means-open, facts-lawful}
+use Rattle.reader_contract.specs.Meets.{Steps, refusing, stateOf, accepting, meets-marked}
 use Rattle.reader.specs.Core.{firstAccepted, Accepts, Takes}
 
 -- ---- 3 and 4

@@ -3,9 +3,9 @@ ghost use Rattle.event.specs.Progress.{lent};
 ghost use Rattle.reader.specs.Asked.{Asks, Roomy, Areas};
 ghost use Rattle.reader.specs.Goes.{Goes};
 use crate::stream::Taken;
-use ids::IdTable;
-use report::fed::Fed;
+use reader_contract::fed::Fed;
 use state::Registers;
+use state_ids::IdTable;
 
 // Events from the front of the input, in an open document, as long as the output has room for one more. The last three are scratch.
 pub fn feed(

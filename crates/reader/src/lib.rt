@@ -1,7 +1,7 @@
 // The three calls. What is kept of a document between them goes in and comes back by value; the stores are lent.
 ghost use mathlib.Core.Path.{_≡_};
-ghost use Rattle.report.specs.Meaning.{lawfulState};
-ghost use Rattle.report.specs.Meets.{Starts, Steps, Finishes};
+ghost use Rattle.reader_contract.specs.Meaning.{lawfulState};
+ghost use Rattle.reader_contract.specs.Meets.{Starts, Steps, Finishes};
 ghost use Rattle.reader.specs.Starting.{Judges, sizeOfBase};
 
 pub mod feeding;
@@ -9,13 +9,13 @@ pub mod parser;
 pub mod stream;
 
 use crate::stream::Taken;
-use ids::IdTable;
-use report::Answer;
-use report::Report;
-use report::State;
+use reader_contract::Answer;
+use reader_contract::Report;
+use reader_contract::State;
 use resolve::Resolved;
 use spec::Refusal;
 use state::Registers;
+use state_ids::IdTable;
 
 // A document begins, with a start base or without. The ID store is emptied by a fresh table.
 pub fn start(state: State, based: bool, base: &[u8], work: &mut [u8], ids: &[u8]) -> Report
@@ -95,7 +95,7 @@ pub fn finish(state: State, work: &[u8], ids: &[u8]) -> Report
     if registers.flags.closed {
         return Report::refused(state, Refusal::Closed);
     }
-    if !report::may_finish(registers) {
+    if !reader_contract::may_finish(registers) {
         return Report::refused(state.closed(), Refusal::NotWellFormed);
     }
     Report::done(state.closed())
@@ -115,7 +115,7 @@ fn is_lawful(state: State, work: &[u8], ids: &[u8]) -> bool
     let table = state.ids;
     let at = table.at;
     let len = table.len;
-    ids::valid(table.count, table.used, &at, &len, ids.len())
+    state_ids::valid(table.count, table.used, &at, &len, ids.len())
 }
 
 // 3, 11 and 7, in this order.

@@ -6,7 +6,7 @@ ghost use lib.ListN.{length, take};
 ghost use Rattle.spec.specs.Limits.{mostHeldBytes};
 ghost use Rattle.spec.specs.Pyx.{opening, closing};
 ghost use Rattle.pyx.specs.Decode.{unread};
-ghost use Rattle.names.specs.Tag.{attributesOf};
+ghost use Rattle.start_names.specs.Tag.{attributesOf};
 ghost use Rattle.event.specs.Place.{placeAt};
 ghost use Rattle.event.specs.Result.{parsed, Handles};
 ghost use Rattle.event.specs.Result as handler;
@@ -18,10 +18,10 @@ use event::Advance;
 use event::Outcome;
 use event::Place;
 use event::Progress;
-use ids::IdTable;
 use pyx::Event;
 use spec::Refusal;
 use state::Registers;
+use state_ids::IdTable;
 
 // The bytes of an event, in an open document. The last three are scratch.
 pub fn parse_event(
@@ -98,7 +98,14 @@ pub fn parse_event(
             out,
         ),
         Event::Crowded => {
-            let why = crowded::refusal(registers, frames, bindings, work, event, scratch);
+            let why = start_form::crowded::refusal(
+                registers,
+                frames,
+                bindings,
+                work,
+                event,
+                scratch,
+            );
             Progress::Stop(why)
         }
     }
@@ -146,7 +153,7 @@ fn parse_start_event(
         );
         return with_ids(outcome, count, used);
     }
-    starting::start_outside(
+    start_tag::start_outside(
         r,
         count,
         used,
@@ -184,7 +191,7 @@ fn parse_end_event(
     if r.counts.inner > 0 {
         return literal::end_inside(r, frames, bindings, inners, work, area, name);
     }
-    closing::end_outside(r, frames, bindings, inners, work, name, out)
+    end_tag::end_outside(r, frames, bindings, inners, work, name, out)
 }
 
 // Does an event stand in Literal content?

@@ -5,13 +5,13 @@ ghost use Rattle.reader.specs.Asked.{Asks, Roomy, Areas};
 ghost use Rattle.reader.specs.Core.{Takes, takenAs};
 use event::Advance;
 use event::Progress;
-use ids::IdTable;
-use names::Class;
 use pyx::Event;
 use pyx::First;
-use reference::Area;
 use spec::Refusal;
+use start_names::Class;
+use start_references::reference::Area;
 use state::Registers;
+use state_ids::IdTable;
 
 // The first event of the input is refused, and nothing lent has changed; or it is done: how many bytes it has, and what is behind it.
 pub enum Taken {

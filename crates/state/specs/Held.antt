@@ -15,11 +15,11 @@ use Rattle.spec.specs.NTriples.{Subject, named, blank}
 use Rattle.spec.specs.Document.{Frame as Element, noObject, nodeObject, textObject, subjectBytes, objectBytes, valueBytes, kindBytes, bindingBytes, frameBytes, heldBytes}
 use Rattle.spec.proofs.Booleans.{and-left, and-right}
 use Rattle.copy.specs.Copy.{part, length-part}
-use Rattle.frames.specs.Parts.{NAME, BINDINGS, BASE, TAG, MAIN, ID, DATATYPE, TAIL, END, BASED, TAGGED, BLANK, IDENTIFIED, TYPED, PENDING}
-use Rattle.frames.specs.declared.Kind.{Kind}
-use Rattle.frames.specs.declared.Kind.the-variants.{Rdf, NodeElt, PropertyElt, ParseTypeCollectionPropertyElt, ParseTypeLiteralPropertyElt, ParseTypeOtherPropertyElt}
-use Rattle.frames.specs.declared.Frame.{Frame}
-use Rattle.frames.specs.Words.{pick, frameAt, rowAt}
+use Rattle.state_words.specs.Parts.{NAME, BINDINGS, BASE, TAG, MAIN, ID, DATATYPE, TAIL, END, BASED, TAGGED, BLANK, IDENTIFIED, TYPED, PENDING}
+use Rattle.state_words.specs.declared.Kind.{Kind}
+use Rattle.state_words.specs.declared.Kind.the-variants.{Rdf, NodeElt, PropertyElt, ParseTypeCollectionPropertyElt, ParseTypeLiteralPropertyElt, ParseTypeOtherPropertyElt}
+use Rattle.state_words.specs.declared.Frame.{Frame}
+use Rattle.state_words.specs.Words.{pick, frameAt, rowAt}
 use Rattle.state.specs.declared.Registers.{Registers}
 use Rattle.state.specs.Meaning.{at, has, count, first, span, optional, nodeOf, objectOf, childSize, childFrom, childOf, childrenOf, bindingOf, bindingsOf, subjectOf, propertyOf, whatOf, elementOf, subjectBelow, framesOf, innerOf, innersOf, startOf, elementsOf, docOf}
 use Rattle.state.specs.Valid.{emptyOr, partsOk, chained, childrenOk, kindOk, framesOk, innersOk, ceiling, Rising, Valid, rising, top-sound, rest-ok, top-inside, inners-rest}

@@ -15,9 +15,9 @@ use Rattle.spec.specs.Limits.{workStoreBytes}
 use Rattle.spec.specs.Document.{Frame as Element, fresh, inScope}
 use Rattle.spec.proofs.Booleans.{and-right}
 use Rattle.copy.specs.Copy.{part}
-use Rattle.frames.specs.Parts.{NAME, BINDINGS, BASE, END, TABLE}
-use Rattle.frames.specs.declared.Frame.{Frame}
-use Rattle.frames.specs.Words.{pick, frameAt, rowAt}
+use Rattle.state_words.specs.Parts.{NAME, BINDINGS, BASE, END, TABLE}
+use Rattle.state_words.specs.declared.Frame.{Frame}
+use Rattle.state_words.specs.Words.{pick, frameAt, rowAt}
 use Rattle.state.specs.declared.Registers.{Registers}
 use Rattle.state.specs.Meaning.{at, first, bindingsOf, elementOf, framesOf, innerOf, innersOf, startOf, elementsOf, docOf}
 use Rattle.state.specs.Valid.{chained, framesOk, innersOk, ceiling, Rising, Valid, rising, top-sound, rest-ok, top-inside, inners-rest}

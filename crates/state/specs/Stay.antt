@@ -11,13 +11,13 @@ use Rattle.spec.specs.Limits.{workStoreBytes}
 use Rattle.spec.proofs.Booleans.{and-left, and-right}
 use Rattle.spec.specs.Namespaces.{Binding}
 use Rattle.copy.specs.Copy.{part}
-use Rattle.frames.specs.Parts.{NAME, BINDINGS, BASE, TAG, MAIN, ID, DATATYPE, TAIL, END, FRAME}
-use Rattle.frames.specs.declared.Kind.{Kind}
-use Rattle.frames.specs.declared.Kind.the-variants.{Rdf, NodeElt, PropertyElt, ParseTypeCollectionPropertyElt, ParseTypeLiteralPropertyElt, ParseTypeOtherPropertyElt}
-use Rattle.frames.specs.declared.Frame.{Frame}
-use Rattle.frames.specs.declared.Row.{Row}
-use Rattle.frames.specs.Kept.{Kept, kept-less}
-use Rattle.frames.specs.Words.{frameAt, rowAt, frame-kept, row-kept}
+use Rattle.state_words.specs.Parts.{NAME, BINDINGS, BASE, TAG, MAIN, ID, DATATYPE, TAIL, END, FRAME}
+use Rattle.state_words.specs.declared.Kind.{Kind}
+use Rattle.state_words.specs.declared.Kind.the-variants.{Rdf, NodeElt, PropertyElt, ParseTypeCollectionPropertyElt, ParseTypeLiteralPropertyElt, ParseTypeOtherPropertyElt}
+use Rattle.state_words.specs.declared.Frame.{Frame}
+use Rattle.state_words.specs.declared.Row.{Row}
+use Rattle.state_words.specs.Kept.{Kept, kept-less}
+use Rattle.state_words.specs.Words.{frameAt, rowAt, frame-kept, row-kept}
 use Rattle.state.specs.Meaning.{at, count, first, span, childSize, childFrom, childOf, childrenOf, bindingOf, bindingsOf, subjectOf, propertyOf, whatOf, elementOf, subjectBelow, framesOf, innerOf, innersOf}
 use Rattle.state.specs.Valid.{chained, childrenOk, kindOk, nodeBelow, stands, framesOk, innersOk, ceiling, Rising, Sound, rising, top-sound, rest-ok, frames-on, top-inside, inners-rest, inners-on}
 

@@ -10,10 +10,10 @@ use borrow.Author.Tests.{eqb-true, leb-true, eq-eqb, ne-eqb, le-leb, lt-leb, not
 use Rattle.spec.proofs.Booleans.{and-left, and-right}
 use Rattle.spec.specs.Limits.{mostLabels, mostOpenElements, mostBindings, workStoreBytes}
 use Rattle.copy.specs.Copy.{getD-part}
-use Rattle.frames.specs.Parts.{NAME, BINDINGS, BASE, END, FRAME, TABLE}
-use Rattle.frames.specs.declared.Frame.{Frame}
-use Rattle.frames.specs.declared.Row.{Row}
-use Rattle.frames.specs.Words.{pick, frameAt, rowAt, loadFrame, loadRow, load-frame, load-row}
+use Rattle.state_words.specs.Parts.{NAME, BINDINGS, BASE, END, FRAME, TABLE}
+use Rattle.state_words.specs.declared.Frame.{Frame}
+use Rattle.state_words.specs.declared.Row.{Row}
+use Rattle.state_words.specs.Words.{pick, frameAt, rowAt, loadFrame, loadRow, load-frame, load-row}
 use Rattle.state.specs.declared.Registers.{Registers}
 use Rattle.state.specs.Meaning.{at, first, childSize, childFrom}
 use Rattle.state.specs.Valid.{rises, isNode, nodeBelow, chained, childrenOk, kindOk, stands, partsOk, elementOk, framesOk, ceiling, innersOk, countsOk, lengthsOk, validState, element-sound, rising}

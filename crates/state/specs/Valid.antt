@@ -8,12 +8,12 @@ use lib.ListN.{length, getD}
 use borrow.Author.Tests.{eqb-true, leb-true, eq-eqb, le-leb}
 use Rattle.spec.specs.Limits.{mostLabels, mostOpenElements, mostBindings, workStoreBytes}
 use Rattle.spec.proofs.Booleans.{and-left, and-right}
-use Rattle.frames.specs.Parts.{NAME, BINDINGS, BASE, TAG, MAIN, ID, DATATYPE, TAIL, END, BASED, TAGGED, IDENTIFIED, TYPED, PENDING, FRAME, TABLE}
-use Rattle.frames.specs.declared.Kind.{Kind}
-use Rattle.frames.specs.declared.Kind.the-variants.{Rdf, NodeElt, PropertyElt, ParseTypeCollectionPropertyElt, ParseTypeLiteralPropertyElt, ParseTypeOtherPropertyElt}
-use Rattle.frames.specs.declared.Frame.{Frame}
-use Rattle.frames.specs.declared.Row.{Row}
-use Rattle.frames.specs.Words.{pick, frameAt, rowAt}
+use Rattle.state_words.specs.Parts.{NAME, BINDINGS, BASE, TAG, MAIN, ID, DATATYPE, TAIL, END, BASED, TAGGED, IDENTIFIED, TYPED, PENDING, FRAME, TABLE}
+use Rattle.state_words.specs.declared.Kind.{Kind}
+use Rattle.state_words.specs.declared.Kind.the-variants.{Rdf, NodeElt, PropertyElt, ParseTypeCollectionPropertyElt, ParseTypeLiteralPropertyElt, ParseTypeOtherPropertyElt}
+use Rattle.state_words.specs.declared.Frame.{Frame}
+use Rattle.state_words.specs.declared.Row.{Row}
+use Rattle.state_words.specs.Words.{pick, frameAt, rowAt}
 use Rattle.state.specs.declared.Registers.{Registers}
 use Rattle.state.specs.Meaning.{at, has, count, first, childSize, childFrom}
 

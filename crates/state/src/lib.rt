@@ -5,17 +5,17 @@ ghost use Prim.Native.Nat.{_+_, _-_, _*_, _≤_, _<_};
 ghost use mathlib.Core.Bool.{true};
 ghost use lib.Dec.{eqb};
 ghost use lib.ListN.{length};
-ghost use Rattle.frames.specs.Parts.{END, FRAME};
-ghost use Rattle.frames.specs.Words.{pick};
+ghost use Rattle.state_words.specs.Parts.{END, FRAME};
+ghost use Rattle.state_words.specs.Words.{pick};
 ghost use Rattle.state.specs.Meaning.{at, childSize};
 ghost use Rattle.state.specs.Valid.{rises, emptyOr, partsOk, chained, childrenOk, kindOk, isNode, nodeBelow, stands, elementOk, framesOk, ceiling, innersOk, countsOk, lengthsOk, validState};
 ghost use Rattle.state.specs.Live.{startedWith};
 use copy::words::byte;
 use copy::words::wide;
-use frames::Frame;
-use frames::Kind;
-use frames::Row;
 use label::BlankNodeIdGenerator;
+use state_words::Frame;
+use state_words::Kind;
+use state_words::Row;
 
 // The numbers of a document, in groups: one more number touches the literals of its own group.
 pub struct Registers {

@@ -13,7 +13,7 @@ use Rattle.spec.specs.Bytes.{Bytes, same, begins}
 use Rattle.spec.specs.Calls.{State, Report, callStep, callFinish}
 use Rattle.spec.specs.Feeding.{Run, ending, inFront, onward, atMost, run}
 use Rattle.theorems.specs.Division.{run-onward}
-use Rattle.frames.specs.Words.{pick}
+use Rattle.state_words.specs.Words.{pick}
 use Rattle.copy.specs.Texts.{begins-length}
 
 -- steps until an answer is not 0; it is 1 at the end of the input

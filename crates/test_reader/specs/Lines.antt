@@ -9,7 +9,7 @@ use lib.Dec.{leb}
 use lib.ListN.{length, take, drop}
 use borrow.Author.Tests.{le-leb}
 use Rattle.copy.specs.Copy.{rest-of}
-use Rattle.frames.specs.Words.{pick}
+use Rattle.state_words.specs.Words.{pick}
 
 -- the bytes from a place up to another, or none where there are no such
 unfoldable pub partOf : ℕ → ℕ → List ℕ → List ℕ

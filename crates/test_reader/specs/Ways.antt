@@ -18,11 +18,11 @@ use Rattle.spec.specs.Calls.{isOpen, noDocument, callStart, callStep}
 use Rattle.spec.specs.Calls as calls
 use Rattle.theorems.specs.Calls.{number-positive, step-takes}
 use Rattle.copy.specs.Copy.{wrote-front}
-use Rattle.frames.specs.Words.{pick}
-use Rattle.report.specs.declared.State.{State}
-use Rattle.report.specs.declared.Report.{Report}
-use Rattle.report.specs.Meaning.{baseOf, meaningOf}
-use Rattle.report.specs.Meets.{numberOf, lengthsRight, Starts, Steps, Finishes}
+use Rattle.state_words.specs.Words.{pick}
+use Rattle.reader_contract.specs.declared.State.{State}
+use Rattle.reader_contract.specs.declared.Report.{Report}
+use Rattle.reader_contract.specs.Meaning.{baseOf, meaningOf}
+use Rattle.reader_contract.specs.Meets.{numberOf, lengthsRight, Starts, Steps, Finishes}
 use Rattle.test_reader.specs.declared.replay.Way.{Way}
 use Rattle.test_reader.specs.declared.replay.Ended.{Ended}
 use Rattle.test_reader.specs.Lines.{partOf, part-rest, part-front}

@@ -2,13 +2,13 @@
 // not the reader's, and the last label. What each is, and the number that a call gives.
 use crate::replay::ahead;
 use crate::replay::part;
-use frames::Frame;
-use ids::IdTable;
 use libc::STDOUT_FILENO;
-use report::Report;
-use report::State;
-use report::fed::Fed;
+use reader_contract::Report;
+use reader_contract::State;
+use reader_contract::fed::Fed;
 use state::Registers;
+use state_ids::IdTable;
+use state_words::Frame;
 
 // What is made of a state by hand: nothing; another number of open elements, end of what is held, number of labels; another word of the
 // table of elements; another number of rdf:IDs.

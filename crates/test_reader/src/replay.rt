@@ -2,16 +2,16 @@
 ghost use Prim.Native.Nat.{_+_, _≤_, min};
 ghost use mathlib.Core.Path.{_≡_};
 ghost use lib.ListN.{length};
-ghost use Rattle.report.specs.Meaning.{baseOf, meaningOf};
-ghost use Rattle.report.specs.Meets.{lengthsRight};
+ghost use Rattle.reader_contract.specs.Meaning.{baseOf, meaningOf};
+ghost use Rattle.reader_contract.specs.Meets.{lengthsRight};
 ghost use Rattle.test_reader.specs.Lines.{partOf, Within, Behind};
 ghost use Rattle.test_reader.specs.Ways.{Ends, Runs, Turns, Finished, wayOf, advanced, stopped, endedOf};
-use ids::IdTable;
 use libc::STDOUT_FILENO;
-use report::Report;
-use report::State;
-use report::fed::Fed;
+use reader_contract::Report;
+use reader_contract::State;
+use reader_contract::fed::Fed;
 use state::Registers;
+use state_ids::IdTable;
 
 // How a document ended: its state, the number of its last call, and whether its lines were the expected ones.
 pub struct Ended {

@@ -1,11 +1,11 @@
 // Open elements, bindings, held bytes and the work store filled to the last and one past, a Collection read back; the answers printed.
 use crate::printing::answer;
 use crate::printing::number;
-use frames::Frame;
-use frames::Kind;
-use frames::Row;
-use stack::Found;
 use state::Registers;
+use state_stack::Found;
+use state_words::Frame;
+use state_words::Kind;
+use state_words::Row;
 
 pub fn try_all() {
     deepest();
@@ -28,7 +28,7 @@ fn deepest() {
     let mut n: usize = 0;
     let mut at: u32 = 0;
     while n < 70 {
-        let c = stack::push(r, &mut frames, Kind::NodeElt, places(at), [0u32; 8], 0);
+        let c = state_stack::push(r, &mut frames, Kind::NodeElt, places(at), [0u32; 8], 0);
         if !c.ok {
             number(b"open elements", n);
             answer(b"valid", is_valid(r, &frames));
@@ -46,7 +46,7 @@ fn most_bindings() {
     let mut work = [0u8; Registers::STORE];
     let mut n: usize = 0;
     while n < 200 {
-        if !stack::bind(&mut work, &mut bindings, n, n, b"", b"x") {
+        if !state_stack::bind(&mut work, &mut bindings, n, n, b"", b"x") {
             break;
         }
         n += 1;
@@ -66,7 +66,7 @@ fn most_inside() {
     );
     let mut n: usize = 0;
     while n < 70 {
-        let d = inside::open_inside(r, &mut inners, 65535 - n, 1, 0);
+        let d = state_inner::open_inside(r, &mut inners, 65535 - n, 1, 0);
         if !d.ok {
             break;
         }
@@ -74,7 +74,7 @@ fn most_inside() {
         n += 1;
     }
     number(b"inside", n);
-    number(b"held", inside::held(r));
+    number(b"held", state_inner::held(r));
 }
 
 // The text of a default property in a node, up to the limit on held bytes.
@@ -82,15 +82,15 @@ fn held_texts() {
     let mut work = [97u8; Registers::STORE];
     let mut frames = [0u32; Frame::TABLE];
     let r = in_node(&mut frames, Kind::PropertyElt);
-    let c = stack::set_text(r, &mut frames, &mut work, &[97u8; 49_148]);
+    let c = state_stack::set_text(r, &mut frames, &mut work, &[97u8; 49_148]);
     answer(
         b"text of 49,148 may be held",
-        inside::holds_no_more(c.registers),
+        state_inner::holds_no_more(c.registers),
     );
-    let d = stack::set_text(c.registers, &mut frames, &mut work, &[97u8; 49_149]);
+    let d = state_stack::set_text(c.registers, &mut frames, &mut work, &[97u8; 49_149]);
     answer(
         b"text of 49,149 may be held",
-        inside::holds_no_more(d.registers),
+        state_inner::holds_no_more(d.registers),
     );
 }
 
@@ -99,12 +99,12 @@ fn stored_texts() {
     let mut work = [97u8; Registers::STORE];
     let mut frames = [0u32; Frame::TABLE];
     let r = in_node(&mut frames, Kind::PropertyElt);
-    let c = stack::set_text(r, &mut frames, &mut work, &[97u8; 65_532]);
+    let c = state_stack::set_text(r, &mut frames, &mut work, &[97u8; 65_532]);
     answer(b"text of 65,532 has room", c.ok);
     answer(b"valid", is_valid(c.registers, &frames));
-    let d = stack::set_text(c.registers, &mut frames, &mut work, &[97u8; 65_533]);
+    let d = state_stack::set_text(c.registers, &mut frames, &mut work, &[97u8; 65_533]);
     answer(b"text of 65,533 has room", d.ok);
-    number(b"held", inside::held(d.registers));
+    number(b"held", state_inner::held(d.registers));
 }
 
 // ---- operations
@@ -116,17 +116,17 @@ fn children() {
     let r = in_node(&mut frames, Kind::ParseTypeCollectionPropertyElt);
     let r = child(r, &mut frames, &mut work, 4);
     let r = child(r, &mut frames, &mut work, 9);
-    number(b"held", inside::held(r));
-    let last = nodes::child_at(&work, r.store.top);
+    number(b"held", state_inner::held(r));
+    let last = state_stack::nodes::child_at(&work, r.store.top);
     number(b"last child at", last.at);
-    let first = nodes::child_at(&work, last.at);
+    let first = state_stack::nodes::child_at(&work, last.at);
     number(b"first child at", first.at);
 }
 
 // A node that closes as a child: is the state behind it valid?
 fn child(r: Registers, frames: &mut [u32], work: &mut [u8], at: u32) -> Registers {
     let r = pushed(r, frames, Kind::NodeElt, at);
-    let c = nodes::close_node(r, frames, work);
+    let c = state_stack::nodes::close_node(r, frames, work);
     answer(b"closed", c.ok);
     let bindings = [0u32; Row::BINDINGS];
     let inners = [0u32; Row::INNERS];
@@ -141,9 +141,9 @@ fn child(r: Registers, frames: &mut [u32], work: &mut [u8], at: u32) -> Register
 fn room_again() {
     let mut frames = [0u32; Frame::TABLE];
     let r = in_node(&mut frames, Kind::PropertyElt);
-    number(b"held", inside::held(r));
-    let c = stack::pop(r, &frames);
-    number(b"held", inside::held(c.registers));
+    number(b"held", state_inner::held(r));
+    let c = state_stack::pop(r, &frames);
+    number(b"held", state_inner::held(c.registers));
 }
 
 // ---- the rules
@@ -170,7 +170,7 @@ fn bases() {
         is_valid(Registers::started(false, 1), &frames),
     );
     answer(b"base", is_valid(Registers::started(true, 1), &frames));
-    let found = inside::base_in_force(Registers::started(true, 7), &frames);
+    let found = state_inner::base_in_force(Registers::started(true, 7), &frames);
     number(b"base of", length_of(found));
 }
 
@@ -195,7 +195,7 @@ fn in_node(frames: &mut [u32], kind: Kind) -> Registers {
 }
 
 fn pushed(r: Registers, frames: &mut [u32], kind: Kind, at: u32) -> Registers {
-    let c = stack::push(r, frames, kind, places(at), [0u32; 8], 0);
+    let c = state_stack::push(r, frames, kind, places(at), [0u32; 8], 0);
     c.registers
 }
 

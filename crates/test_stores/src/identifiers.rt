@@ -1,9 +1,9 @@
 // The table of rdf:IDs at its bounds, printed: the last place and one more, the last byte and one more, and IDs that are there or not.
 use crate::printing::answer;
 use crate::printing::number;
-use ids::Added;
-use ids::IdTable;
 use resolve::Resolved;
+use state_ids::Added;
+use state_ids::IdTable;
 
 pub fn try_all() {
     fresh();
@@ -38,7 +38,7 @@ fn enter(
     if id.len() < n {
         return table;
     }
-    ids::add(table.count, table.used, at, len, store, &id[0..n])
+    state_ids::add(table.count, table.used, at, len, store, &id[0..n])
 }
 
 // The IDs of the numbers from 0 on, each with `n` bytes.
@@ -77,10 +77,10 @@ fn seek(
     if id.len() < n {
         return;
     }
-    if !ids::valid(count, used, at, len, store.len()) {
+    if !state_ids::valid(count, used, at, len, store.len()) {
         return;
     }
-    answer(what, ids::find(count, at, len, store, &id[0..n]));
+    answer(what, state_ids::find(count, at, len, store, &id[0..n]));
 }
 
 // A table as a document starts: nothing is in it, and it is valid beside a store of the right length alone.
@@ -91,11 +91,11 @@ fn fresh() {
     let store = [0u8; IdTable::BYTES];
     answer(
         b"fresh, valid",
-        ids::valid(table.count, table.used, &at, &len, store.len()),
+        state_ids::valid(table.count, table.used, &at, &len, store.len()),
     );
     answer(
         b"fresh, beside a shorter store",
-        ids::valid(table.count, table.used, &at, &len, store.len() - 1),
+        state_ids::valid(table.count, table.used, &at, &len, store.len() - 1),
     );
     seek(
         b"fresh, the empty ID",
@@ -127,7 +127,10 @@ fn places() {
 fn seek_numbers(table: Added, at: &[u32; IdTable::MOST], len: &[u32; IdTable::MOST], store: &[u8]) {
     let count = table.count;
     let used = table.used;
-    answer(b"valid", ids::valid(count, used, at, len, store.len()));
+    answer(
+        b"valid",
+        state_ids::valid(count, used, at, len, store.len()),
+    );
     seek(b"the first ID", count, used, at, len, store, 0, 5);
     seek(b"the last ID", count, used, at, len, store, 511, 5);
     seek(b"an absent ID", count, used, at, len, store, 512, 5);
@@ -164,7 +167,10 @@ fn bytes() {
 fn seek_lengths(table: Added, at: &[u32; IdTable::MOST], len: &[u32; IdTable::MOST], store: &[u8]) {
     let count = table.count;
     let used = table.used;
-    answer(b"valid", ids::valid(count, used, at, len, store.len()));
+    answer(
+        b"valid",
+        state_ids::valid(count, used, at, len, store.len()),
+    );
     seek(
         b"the first ID",
         count,
@@ -210,5 +216,8 @@ fn judge(what: &[u8], count: usize, used: usize, at0: u32, len0: u32, at1: u32, 
     len[0] = len0;
     at[1] = at1;
     len[1] = len1;
-    answer(what, ids::valid(count, used, &at, &len, IdTable::BYTES));
+    answer(
+        what,
+        state_ids::valid(count, used, &at, &len, IdTable::BYTES),
+    );
 }

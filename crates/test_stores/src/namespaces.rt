@@ -2,9 +2,9 @@
 use crate::printing::answer;
 use crate::printing::number;
 use crate::printing::text;
-use frames::Frame;
-use names::Class;
-use names::Found;
+use start_names::Class;
+use start_names::Found;
+use state_words::Frame;
 
 // xmlns, xmlns:a, xmlns:b, a:x, b:x, x, q:x; a and b are bound to the same.
 const TAG: [u8; 60] = *b"xmlnshttp://d/xmlns:ahttp://a/xmlns:bhttp://a/a:x1b:x2x3q:x4";
@@ -58,24 +58,24 @@ pub fn try_all() {
     tag(4, 0);
     tag(7, 0);
     joints();
-    number(b"declared", names::count_declared(&TAG, &SPANS, 7));
-    answer(b"all legal", names::all_legal(&TAG, &SPANS, 7));
+    number(b"declared", start_names::count_declared(&TAG, &SPANS, 7));
+    answer(b"all legal", start_names::all_legal(&TAG, &SPANS, 7));
     answer(
         b"repeated as written",
-        names::repeated_written(&TAG, &SPANS, 7),
+        start_names::repeated_written(&TAG, &SPANS, 7),
     );
     answer(
         b"repeated as written",
-        names::repeated_written(&TWICE, &TWICE_SPANS, 3),
+        start_names::repeated_written(&TWICE, &TWICE_SPANS, 3),
     );
 }
 
 fn write_found(found: Found) {
     match found {
         Found::Unknown => text(b"unknown"),
-        Found::Xml => text(&names::XML),
-        Found::Own(at, n) => text(names::piece(&TAG, at, n)),
-        Found::Held(at, n) => text(names::piece(&WORK, at, n)),
+        Found::Xml => text(&start_names::XML),
+        Found::Own(at, n) => text(start_names::piece(&TAG, at, n)),
+        Found::Held(at, n) => text(start_names::piece(&WORK, at, n)),
     }
 }
 
@@ -83,7 +83,7 @@ fn lookup(prefix: &[u8], k: usize, n: usize) {
     text(b"prefix ");
     text(prefix);
     text(b": ");
-    write_found(names::lookup(prefix, &TAG, &SPANS, k, &WORK, &ROWS, n));
+    write_found(start_names::lookup(prefix, &TAG, &SPANS, k, &WORK, &ROWS, n));
     text(b"\n");
 }
 
@@ -91,16 +91,16 @@ fn legal(prefix: &[u8], namespace: &[u8]) {
     text(b"legal ");
     text(prefix);
     text(b" = ");
-    answer(namespace, names::is_legal(prefix, namespace));
+    answer(namespace, start_names::is_legal(prefix, namespace));
 }
 
 fn element(name: &[u8], c: usize, k: usize) {
     text(b"element ");
     text(name);
     text(b": ");
-    write_found(names::element(name, c, &TAG, &SPANS, k, &WORK, &ROWS, 3));
+    write_found(start_names::element(name, c, &TAG, &SPANS, k, &WORK, &ROWS, 3));
     text(b" ");
-    text(names::back_of(name, c));
+    text(start_names::back_of(name, c));
     text(b"\n");
 }
 
@@ -109,15 +109,15 @@ fn write_class(class: Class) {
         Class::Declaration => text(b"a declaration"),
         Class::Unknown => text(b"of an unknown prefix"),
         Class::Unprefixed => text(b"without a prefix"),
-        Class::Xml => text(&names::XML),
-        Class::Own(at, n) => text(names::piece(&TAG, at, n)),
-        Class::Held(at, n) => text(names::piece(&WORK, at, n)),
+        Class::Xml => text(&start_names::XML),
+        Class::Own(at, n) => text(start_names::piece(&TAG, at, n)),
+        Class::Held(at, n) => text(start_names::piece(&WORK, at, n)),
     }
 }
 
 fn attribute(classes: &[usize], j: usize) {
     text(b"attribute ");
-    text(names::name_of(&TAG, &SPANS, j));
+    text(start_names::name_of(&TAG, &SPANS, j));
     text(b": ");
     write_class(Class::load(classes, j));
     text(b"\n");
@@ -126,7 +126,7 @@ fn attribute(classes: &[usize], j: usize) {
 // The first k attributes, the first n rows.
 fn tag(k: usize, n: usize) {
     let mut classes = [0usize; 21];
-    names::classify(&TAG, &SPANS, k, &WORK, &ROWS, n, &mut classes);
+    start_names::classify(&TAG, &SPANS, k, &WORK, &ROWS, n, &mut classes);
     let mut j = 0;
     while j < k {
         attribute(&classes, j);
@@ -134,12 +134,12 @@ fn tag(k: usize, n: usize) {
     }
     answer(
         b"repeated",
-        names::repeated_expanded(&TAG, &SPANS, k, &WORK, &classes),
+        start_names::repeated_expanded(&TAG, &SPANS, k, &WORK, &classes),
     );
 }
 
 fn joined(a: &[u8], b: &[u8], c: &[u8], d: &[u8]) {
-    answer(b"joined", names::same_joined(a, b, c, d));
+    answer(b"joined", start_names::same_joined(a, b, c, d));
 }
 
 fn lookups() {
@@ -159,9 +159,9 @@ fn legality() {
     legal(b"p", b"");
     legal(b"p", b"http://p/");
     legal(b"xml", b"http://p/");
-    legal(b"xml", &names::XML);
-    legal(b"p", &names::XML);
-    legal(b"", &names::XMLNS);
+    legal(b"xml", &start_names::XML);
+    legal(b"p", &start_names::XML);
+    legal(b"", &start_names::XMLNS);
     legal(b"xmlns", b"http://p/");
 }
 

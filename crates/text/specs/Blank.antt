@@ -14,7 +14,7 @@ use Rattle.spec.specs.RdfXml.{onEvent, onText, isBlank}
 use Rattle.state.specs.declared.Registers.{Registers}
 use Rattle.state.specs.Meaning.{elementsOf, docOf}
 use Rattle.state.specs.Valid.{Valid}
-use Rattle.inside.specs.Calls.{heldIn}
+use Rattle.state_inner.specs.Calls.{heldIn}
 use Rattle.event.specs.declared.Outcome.{Outcome}
 use Rattle.event.specs.declared.Outcome.the-variants.{Stop, Did}
 use Rattle.event.specs.declared.Place.{Place}

@@ -16,20 +16,20 @@ use Rattle.spec.specs.Document as D
 use Rattle.spec.specs.Document.{default, collection, literal, other, Kind as What, rdfRDF, nodeElement, propertyElement, xmlElement, Frame as Element, withKind, onValue, isXmlElement, changeValue, objectBytes, valueBytes, kindBytes, frameBytes, withFrames, placeIn}
 use Rattle.spec.specs.RdfXml.{onEvent, onText, isBlank, takesText}
 use Rattle.copy.specs.Copy.{storedAt, length-stored}
-use Rattle.frames.specs.Parts.{TAIL, END, PENDING, FRAME}
-use Rattle.frames.specs.declared.Kind.{Kind}
-use Rattle.frames.specs.declared.Kind.the-variants.{Rdf, NodeElt, PropertyElt, ParseTypeCollectionPropertyElt, ParseTypeLiteralPropertyElt, ParseTypeOtherPropertyElt}
-use Rattle.frames.specs.declared.Frame.{Frame}
-use Rattle.frames.specs.Words.{pick, frameAt, loadFrame, noFrame, wordsOf, length-words}
+use Rattle.state_words.specs.Parts.{TAIL, END, PENDING, FRAME}
+use Rattle.state_words.specs.declared.Kind.{Kind}
+use Rattle.state_words.specs.declared.Kind.the-variants.{Rdf, NodeElt, PropertyElt, ParseTypeCollectionPropertyElt, ParseTypeLiteralPropertyElt, ParseTypeOtherPropertyElt}
+use Rattle.state_words.specs.declared.Frame.{Frame}
+use Rattle.state_words.specs.Words.{pick, frameAt, loadFrame, noFrame, wordsOf, length-words}
 use Rattle.state.specs.declared.Registers.{Registers}
 use Rattle.state.specs.Meaning.{at, startOf, elementsOf, docOf}
 use Rattle.state.specs.Valid.{Valid, rising}
 use Rattle.state.specs.Held.{room}
-use Rattle.stack.specs.declared.Changed.{Changed}
-use Rattle.stack.specs.Calls.{topFrame, sameKind, tailTo, Texts, mayTail}
-use Rattle.stack.specs.Change.{toppedTo, top-frame}
-use Rattle.stack.specs.Laws.{by, text-holds, topmost, top-deep, length-at, length-has}
-use Rattle.inside.specs.Calls.{heldIn, held-is}
+use Rattle.state_stack.specs.declared.Changed.{Changed}
+use Rattle.state_stack.specs.Calls.{topFrame, sameKind, tailTo, Texts, mayTail}
+use Rattle.state_stack.specs.Change.{toppedTo, top-frame}
+use Rattle.state_stack.specs.Laws.{by, text-holds, topmost, top-deep, length-at, length-has}
+use Rattle.state_inner.specs.Calls.{heldIn, held-is}
 use Rattle.event.specs.declared.Place.{Place}
 use Rattle.event.specs.declared.Place.the-variants.{Outside, Nodes, Properties, NodesOrText, Xml}
 use Rattle.event.specs.declared.Outcome.{Outcome}

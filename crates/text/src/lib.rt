@@ -5,7 +5,7 @@ ghost use lib.Dec.{leb};
 ghost use lib.ListN.{length};
 ghost use Rattle.spec.specs.Limits.{mostHeldBytes};
 ghost use Rattle.spec.specs.Pyx.{text};
-ghost use Rattle.inside.specs.Calls.{heldIn};
+ghost use Rattle.state_inner.specs.Calls.{heldIn};
 ghost use Rattle.event.specs.Result.{Asks};
 ghost use Rattle.literal.specs.Quiet.{Quietly};
 ghost use Rattle.text.specs.Blank.{Unchanged, BlankOnly};
@@ -14,9 +14,9 @@ use copy::words::wide;
 use event::Done;
 use event::Outcome;
 use event::Place;
-use frames::Frame;
 use spec::Refusal;
 use state::Registers;
+use state_words::Frame;
 
 // By what it stands in.
 pub fn parse_text_event(
@@ -45,7 +45,7 @@ pub fn parse_text_event(
 pub fn unchanged(r: Registers) -> Outcome
     ensures { λ o. ⌜ Unchanged r o ⌝ }
 {
-    if !inside::holds_no_more(r) {
+    if !state_inner::holds_no_more(r) {
         return Outcome::Stop(Refusal::OverLimit);
     }
     Outcome::Did(Done {
@@ -74,7 +74,7 @@ fn take_text(r: Registers, frames: &mut [u32], work: &mut [u8], s: &[u8]) -> Out
     if !text_fits(r, frames, s.len()) {
         return Outcome::Stop(Refusal::OverLimit);
     }
-    let c = stack::set_text(r, frames, work, s);
+    let c = state_stack::set_text(r, frames, work, s);
     let behind = c.registers;
     Outcome::Did(Done {
         written: 0,
@@ -89,7 +89,7 @@ fn text_fits(r: Registers, frames: &[u32], n: usize) -> bool
     if n > Registers::MOST_HELD {
         return false;
     }
-    let f = stack::top(r, frames);
+    let f = state_stack::top(r, frames);
     let at = f.at;
-    inside::holds_no_more(stack::with_top(r, wide(at[Frame::TAIL]) + n))
+    state_inner::holds_no_more(state_stack::with_top(r, wide(at[Frame::TAIL]) + n))
 }

@@ -1,6 +1,6 @@
 -- `literal::add` meets its contract: 7, or the tail of the frame on top grows.
 use Prim.Native.Nat.{_+_}
-use Rattle.inside.specs.Calls.{heldIn}
+use Rattle.state_inner.specs.Calls.{heldIn}
 use borrow.Author.Tests.{leb-true, leb-false}
 use Rattle.spec.specs.Limits as L
 use Rattle.state.specs.Tests.{yes, no}

@@ -1,7 +1,7 @@
 -- `literal::all_known` meets its contract. The loop's invariant: the prefixes of the first `j` attributes are known.
 use Prim.Native.Nat.{_-_}
 use Rattle.state.specs.Tests.{yes, no}
-use Rattle.names.specs.Found.{scope}
+use Rattle.start_names.specs.Found.{scope}
 use Rattle.literal.specs.Known.{Knowing, knowing-begins, knowing-stop, knowing-more, knowing-done}
 use native.Mathlib.Omega.{arith}
 use borrow.Author.Needs.{needs}

@@ -2,7 +2,7 @@
 use mathlib.Core.Path.{refl, ap, _∙_}
 use Prim.Native.Nat.{_+_}
 use Rattle.spec.specs.Limits.{mostAttributes}
-use Rattle.element.specs.Sizes.{few-declared}
+use Rattle.start_element.specs.Sizes.{few-declared}
 use Rattle.literal.specs.Added.{xml-in}
 use Rattle.literal.specs.Entered.{copy-over, copy-room, copy-done}
 use native.Mathlib.Omega.{arith}

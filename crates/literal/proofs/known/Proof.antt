@@ -1,6 +1,6 @@
 -- `literal::known` meets its contract: a law of each place where the namespace was found.
 use Rattle.literal.specs.Known.{known-none, known-not, known-found}
-use Rattle.names.specs.Found.{foundBytes}
+use Rattle.start_names.specs.Found.{foundBytes}
 use mathlib.Core.Path.{refl}
 use borrow.Author.Needs.{needs}
 use Rattle.literal.proofs.known.Statement.{statement}

@@ -1,6 +1,6 @@
 -- `literal::known_at` meets its contract.
 use Rattle.literal.specs.Known.{known-declaration, known-other}
-use Rattle.names.specs.Declarations.{told}
+use Rattle.start_names.specs.Declarations.{told}
 use borrow.Author.Needs.{needs}
 use Rattle.literal.proofs.known_at.Statement.{statement}
 use Rattle.literal.proofs.known_at.Tie as tie

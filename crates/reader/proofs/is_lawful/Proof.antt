@@ -2,7 +2,7 @@
 use mathlib.Core.Path.{sym, _∙_}
 use borrow.Author.Tests.{not-true, not-false}
 use borrow.Author.Needs.{needs}
-use Rattle.report.specs.Meaning.{not-valid, table-decides}
+use Rattle.reader_contract.specs.Meaning.{not-valid, table-decides}
 use Rattle.reader.proofs.is_lawful.Statement.{statement}
 use Rattle.reader.proofs.is_lawful.Tie as tie
 

@@ -4,7 +4,7 @@ use lib.ListN.{length-map}
 use borrow.Author.Tests.{not-true, not-false}
 use borrow.Author.Needs.{needs}
 use Rattle.reader.specs.Asked.{roomy}
-use Rattle.report.specs.Meaning.{lawful-facts}
+use Rattle.reader_contract.specs.Meaning.{lawful-facts}
 use Rattle.reader.specs.Stepping.{step-unlawful, step-closed, step-stop, step-did}
 use Rattle.reader.proofs.step.Statement.{statement}
 use Rattle.reader.proofs.step.Tie as tie

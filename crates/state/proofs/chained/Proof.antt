@@ -1,5 +1,5 @@
 -- `state::chained` meets its contract. The loop's invariant: what is left to test is the first `i` bindings, up to `t`.
-use Rattle.frames.specs.Words.{load-row}
+use Rattle.state_words.specs.Words.{load-row}
 use mathlib.Core.Path.{_∙_}
 use Rattle.state.specs.Tests.{ChainWalk, chain-begins, chain-stop, chain-more, chain-done}
 use native.Mathlib.Omega.{arith}

@@ -1,6 +1,6 @@
 -- `state::element_ok` meets its contract. A law for each return, with the tests that led there.
 use Rattle.state.specs.Tests.{ends-elsewhere, falls, part-left, bindings-beyond, not-chained, kind-wrong, around-decides, yes, no}
-use Rattle.frames.specs.Words.{load-frame}
+use Rattle.state_words.specs.Words.{load-frame}
 use mathlib.Core.Path.{_∙_}
 use native.Mathlib.Omega.{arith}
 use borrow.Author.Needs.{needs}

@@ -1,6 +1,6 @@
 -- `state::frames_ok` meets its contract. The loop's invariant: what is left to test is the first `i` elements, up to `t`, with bindings up to `b`.
 use Rattle.state.specs.Tests.{FrameWalk, frame-begins, frame-stop, frame-more, other-start, frame-done, yes, no}
-use Rattle.frames.specs.Words.{load-frame}
+use Rattle.state_words.specs.Words.{load-frame}
 use mathlib.Core.Path.{_∙_}
 use native.Mathlib.Omega.{arith}
 use borrow.Author.Needs.{needs}

@@ -1,6 +1,6 @@
 -- `state::inners_ok` meets its contract. The loop's invariant: what is left to test is the first `i` inner elements, from `l` on, with bindings up to `b`.
 use Rattle.state.specs.Tests.{InnerWalk, inner-begins, inner-elsewhere, inner-beyond, inner-stop, inner-more, other-end, inner-done, yes, no}
-use Rattle.frames.specs.Words.{load-row}
+use Rattle.state_words.specs.Words.{load-row}
 use mathlib.Core.Path.{_∙_}
 use native.Mathlib.Omega.{arith}
 use borrow.Author.Needs.{needs}

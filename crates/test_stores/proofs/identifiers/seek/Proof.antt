@@ -1,7 +1,7 @@
 -- `identifiers::seek` meets what `find` asks: a table that is valid has its spans in the store.
 use mathlib.Core.Path.{sym, _∙_}
 use borrow.Author.Tests.{not-false}
-use Rattle.ids.specs.Ids.{valid-spans}
+use Rattle.state_ids.specs.Ids.{valid-spans}
 use borrow.Author.Needs.{needs}
 use Rattle.test_stores.proofs.identifiers.seek.Statement.{statement}
 use Rattle.test_stores.proofs.identifiers.seek.Tie as tie

@@ -1,3 +1,0 @@
--- A node that closes.
-pub mod Take
-pub mod Laws

@@ -1,2 +1,0 @@
--- What the contracts of `reference` cite, and the laws about it.
-pub mod Reference

@@ -1,0 +1,50 @@
+-- `acting::tell_node` meets its contract. What is lent is what the plan says.
+use Rattle.start_commit.specs.Told.{node-told}
+use borrow.Author.Needs.{needs}
+use Rattle.start_commit.proofs.tell_node.Statement.{statement}
+use Rattle.start_commit.proofs.tell_node.Tie as tie
+
+of-requires : tie.Need-of-requires
+of-requires c κs = search needs
+
+text-requires : tie.Need-text-requires
+text-requires c κs = search needs
+
+is-tagged-requires : tie.Need-is-tagged-requires
+is-tagged-requires c κs = search needs
+
+language-of-requires : tie.Need-language-of-requires
+language-of-requires c κs = search needs
+
+is-there-requires : tie.Need-is-there-requires
+is-there-requires c κs = search needs
+
+text-requires-2 : tie.Need-text-requires-2
+text-requires-2 c κs = search needs
+
+text-requires-3 : tie.Need-text-requires-3
+text-requires-3 c κs = search needs
+
+node-lines-requires : tie.Need-node-lines-requires
+node-lines-requires c κs = search needs
+
+same-length : tie.Need-same-length
+same-length c = c .before .out .given
+
+returns : tie.Need-returns
+returns c = node-told (c .before .before .before .before .before .before .before .before .before .before .before .before .before .before .before .before .before .before .before .before .args .x) _ _ _ _ _ _ _ _ (c .before .before .before .before .before .before .before .before .is-tagged .ensures) (c .before .before .before .before .before .before .before .language-of .ensures) (c .before .before .before .before .before .before .is-there .ensures) (c .before .before .before .before .before .text2 .ensures) (c .before .before .before .before .before .before .before .before .before .before .of .ensures) (c .before .before .before .before .before .before .before .before .before .text .ensures) (c .before .before .before .before .text3 .ensures) (c .before .before .node-lines .ensures)
+
+pub tell-node-spec : {M : Type 1} → statement M
+tell-node-spec =
+    tie.close
+    (tie.spec
+    of-requires
+    text-requires
+    is-tagged-requires
+    language-of-requires
+    is-there-requires
+    text-requires-2
+    text-requires-3
+    node-lines-requires
+    same-length
+    returns)

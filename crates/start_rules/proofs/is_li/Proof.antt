@@ -1,0 +1,24 @@
+-- `production::is_li` meets its contract: what stands behind the namespace decides.
+use Rattle.start_rules.specs.Names.{is-rdf-name}
+use Rattle.spec.specs.Productions.{isLi}
+use Rattle.spec.specs.Bytes.{ascii, isEmpty}
+use mathlib.Core.Path.{refl, _∙_}
+use borrow.Author.Needs.{needs}
+use Rattle.start_rules.proofs.is_li.Statement.{statement}
+use Rattle.start_rules.proofs.is_li.Tie as tie
+
+rdf-name-requires : tie.Need-rdf-name-requires
+rdf-name-requires c κs = search needs
+
+slice-aggregate-equal : tie.Need-slice-aggregate-equal
+slice-aggregate-equal c = search needs
+
+equal-requires : tie.Need-equal-requires
+equal-requires c κs = search needs
+
+returns : tie.Need-returns
+unfolding ascii isEmpty isLi
+returns c = rw (c .before .before .rdf-name .ensures) at (c .equal .ensures) ∙ is-rdf-name _ "li" refl
+
+pub is-li-spec : {M : Type 1} → statement M
+is-li-spec = tie.close (tie.spec rdf-name-requires slice-aggregate-equal equal-requires returns)

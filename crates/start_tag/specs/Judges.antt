@@ -1,0 +1,231 @@
+-- What is judged of a start tag that was read, and what comes of it.
+use Prim.Native.Nat.{ℕ, _+_, _≤_}
+use mathlib.Core.Path.{_≡_, sym, ap, _∙_}
+use mathlib.Core.Bool.{Bool, true, false, _&&_, not}
+use mathlib.Core.Option.{Option, some}
+use mathlib.Core.List.{List, []}
+use native.Mathlib.Omega.{arith}
+use lib.Dec.{leb}
+use lib.ListN.{length, take}
+use borrow.Author.Tests.{leb-true}
+use Rattle.spec.specs.Bytes.{Bytes, same}
+use Rattle.spec.specs.Rdf.{rdf}
+use Rattle.spec.proofs.Booleans.{and-left, and-right}
+use Rattle.spec.specs.Numbers.{refuse, good}
+use Rattle.spec.specs.declared.Refusal.{Refusal}
+use Rattle.spec.specs.declared.Refusal.the-variants.{OverLimit}
+use Rattle.spec.specs.Limits.{mostHeldBytes, mostNameBytes}
+use Rattle.spec.specs.Namespaces.{Binding}
+use Rattle.spec.specs.Pyx as P
+use Rattle.spec.specs.Document.{Frame as Element, Kind as What, frameBytes, placeIn}
+use Rattle.spec.specs.StartTag as S
+use Rattle.spec.specs.Productions.{Opened, elementType, isLi}
+use Rattle.spec.specs.Opening.{opened, onOpening}
+use Rattle.spec.specs.RdfXml.{onEvent}
+use Rattle.state_ids.specs.Ids.{idsOf, roomFor}
+use Rattle.state.specs.declared.Registers.{Registers}
+use Rattle.state.specs.Meaning.{subjectBelow, elementsOf, docOf}
+use Rattle.state.specs.Valid.{stands}
+use Rattle.start_names.specs.Tag.{attributesOf}
+use Rattle.ntriples.specs.Terms.{idOf as given}
+use Rattle.start_attributes.specs.Properties.{properties}
+use Rattle.event.specs.Result.{handled, handled-by, refused-on, over-limit}
+use Rattle.event.specs.Progress.{lent, Lawful}
+use Rattle.start_element.specs.declared.Source.{Source}
+use Rattle.start_element.specs.declared.Source.the-variants as source
+use Rattle.start_element.specs.Element.{textOf, maybe, newElement, Fitting}
+use Rattle.start_element.specs.Sizes.{Measures}
+use Rattle.start_element.specs.Laws.{ready-valid}
+use Rattle.state_stack.specs.Laws.{Numbered}
+use Rattle.state_stack.specs.Change.{flat}
+use Rattle.start_plan.specs.declared.Start.{Start}
+use Rattle.start_plan.specs.declared.Plan.{Plan}
+use Rattle.start_plan.specs.declared.Given.{Given}
+use Rattle.start_plan.specs.Plan.{isThere}
+use Rattle.start_plan.specs.Says.{Says}
+use Rattle.start_plan.specs.Does.{Does}
+use Rattle.start_plan.specs.Goes.{told, mainOf, objectOf, propertyOf, Goes}
+use Rattle.start_tag.specs.declared.reading.Tag.{Tag}
+use Rattle.start_tag.specs.Tag.{Tells}
+use Rattle.start_tag.specs.Made.{shortIf}
+use Rattle.start_lines.specs.Lines.{element-type}
+use Rattle.start_tag.specs.Giving.{madeAt, Gives, Shorts, shorts, Keeps, given-says, kind-says, iri-says}
+use Rattle.start_form.specs.Order.{productionIn, no-production, too-long, opens-good}
+use Rattle.start_form.specs.Form.{Formed}
+use Rattle.start_tag.specs.declared.judging.Verdict.{Verdict}
+use Rattle.start_tag.specs.declared.judging.Verdict.the-variants.{Stop, Go}
+use Rattle.start_tag.specs.Limits.{roomForId, elementOf, behind-fits}
+
+-- a start tag t that was read, in a state and beside a table of rdf:IDs; cs and rs: the classes and roles of its attributes; a: what was made for it
+pub record Known (t : Tag) (r : Registers) (count used : ℕ) (fs bs is w ia il st e v : List ℕ) (m k : ℕ) (cs rs a : List ℕ) : Type 0 where
+  pub lawful : Lawful r count used (lent fs bs is w ia il st [])
+  pub level : r .counts .inner ≡ 0
+  pub formed : Formed r fs bs is w e v m k cs
+  pub tells : Tells t e v m k w cs rs a (docOf r fs bs is w (idsOf ia il st count))
+
+-- ---- what comes of it
+
+abbrev pub Rules : Verdict → Registers → ℕ → ℕ → List ℕ → List ℕ → List ℕ → List ℕ → List ℕ → List ℕ → List ℕ → List ℕ → List ℕ → ℕ → ℕ → List ℕ → List ℕ → List ℕ → Type 0
+Rules (Stop n) r count used fs bs is w ia il st e v m k cs rs b = (room : ℕ) → handled (P.opening (take m e) (attributesOf e v k)) room (docOf r fs bs is w (idsOf ia il st count)) ≡ refuse n
+Rules (Go x) r count used fs bs is w ia il st e v m k cs rs b = Goes x (docOf r fs bs is w (idsOf ia il st count)) r fs bs w e v m k b cs rs count used
+
+-- b: the area behind it
+pub record Judges (q : Verdict) (t : Tag) (r : Registers) (count used : ℕ) (fs w e v : List ℕ) (m k : ℕ) (a b : List ℕ) : Type 0 where
+  pub cases : (bs is ia il st cs rs : List ℕ) → Known t r count used fs bs is w ia il st e v m k cs rs a → Rules q r count used fs bs is w ia il st e v m k cs rs b
+  pub same : length b ≡ length a
+
+-- ---- what is known before the limits on what is kept are tested
+
+-- not refused so far: n, the bytes that the element holds, decides
+pub record Waits (x : Start) (r : Registers) (count used : ℕ) (fs bs is w ia il st e v : List ℕ) (m k : ℕ) (cs rs b : List ℕ) : Type 0 where
+  pub full : {n : ℕ} → Measures e v m k b (x .plan .parts) n → (roomForId count used (x .id) e b && leb (r .store .top + n) mostHeldBytes) ≡ false
+      → (room : ℕ) → handled (P.opening (take m e) (attributesOf e v k)) room (docOf r fs bs is w (idsOf ia il st count)) ≡ refuse OverLimit
+  pub fits : {n : ℕ} → Measures e v m k b (x .plan .parts) n → (roomForId count used (x .id) e b && leb (r .store .top + n) mostHeldBytes) ≡ true
+      → Goes x (docOf r fs bs is w (idsOf ia il st count)) r fs bs w e v m k b cs rs count used
+
+abbrev pub Drafted : Verdict → Registers → ℕ → ℕ → List ℕ → List ℕ → List ℕ → List ℕ → List ℕ → List ℕ → List ℕ → List ℕ → List ℕ → ℕ → ℕ → List ℕ → List ℕ → List ℕ → Type 0
+Drafted (Stop n) r count used fs bs is w ia il st e v m k cs rs b = Rules (Stop n) r count used fs bs is w ia il st e v m k cs rs b
+Drafted (Go x) r count used fs bs is w ia il st e v m k cs rs b = Waits x r count used fs bs is w ia il st e v m k cs rs b
+
+-- the bytes of what is planned can be counted
+abbrev pub Measurable : Verdict → Type 0
+Measurable (Stop n) = Unit
+Measurable (Go x) = Fitting (x .plan .parts)
+
+pub record Drafts (q : Verdict) (t : Tag) (r : Registers) (fs e v : List ℕ) (k : ℕ) (a b : List ℕ) : Type 0 where
+  pub cases : (count used m : ℕ) (bs is w ia il st cs rs : List ℕ) → Known t r count used fs bs is w ia il st e v m k cs rs a → Drafted q r count used fs bs is w ia il st e v m k cs rs b
+  pub measurable : Measurable q
+  pub same : length b ≡ length a
+
+-- ---- how it comes to that
+
+module _ {t : Tag} {r : Registers} {count used : ℕ} {fs bs is w ia il st e v : List ℕ} {m k : ℕ} {cs rs a : List ℕ} (y : Known t r count used fs bs is w ia il st e v m k cs rs a) where
+  stops : {n : Refusal} → onOpening (take m e) (attributesOf e v k) (docOf r fs bs is w (idsOf ia il st count)) ≡ refuse n
+      → (room : ℕ) → handled (P.opening (take m e) (attributesOf e v k)) room (docOf r fs bs is w (idsOf ia il st count)) ≡ refuse n
+  unfolding onEvent
+  stops {n} h room = handled-by (P.opening (take m e) (attributesOf e v k)) room (docOf r fs bs is w (idsOf ia il st count)) h ∙ refused-on room n
+
+  -- 14, 15, 18
+  pub production-stops : {n : Refusal} → productionIn (placeIn (elementsOf r fs bs is w)) (y .tells .is) (r .counts .labels) ≡ refuse n
+      → (room : ℕ) → handled (P.opening (take m e) (attributesOf e v k)) room (docOf r fs bs is w (idsOf ia il st count)) ≡ refuse n
+  unfolding docOf
+  production-stops h = stops (no-production (y .formed .form (idsOf ia il st count)) (y .formed .counts) (y .tells .answer) h)
+
+  module _ {o : Opened} (p : productionIn (placeIn (elementsOf r fs bs is w)) (y .tells .is) (r .counts .labels) ≡ good o) where
+    -- 7: a name, an IRI or a base
+    pub long-stops : t .short ≡ false → (room : ℕ) → handled (P.opening (take m e) (attributesOf e v k)) room (docOf r fs bs is w (idsOf ia il st count)) ≡ refuse OverLimit
+    unfolding docOf
+    long-stops h = stops (too-long (y .formed .form (idsOf ia il st count)) (y .formed .counts) (y .tells .answer) p (sym (y .tells .short) ∙ h))
+
+    module _ (short : t .short ≡ true) where
+      pub steps : onOpening (take m e) (attributesOf e v k) (docOf r fs bs is w (idsOf ia il st count)) ≡ good (opened (y .tells .is) (docOf r fs bs is w (idsOf ia il st count)) o)
+      unfolding docOf
+      steps = opens-good (y .formed .form (idsOf ia il st count)) (y .formed .counts) (y .tells .answer) p (sym (y .tells .short) ∙ short)
+
+      -- 7: what would be kept behind it
+      pub full-stops : (s : Source) (b : List ℕ) (n : ℕ) → maybe s e b ≡ y .tells .is .id → ((i : Bytes) → y .tells .is .id ≡ some i → length i ≤ mostNameBytes) → frameBytes (elementOf (y .tells .is) o) ≡ n
+          → (roomForId count used s e b && leb (r .store .top + n) mostHeldBytes) ≡ false
+          → (room : ℕ) → handled (P.opening (take m e) (attributesOf e v k)) room (docOf r fs bs is w (idsOf ia il st count)) ≡ refuse OverLimit
+      unfolding onEvent
+      full-stops s b n q h f z room =
+          handled-by (P.opening (take m e) (attributesOf e v k)) room (docOf r fs bs is w (idsOf ia il st count)) steps
+          ∙ over-limit room (opened (y .tells .is) (docOf r fs bs is w (idsOf ia il st count)) o)
+          (behind-fits (y .lawful .valid) (y .level) (y .lawful .table) (y .tells .is) o s e b n q h f ∙ z)
+
+-- ---- what is carried out
+
+-- by its plan; li: is it an rdf:li, named: is its element's IRI a type of its node, property: the IRI of the property that it is
+abbrev pub startBy : Plan → Tag → Bool → Bool → Source → Start
+startBy p t li named property =
+    record { plan = p; li = li; id = madeAt 0 (t .id); kind = madeAt 4096 (t .kind); iri = madeAt 5120 (t .iri); named = named; property = property }
+
+pub text-of : (s : Source) (e a : List ℕ) {i : Bytes} → maybe s e a ≡ some i → textOf s e a ≡ i
+unfolding maybe textOf
+text-of source.Missing e a h = absurd (let z : _≡_ {A = ℕ} 0 1 = cc in omega arith)
+text-of (source.Own i n) e a h = cc
+text-of (source.Made i n) e a h = cc
+
+there-room : (count used : ℕ) (s : Source) (e b : List ℕ) → isThere s ≡ true → roomForId count used s e b ≡ true → roomFor count used (length (textOf s e b)) ≡ true
+unfolding roomForId
+there-room count used s e b q ro = rw q at ro
+
+-- an rdf:ID that is short
+pub short-id : {s : S.Tag} → Shorts s → (i : Bytes) → s .id ≡ some i → length i ≤ mostNameBytes
+unfolding shortIf
+short-id {s} z i q = leb-true (length i) mostNameBytes (sym (ap shortIf q) ∙ z .id)
+
+module _ {t : Tag} {r : Registers} {count used : ℕ} {fs bs is w ia il st e v : List ℕ} {m k : ℕ} {cs rs a : List ℕ} (y : Known t r count used fs bs is w ia il st e v m k cs rs a)
+    {o : Opened} (pr : productionIn (placeIn (elementsOf r fs bs is w)) (y .tells .is) (r .counts .labels) ≡ good o) (short : t .short ≡ true)
+    {b : List ℕ} (kp : Keeps a b) (ev : length e ≤ 32_768) {g : Given} (gv : Gives t e v k g) {p : Plan} (pb : p .parts .base ≡ g .base) (pt : p .parts .tag ≡ g .tag)
+    (d : Does p e b (subjectBelow fs w (r .counts .depth)) o) where
+  says : Says g e b (y .tells .is)
+  says = given-says (y .tells) short kp ev gv
+
+  base-says : maybe (p .parts .base) e b ≡ y .tells .is .ownBase
+  base-says = ap (λ (s : Source). maybe s e b) pb ∙ says .base
+
+  tag-says-own : maybe (p .parts .tag) e b ≡ y .tells .is .ownTag
+  tag-says-own = ap (λ (s : Source). maybe s e b) pt ∙ says .tag
+
+  id-says : maybe (madeAt 0 (t .id)) e b ≡ y .tells .is .id
+  id-says = ap (λ (s : Source). maybe s e b) (sym (gv .id)) ∙ says .id
+
+  element-is : elementOf (y .tells .is) o ≡ newElement e v m k b (p .parts) (subjectBelow fs w (r .counts .depth))
+  unfolding newElement
+  element-is = made (y .tells .name) (y .tells .bindings) (sym base-says) (sym tag-says-own) (sym (d .kind))
+    where
+      made : {n₁ n₂ : Bytes} {b₁ b₂ : List Binding} {x₁ x₂ z₁ z₂ : Option Bytes} {k₁ k₂ : What} → n₁ ≡ n₂ → b₁ ≡ b₂ → x₁ ≡ x₂ → z₁ ≡ z₂ → k₁ ≡ k₂
+          → _≡_ {A = Element} (record { name = n₁; bindings = b₁; ownBase = x₁; ownTag = z₁; kind = k₁ }) (record { name = n₂; bindings = b₂; ownBase = x₂; ownTag = z₂; kind = k₂ })
+      made p₁ p₂ p₃ p₄ p₅ = rw (p₁, p₂, p₃, p₄, p₅)
+
+  id-short : (i : Bytes) → y .tells .is .id ≡ some i → length i ≤ mostNameBytes
+  id-short = short-id (shorts (y .tells .is) (sym (y .tells .short) ∙ short))
+
+  module _ {n : ℕ} (me : Measures e v m k b (p .parts) n) where
+    bytes-are : frameBytes (elementOf (y .tells .is) o) ≡ n
+    bytes-are = ap frameBytes element-is ∙ me .bytes (subjectBelow fs w (r .counts .depth))
+
+    -- 7
+    limit-stops : (roomForId count used (madeAt 0 (t .id)) e b && leb (r .store .top + n) mostHeldBytes) ≡ false
+        → (room : ℕ) → handled (P.opening (take m e) (attributesOf e v k)) room (docOf r fs bs is w (idsOf ia il st count)) ≡ refuse OverLimit
+    limit-stops z = full-stops y pr short (madeAt 0 (t .id)) b n id-says id-short bytes-are z
+
+    goes : (li named : Bool) (property : Source) → (roomForId count used (madeAt 0 (t .id)) e b && leb (r .store .top + n) mostHeldBytes) ≡ true
+        → named ≡ not (same (y .tells .is .iri) (rdf "Description")) → isLi (y .tells .is .iri) ≡ li → (li ≡ true → Numbered r fs) → p .labels ≤ 99_999_999 → stands (p .parts .kind) fs (r .counts .depth) ≡ true
+        → o .lines ≡ told (p .lines) (mainOf (startBy p t li named property) e b) (objectOf (startBy p t li named property) e b) (y .tells .is .language) (y .tells .is .attributes) (y .tells .is .type) (elementType (y .tells .is .iri)) (propertyOf (startBy p t li named property) e b (subjectBelow fs w (r .counts .depth)))
+        → Goes (startBy p t li named property) (docOf r fs bs is w (idsOf ia il st count)) r fs bs w e v m k b cs rs count used
+    unfolding mostHeldBytes
+    goes li named property z nm il′ nb few sd ln =
+        let ro = and-left (roomForId count used (madeAt 0 (t .id)) e b) _ z in
+        let hd = leb-true (r .store .top + n) 49_152 (and-right (roomForId count used (madeAt 0 (t .id)) e b) _ z) in
+        let fl = flat (y .lawful .valid) (y .level) in
+        record {
+          tag = y .tells .is;
+          what = o;
+          steps = steps y pr short;
+          name = y .tells .name;
+          bindings = y .tells .bindings;
+          base = base-says;
+          ownTag = tag-says-own;
+          language = y .tells .language;
+          attributes = y .tells .attributes ∙ properties (y .tells .roles);
+          kind = kind-says (y .tells) short kp ev;
+          type = ap (given named) (text-of (madeAt 5120 (t .iri)) e b (iri-says (y .tells) short kp ev)) ∙ element-type (y .tells .is .iri) nm;
+          id = id-says;
+          li = il′;
+          does = d;
+          lines = ln;
+          granted =
+              record {
+                ready = ready-valid (y .lawful .valid) (y .level) (y .formed .deep) (omega (arith, y .formed .bound, fl .bindings)) me hd (d .fitting) sd;
+                numbered = nb;
+                few = few;
+              };
+          room = λ q. there-room count used (madeAt 0 (t .id)) e b q ro;
+        }
+
+  pub waits : (li named : Bool) (property : Source) → named ≡ not (same (y .tells .is .iri) (rdf "Description")) → isLi (y .tells .is .iri) ≡ li → (li ≡ true → Numbered r fs) → p .labels ≤ 99_999_999
+      → stands (p .parts .kind) fs (r .counts .depth) ≡ true
+      → o .lines ≡ told (p .lines) (mainOf (startBy p t li named property) e b) (objectOf (startBy p t li named property) e b) (y .tells .is .language) (y .tells .is .attributes) (y .tells .is .type) (elementType (y .tells .is .iri)) (propertyOf (startBy p t li named property) e b (subjectBelow fs w (r .counts .depth)))
+      → Waits (startBy p t li named property) r count used fs bs is w ia il st e v m k cs rs b
+  waits li named property nm il′ nb few sd ln = record { full = λ me z. limit-stops me z; fits = λ me z. goes me li named property z nm il′ nb few sd ln }
