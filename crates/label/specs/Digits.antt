@@ -1,22 +1,18 @@
--- Numbers in decimal digits: the loop that writes them from the back, and the one that passes the leading zeros.
+-- Numbers in decimal digits: the loop that fills a slice with them from the back, and the one that ends where
+-- nothing is left of the number.
 use mathlib.Core.Path.{_≡_, refl, sym, ap, _∙_}
 use mathlib.Core.Bool.{Bool, true, false}
 use mathlib.Core.List.{List, [], _∷_, _++_, append-nil, append-assoc}
-use Prim.Native.Nat.{ℕ, suc, _+_, _-_, _/_, _%_, _<_, _≤_}
-use native.Mathlib.Numerals.{add-one}
+use Prim.Native.Nat.{ℕ, zero, suc, _+_, _-_, _*_, _/_, _%_, _^_, _<_, _≤_}
+use native.Mathlib.Nat.{pow-suc}
 use native.Mathlib.Omega.{arith}
 use lib.Dec.{eqb}
-use lib.ListN.{length, drop, getD, set, length-set, drop-of-length-le}
-use lib.Seq.{drop-cons, drop-length, drop-set-lt, getD-set-same}
+use lib.ListN.{length, drop, set, length-set}
+use lib.Seq.{drop-cons, drop-length, drop-set-lt, getD-set-same, set-at}
 use borrow.Author.Tests.{ne-eqb, le-leb, lt-leb}
 use Rattle.spec.specs.Bytes.{byte, between}
 use Rattle.spec.specs.NTriples.{digits, dropZeros, decimal}
 pub use Rattle.theorems.specs.Labels.{length-digits}
-
--- `from` is behind the leading zeros of `s`
-pub record Zeros (s : List ℕ) (from : ℕ) : Type 0 where
-  pub within : from ≤ length s
-  pub rest : drop from s ≡ dropZeros s
 
 -- What `Decimal::of` answers: the digits, and behind the leading zeros the number as it is written.
 pub record Decimals (v : ℕ) (ds : List ℕ) (from : ℕ) : Type 0 where
@@ -48,22 +44,27 @@ pub record Written (n v₀ v : ℕ) (s : List ℕ) (i : ℕ) : Type 0 where
 pub written-begins : {s : List ℕ} {v : ℕ} → Written (length s) v v s (length s)
 written-begins {s} {v} = record { upto = omega arith; size = refl; rest = rw (drop-length s, append-nil) }
 
-pub written-more : {s : List ℕ} {n v₀ v i : ℕ} → Written n v₀ v s i → 0 < i → Written n v₀ (v / 10) (set s (i - 1) (48 + v % 10)) (i - 1)
+last-digit : (i v : ℕ) (t : List ℕ) → 0 < i → digits i v ++ t ≡ digits (i - 1) (v / 10) ++ ((48 + v % 10) ∷ t)
 unfolding digits
-written-more {s} {n} {v₀} {v} {i} h b =
+last-digit i v t b =
+    let q : i ≡ suc (i - 1) = omega arith in
+    ap (λ (m : ℕ). digits m v ++ t) q ∙ append-assoc (digits (i - 1) (v / 10)) ((48 + v % 10) ∷ []) t
+
+drop-set : (s : List ℕ) (i x : ℕ) → 0 < i → i ≤ length s → drop (i - 1) (set s (i - 1) x) ≡ x ∷ drop i s
+drop-set s i x b within =
     let j : ℕ = i - 1 in
+    let q : suc j ≡ i = omega arith in
+    let at : j < length (set s j x) = rw length-set (omega arith) in
+    drop-cons (set s j x) j 0 at ∙ rw (getD-set-same s j x 0 (omega arith), q, drop-set-lt i s j x (omega arith))
+
+pub written-more : {s : List ℕ} {n v₀ v i : ℕ} → Written n v₀ v s i → 0 < i → Written n v₀ (v / 10) (set s (i - 1) (48 + v % 10)) (i - 1)
+written-more {s} {n} {v₀} {v} {i} h b =
     let x : ℕ = 48 + v % 10 in
-    let q : i ≡ suc j = omega arith in
-    let within : j < length s = omega arith in
-    let within′ : j < length (set s j x) = rw length-set within in
-    let tail : drop j (set s j x) ≡ x ∷ drop (suc j) s =
-    drop-cons (set s j x) j 0 within′ ∙ rw (getD-set-same s j x 0 within, drop-set-lt (suc j) s j x (omega arith)) in
-    let front : digits i v ++ drop i s ≡ digits j (v / 10) ++ (x ∷ drop (suc j) s) =
-    ap (λ (m : ℕ). digits m v ++ drop m s) q ∙ append-assoc (digits j (v / 10)) (x ∷ []) (drop (suc j) s) in
+    let tail : drop (i - 1) (set s (i - 1) x) ≡ x ∷ drop i s = drop-set s i x b (omega arith) in
     record {
       upto = omega arith;
-      size = length-set s j x ∙ h .size;
-      rest = h .rest ∙ (front ∙ ap (digits j (v / 10) ++_) (sym tail));
+      size = length-set s (i - 1) x ∙ h .size;
+      rest = h .rest ∙ (last-digit i v (drop i s) b ∙ ap (digits (i - 1) (v / 10) ++_) (sym tail));
     }
 
 pub written-done : {s : List ℕ} {n v₀ v i : ℕ} → Written n v₀ v s i → i ≤ 0 → s ≡ digits n v₀
@@ -72,40 +73,63 @@ written-done {s} {n} {v₀} {v} {i} h b =
     let q : i ≡ 0 = omega arith in
     sym (h .rest ∙ rw q)
 
--- ---- the loop of `leading_zeros`: `i` zeros are passed
+-- ---- the loop of `Decimal::of`: before `i` are zeros and there is room for `v`; once `v` is 0, no zero is at `i`
 
-pub record Passing (s : List ℕ) (i : ℕ) : Type 0 where
-  pub upto : i ≤ length s
-  pub rest : dropZeros s ≡ dropZeros (drop i s)
+pub record Filled (v₀ v : ℕ) (s : List ℕ) (i : ℕ) : Type 0 where
+  pub written : Written 20 v₀ v s i
+  pub zeros : s ≡ digits i 0 ++ drop i s
+  pub room : v < 10 ^ i
+  pub first : v ≡ 0 → dropZeros (drop i s) ≡ drop i s
 
-zero-first : (c : ℕ) (s : List ℕ) → c ≡ 48 → dropZeros (c ∷ s) ≡ dropZeros s
-unfolding dropZeros byte
-zero-first c s e = rw e
+zeros-first : (k : ℕ) (s : List ℕ) → dropZeros (digits k 0 ++ s) ≡ dropZeros s
+unfolding digits dropZeros byte
+zeros-first zero s = refl
+zeros-first (suc k) s = ap dropZeros (append-assoc (digits k 0) (48 ∷ []) s) ∙ zeros-first k (48 ∷ s)
 
 other-first : (c : ℕ) (s : List ℕ) → (c ≡ 48 → ⊥) → dropZeros (c ∷ s) ≡ c ∷ s
 unfolding dropZeros byte
 other-first c s e = ap (λ (t : Bool). elim t [ true ↦ dropZeros s | false ↦ c ∷ s ]) (ne-eqb c 48 e)
 
-pub passing-begins : {s : List ℕ} → Passing s 0
-passing-begins = record { upto = omega arith; rest = refl }
+-- every u64 has room in twenty digits
+pub filled-begins : {v : ℕ} → v < 18_446_744_073_709_551_616 → Filled v v (digits 20 0) 20
+unfolding digits dropZeros
+filled-begins {v} h = record { written = written-begins; zeros = refl; room = omega arith; first = λ _. refl }
 
-pub passing-stop : {s : List ℕ} {i : ℕ} → Passing s i → i < length s → (getD s i 0 ≡ 48 → ⊥) → Zeros s i
-passing-stop {s} {i} h b e =
-    record { within = h .upto; rest = sym (h .rest ∙ rw (drop-cons s i 0 b) (other-first (getD s i 0) (drop (suc i) s) e)) }
+-- while something is left there is room for its last digit
+pub filled-room : {s : List ℕ} {v₀ v i : ℕ} → Filled v₀ v s i → 0 < v → 0 < i
+filled-room {i = zero} h b = let r = h .room in omega arith
+filled-room {i = suc i} h b = omega arith
 
-pub passing-more : {s : List ℕ} {i : ℕ} → Passing s i → i < length s → getD s i 0 ≡ 48 → Passing s (i + 1)
-passing-more {s} {i} h b e =
-    record { upto = omega arith; rest = h .rest ∙ rw (drop-cons s i 0 b, add-one) (zero-first (getD s i 0) (drop (suc i) s) e) }
+pub filled-more : {s : List ℕ} {v₀ v i : ℕ} → Filled v₀ v s i → 0 < v
+    → Filled v₀ (v / 10) (set s (i - 1) (48 + v % 10)) (i - 1)
+filled-more {s} {v₀} {v} {i} h b =
+    let j : ℕ = i - 1 in
+    let x : ℕ = 48 + v % 10 in
+    let some : 0 < i = filled-room h b in
+    let q : i ≡ suc j = omega arith in
+    let room : v < 10 ^ j * 10 = rw (pow-suc 10 j) at (rw q at (h .room)) in
+    let tail : drop j (set s j x) ≡ x ∷ drop i s = drop-set s i x some (omega (arith, h .written)) in
+    let zeros : s ≡ digits j 0 ++ (48 ∷ drop i s) = h .zeros ∙ last-digit i 0 (drop i s) some in
+    let size : length (digits j 0) ≡ j = length-digits j 0 in
+    record {
+      written = written-more (h .written) some;
+      zeros = ap (λ t. set t j x) zeros ∙ (set-at (digits j 0) 48 (drop i s) x j size ∙ ap (digits j 0 ++_) (sym tail));
+      room = omega (arith, room);
+      first = λ z. rw tail (other-first x (drop i s) λ e. omega arith);
+    }
 
-pub passing-done : {s : List ℕ} {i : ℕ} → Passing s i → length s ≤ i → Zeros s i
-unfolding dropZeros
-passing-done {s} {i} h b = record { within = h .upto; rest = sym (h .rest ∙ rw (drop-of-length-le s b)) }
-
-pub decimal-made : {v : ℕ} {ds : List ℕ} {from : ℕ} → ds ≡ digits 20 v → Zeros ds from → Decimals v ds from
+pub filled-done : {s : List ℕ} {v₀ v i : ℕ} → Filled v₀ v s i → v ≤ 0 → Decimals v₀ s i
 unfolding decimal
-decimal-made {v} {ds} {from} e z =
-    let size : length ds ≡ 20 = ap length e ∙ length-digits 20 v in
-    record { all = e; size = size; within = omega (arith, z .within); text = z .rest ∙ ap dropZeros e }
+filled-done {s} {v₀} {v} {i} h b =
+    let w = h .written in
+    let z : v ≡ 0 = omega arith in
+    let all : digits 20 v₀ ≡ digits i 0 ++ drop i s = w .rest ∙ rw z in
+    record {
+      all = h .zeros ∙ sym all;
+      size = w .size;
+      within = w .upto;
+      text = sym (ap dropZeros all ∙ (zeros-first i (drop i s) ∙ h .first z));
+    }
 
 -- ---- the bytes that are digits
 

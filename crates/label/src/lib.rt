@@ -5,7 +5,7 @@ ghost use Rattle.spec.specs.Bytes.{byte, every, between};
 ghost use Rattle.spec.specs.NTriples.{digits};
 ghost use Rattle.spec.specs.StartTag.{isGenerated, endsInStop};
 ghost use Rattle.label.specs.Label.{Generates};
-ghost use Rattle.label.specs.Digits.{Decimals, Zeros};
+ghost use Rattle.label.specs.Digits.{Decimals};
 
 // A label: `riog` and eight digits.
 pub struct BlankNodeId {
@@ -69,10 +69,15 @@ impl Decimal {
     pub fn of(v: u64) -> Self
         ensures { λ r. ⌜ Decimals v (r .digits) (r .from) ⌝ }
     {
-        let mut digits = [0u8; 20];
-        write_u64_to_slice(v, &mut digits);
-        let from = leading_zeros(&digits);
-        Decimal { digits, from }
+        let mut digits = [b'0'; 20];
+        let mut w = v;
+        let mut i: usize = 20;
+        while 0 < w {
+            i -= 1;
+            digits[i] = b'0' + (w % 10) as u8;
+            w /= 10;
+        }
+        Decimal { digits, from: i }
     }
 }
 
@@ -109,20 +114,6 @@ pub fn ends_in_stop(s: &[u8]) -> bool
         return false;
     }
     s[s.len() - 1] == b'.'
-}
-
-// How many `0` it begins with.
-fn leading_zeros(s: &[u8]) -> usize
-    ensures { λ r. ⌜ Zeros (now (s .entry)) r ⌝ }
-{
-    let mut i = 0;
-    while i < s.len() {
-        if s[i] != b'0' {
-            return i;
-        }
-        i += 1;
-    }
-    i
 }
 
 // Is every byte a digit?
