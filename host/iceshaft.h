@@ -3,8 +3,9 @@
  *
  * Three calls, start, step and finish, on numbers and byte buffers. They allocate nothing, keep
  * nothing between calls but what is in the buffers, and read and write nothing else. Their answers
- * are proved: crates/host/specs/Meets.antt has the contracts, crates/host/specs/Use.antt the rules
- * below as theorems. Link with libhost.a, which `rt staticlib host` writes.
+ * are proved: crates/reader_host/specs/Meets.antt has the contracts, crates/reader_host/specs/Use.antt the rules
+ * below as theorems. Link with libreader_host.a, which `rt staticlib reader_host`
+ * writes.
  */
 #ifndef ICESHAFT_H
 #define ICESHAFT_H

@@ -1,10 +1,10 @@
 #!/bin/sh
-# Builds the host programs over libhost.a and runs their tests. Needs the Rattle kit, and a C compiler for x86-64: gcc, or on
+# Builds the host programs over libreader_host.a and runs their tests. Needs the Rattle kit, and a C compiler for x86-64: gcc, or on
 # another processor x86_64-linux-gnu-gcc, whose programs run under the kit's emulator. CC names another compiler.
 # The last line says what passed; the status is 1 where something failed.
 set -eu
 cd "$(dirname "$0")/.."
-rt staticlib host
+rt staticlib reader_host
 made=target/host
 mkdir -p "$made"
 
@@ -18,7 +18,7 @@ else
     run() { "$emulator" "$@"; }
 fi
 for program in test pyx2nt; do
-    $cc -std=c11 -O2 -Wall -Wextra -Wpedantic -Werror -o "$made/$program" "host/$program.c" target/staticlib/libhost.a
+    $cc -std=c11 -O2 -Wall -Wextra -Wpedantic -Werror -o "$made/$program" "host/$program.c" target/staticlib/libreader_host.a
 done
 
 failed=0

@@ -76,7 +76,7 @@ pub fn parse(s: &[u8]) -> Tag
 }
 
 // An ASCII letter in lower case, and any other byte as it is.
-pub fn lowercase(b: u8) -> u8
+fn lowercase(b: u8) -> u8
     ensures { λ r. ⌜ r ≡ lower b ⌝ }
 {
     if b < b'A' {

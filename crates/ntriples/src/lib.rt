@@ -170,7 +170,7 @@ pub fn rdf_line(
 }
 
 // The four lines that a statement's rdf:ID adds: type, subject, predicate, object.
-pub fn reification(
+fn reification(
     out: &mut [u8],
     at: usize,
     on: bool,

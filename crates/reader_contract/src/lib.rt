@@ -194,7 +194,7 @@ pub fn number_of(r: Refusal) -> u8
 }
 
 // Does it close the document? All do but 1 to 4.
-pub fn closes(r: Refusal) -> bool
+fn closes(r: Refusal) -> bool
     ensures { λ b. ⌜ b ≡ closes r ⌝ }
 {
     number_of(r) > 4

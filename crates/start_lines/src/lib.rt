@@ -141,7 +141,7 @@ pub fn node_lines<'a>(
 }
 
 // An rdf:type line, where `typed` says that there is a type.
-pub fn type_line(
+fn type_line(
     out: &mut [u8],
     at: usize,
     on: bool,

@@ -54,7 +54,7 @@ pub fn parse_type_of(there: bool, value: &[u8]) -> ParseType
 // ---- names of the rdf namespace
 
 // The name behind the rdf namespace; empty where the IRI is not in it.
-pub fn rdf_name(iri: &[u8]) -> &[u8]
+fn rdf_name(iri: &[u8]) -> &[u8]
     ensures { λ r. ⌜ now r ≡ nameInRdf (now (iri .entry)) ⌝ }
 {
     if !copy::begins(iri, &RDF) {
