@@ -1,4 +1,4 @@
-// The attributes of a start tag, by the classes that crate names gives them: read in written order, the first of a role, the lengths of their names.
+// The attributes of a start tag, by the classes that crate start_names gives them: read in written order, the first of a role, the lengths of their names.
 ghost use mathlib.Core.Path.{_≡_};
 ghost use mathlib.Core.List.{_++_};
 ghost use Prim.Native.Nat.{_<_, _≤_};

@@ -1,4 +1,4 @@
--- The words that `pyx` writes of a start tag's attributes are those that `names` reads.
+-- The words that `pyx` writes of a start tag's attributes are those that `start_names` reads.
 use Prim.Native.Nat.{ℕ, zero, suc, _<_}
 use mathlib.Core.Path.{_≡_, refl, sym}
 use mathlib.Core.List.{List}

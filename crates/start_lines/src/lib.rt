@@ -1,5 +1,5 @@
 // The lines of a start tag: its property attributes, its rdf:type, and the type that a node element's name is.
-// Attributes are read where the decoded tag has them; `classes` and `roles` say what each is (crates names and attributes).
+// Attributes are read where the decoded tag has them; `classes` and `roles` say what each is (crates start_names and start_attributes).
 ghost use mathlib.Core.Path.{_≡_};
 ghost use mathlib.Core.List.{_++_};
 ghost use mathlib.Core.Option.{none};

@@ -1,4 +1,4 @@
--- `closing::end_collection` meets its contract. Measured, and then written: one law of specs/ for each return.
+-- `end_tag::end_collection` meets its contract. Measured, and then written: one law of specs/ for each return.
 use mathlib.Core.Path.{refl, _∙_}
 use Rattle.state.specs.Tests.{yes, no}
 use Rattle.writer.specs.Said.{says-not, says-all}

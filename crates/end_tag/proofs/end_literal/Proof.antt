@@ -1,4 +1,4 @@
--- `closing::end_literal` meets its contract. Written where all of it has room: one law of specs/ for each return.
+-- `end_tag::end_literal` meets its contract. Written where all of it has room: one law of specs/ for each return.
 use mathlib.Core.Path.{sym, _∙_}
 use borrow.Author.Tests.{not-true, not-false}
 use Rattle.state.specs.Tests.{yes, no}

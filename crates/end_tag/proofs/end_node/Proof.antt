@@ -1,4 +1,4 @@
--- `closing::end_node` meets its contract. Where what is held fits, the node closes.
+-- `end_tag::end_node` meets its contract. Where what is held fits, the node closes.
 use Rattle.end_tag.specs.Node.{node-over, node-done}
 use native.Mathlib.Omega.{arith}
 use borrow.Author.Needs.{needs}

@@ -1,4 +1,4 @@
--- `closing::end_outside` meets its contract. 6, or the end tag matches.
+-- `end_tag::end_outside` meets its contract. 6, or the end tag matches.
 use mathlib.Core.Path.{refl}
 use borrow.Author.Tests.{not-true, not-false}
 use Rattle.state.specs.Tests.{yes, no}

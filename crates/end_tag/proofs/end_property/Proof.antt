@@ -1,4 +1,4 @@
--- `closing::end_property` meets its contract. Written where all of it has room: one law of specs/ for each return.
+-- `end_tag::end_property` meets its contract. Written where all of it has room: one law of specs/ for each return.
 use borrow.Author.Tests.{not-true, not-false}
 use Rattle.state.specs.Tests.{yes, no}
 use Rattle.end_tag.specs.Ends.{tells-over, tells-full, tells-done}

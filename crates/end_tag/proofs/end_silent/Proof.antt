@@ -1,4 +1,4 @@
--- `closing::end_silent` meets its contract. Held bytes decide.
+-- `end_tag::end_silent` meets its contract. Held bytes decide.
 use Rattle.state.specs.Tests.{yes, no}
 use Rattle.end_tag.specs.Ends.{tells-over, tells-nothing}
 use Rattle.end_tag.specs.Kinds.{silent-tells}

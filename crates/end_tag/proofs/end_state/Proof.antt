@@ -1,4 +1,4 @@
--- `closing::end_state` meets its contract. One match, one call an arm.
+-- `end_tag::end_state` meets its contract. One match, one call an arm.
 use mathlib.Core.Path.{sym, ap, _∙_, refl}
 use Rattle.state_words.specs.declared.Kind.the-variants.{Rdf, ParseTypeOtherPropertyElt}
 use Rattle.state_words.specs.declared.Frame.{Frame}

@@ -1,4 +1,4 @@
--- `closing::held_after` meets its contract. A law of specs/ for each kind of the element around the node.
+-- `end_tag::held_after` meets its contract. A law of specs/ for each kind of the element around the node.
 use mathlib.Core.Path.{sym, _∙_}
 use Rattle.end_tag.specs.Node.{after-object, after-child, after-none}
 use native.Mathlib.Omega.{arith}

@@ -1,4 +1,4 @@
--- `closing::main_size` meets its contract. The difference, where there is one.
+-- `end_tag::main_size` meets its contract. The difference, where there is one.
 use native.Mathlib.Omega.{arith}
 use borrow.Author.Needs.{needs}
 use Rattle.end_tag.proofs.main_size.Statement.{statement}

@@ -1,4 +1,4 @@
--- `closing::say_property` meets its contract. Written at once where that is sure to have room, else measured first.
+-- `end_tag::say_property` meets its contract. Written at once where that is sure to have room, else measured first.
 use mathlib.Core.Path.{refl, _∙_}
 use Rattle.writer.specs.Said.{says-sure, says-not, says-all}
 use native.Mathlib.Omega.{arith}

@@ -1,4 +1,4 @@
--- `report::closes` meets its contract: the numbers from 5 on close.
+-- `reader_contract::closes` meets its contract: the numbers from 5 on close.
 use borrow.Author.Needs.{needs}
 use Rattle.reader_contract.specs.Meets.{closing-numbers}
 use Rattle.reader_contract.proofs.closes.Statement.{statement}

@@ -1,4 +1,4 @@
--- `report::may_finish` meets its contract: the tests are those of the definition.
+-- `reader_contract::may_finish` meets its contract: the tests are those of the definition.
 use borrow.Author.Needs.{needs}
 use Rattle.reader_contract.specs.Meaning.{overIn}
 use Rattle.reader_contract.proofs.may_finish.Statement.{statement}

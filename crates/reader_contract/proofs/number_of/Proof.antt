@@ -1,4 +1,4 @@
--- `report::number_of` meets its contract by cases.
+-- `reader_contract::number_of` meets its contract by cases.
 use borrow.Author.Needs.{needs}
 use Rattle.reader_contract.proofs.number_of.Statement.{statement}
 use Rattle.reader_contract.proofs.number_of.Tie as tie

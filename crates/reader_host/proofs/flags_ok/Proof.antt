@@ -1,4 +1,4 @@
--- `host::flags_ok` meets its contract.
+-- `reader_host::flags_ok` meets its contract.
 use Rattle.reader_host.specs.Image.{flagsOk}
 use borrow.Author.Needs.{needs}
 use Rattle.reader_host.proofs.flags_ok.Statement.{statement}

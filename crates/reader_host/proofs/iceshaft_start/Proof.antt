@@ -1,4 +1,4 @@
--- `host::iceshaft_start` meets its contract.
+-- `reader_host::iceshaft_start` meets its contract.
 use Rattle.reader_host.specs.Calling.{start-bad, start-refused, start-done}
 use borrow.Author.Needs.{needs}
 use Rattle.reader_host.proofs.iceshaft_start.Statement.{statement}

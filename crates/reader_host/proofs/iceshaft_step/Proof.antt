@@ -1,4 +1,4 @@
--- `host::iceshaft_step` meets its contract.
+-- `reader_host::iceshaft_step` meets its contract.
 use borrow.Author.Tests.{not-true, not-false}
 use Rattle.reader_host.specs.Image.{decode-size}
 use Rattle.reader_host.specs.Calling.{step-bad, step-good}

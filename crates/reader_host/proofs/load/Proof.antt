@@ -1,4 +1,4 @@
--- `host::load` meets its contract.
+-- `reader_host::load` meets its contract.
 use mathlib.Core.Path.{sym, _∙_}
 use borrow.Author.Tests.{not-true, not-false}
 use Rattle.reader_host.specs.Image.{decode-short, decode-flags}

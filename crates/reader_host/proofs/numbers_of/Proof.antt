@@ -1,4 +1,4 @@
--- `host::numbers_of` meets its contract.
+-- `reader_host::numbers_of` meets its contract.
 use Rattle.reader_host.specs.Image.{numbersOf}
 use borrow.Author.Needs.{needs}
 use Rattle.reader_host.proofs.numbers_of.Statement.{statement}

@@ -1,4 +1,4 @@
--- `host::read_number` meets its contract.
+-- `reader_host::read_number` meets its contract.
 use Rattle.reader_host.specs.Rows.{eight-read}
 use native.Mathlib.Omega.{arith}
 use borrow.Author.Needs.{needs}

@@ -1,4 +1,4 @@
--- `host::read_word` meets its contract.
+-- `reader_host::read_word` meets its contract.
 use mathlib.Core.Path.{ap, _∙_}
 use Rattle.reader_host.specs.Little.{valueOf}
 use Rattle.reader_host.specs.Rows.{four-read}

@@ -1,4 +1,4 @@
--- `host::read_words` meets its contract. The loop's invariant: the first `i` numbers are read.
+-- `reader_host::read_words` meets its contract. The loop's invariant: the first `i` numbers are read.
 use Prim.Native.Nat.{_-_}
 use lib.ListN.{length}
 use Rattle.reader_host.specs.Rows.{Reading, reading-begins, reading-more, reading-done}

@@ -1,4 +1,4 @@
--- `host::registers_of` meets its contract.
+-- `reader_host::registers_of` meets its contract.
 use Rattle.reader_host.specs.Image.{registersOf}
 use borrow.Author.Needs.{needs}
 use Rattle.reader_host.proofs.registers_of.Statement.{statement}

@@ -1,4 +1,4 @@
--- `host::save` meets its contract: the parts stand end to end.
+-- `reader_host::save` meets its contract: the parts stand end to end.
 use mathlib.Core.Path.{sym}
 use Rattle.reader_host.specs.Saving.{saved}
 use native.Mathlib.Omega.{arith}

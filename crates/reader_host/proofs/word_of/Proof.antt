@@ -1,4 +1,4 @@
--- `host::word_of` meets its contract.
+-- `reader_host::word_of` meets its contract.
 use Rattle.reader_host.specs.Little.{valueOf}
 use native.Mathlib.Omega.{arith}
 use borrow.Author.Needs.{needs}

@@ -1,4 +1,4 @@
--- `host::write_ids` meets its contract.
+-- `reader_host::write_ids` meets its contract.
 use mathlib.Core.Path.{sym}
 use Rattle.reader_host.specs.Saving.{write-both}
 use native.Mathlib.Omega.{arith}

@@ -1,4 +1,4 @@
--- `host::write_number` meets its contract.
+-- `reader_host::write_number` meets its contract.
 use Rattle.reader_host.specs.Rows.{eight-put}
 use native.Mathlib.Omega.{arith}
 use borrow.Author.Needs.{needs}

@@ -1,4 +1,4 @@
--- `host::write_numbers` meets its contract. The loop's invariant: the first `i` numbers stand in their places, and all of them fit.
+-- `reader_host::write_numbers` meets its contract. The loop's invariant: the first `i` numbers stand in their places, and all of them fit.
 use Prim.Native.Nat.{_-_}
 use lib.ListN.{length}
 use Rattle.reader_host.specs.Rows.{Writing, writing-begins, writing-more, writing-done}

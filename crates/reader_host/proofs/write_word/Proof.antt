@@ -1,4 +1,4 @@
--- `host::write_word` meets its contract.
+-- `reader_host::write_word` meets its contract.
 use lib.ListN.{length-set}
 use Rattle.reader_host.specs.Little.{little}
 use Rattle.reader_host.specs.Rows.{four-put}

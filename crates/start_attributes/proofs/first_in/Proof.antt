@@ -1,4 +1,4 @@
--- `attributes::first_in` meets its contract. The loop's invariant: none of the first `i` attributes has the role.
+-- `start_attributes::first_in` meets its contract. The loop's invariant: none of the first `i` attributes has the role.
 use mathlib.Core.Path.{_∙_}
 use Prim.Native.Nat.{_-_}
 use lib.ListN.{length}

@@ -1,4 +1,4 @@
--- `attributes::fits` meets its contract, part by part.
+-- `start_attributes::fits` meets its contract, part by part.
 use Rattle.start_attributes.specs.Short.{front-long, both-long, both-fit}
 use borrow.Author.Needs.{needs}
 use Rattle.start_attributes.proofs.fits.Statement.{statement}

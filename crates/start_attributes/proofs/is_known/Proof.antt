@@ -1,4 +1,4 @@
--- `attributes::is_known` meets its contract, arm by arm.
+-- `start_attributes::is_known` meets its contract, arm by arm.
 use Rattle.spec.specs.Bytes.{ascii}
 use Rattle.start_attributes.specs.Attributes.{knownBy}
 use borrow.Author.Needs.{needs}

@@ -1,4 +1,4 @@
--- `attributes::is_short` meets its contract, by the kind of the class.
+-- `start_attributes::is_short` meets its contract, by the kind of the class.
 use Rattle.spec.specs.Bytes.{ascii}
 use Rattle.spec.specs.Namespaces.{xmlName}
 use Rattle.start_attributes.specs.Short.{short-written, short-expanded}

@@ -1,4 +1,4 @@
--- `attributes::judge_at` meets its contract: 8, then by the role.
+-- `start_attributes::judge_at` meets its contract: 8, then by the role.
 use mathlib.Core.Path.{sym, _∙_}
 use borrow.Author.Tests.{not-true, not-false}
 use Rattle.start_attributes.specs.Attributes.{not-known, is-known}

@@ -1,4 +1,4 @@
--- `attributes::names_short` meets its contract. The loop's invariant: the expanded names of the first `j` attributes are short.
+-- `start_attributes::names_short` meets its contract. The loop's invariant: the expanded names of the first `j` attributes are short.
 use mathlib.Core.Path.{_∙_}
 use Prim.Native.Nat.{_-_}
 use borrow.Author.Tests.{not-true, not-false}

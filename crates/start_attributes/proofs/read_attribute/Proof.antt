@@ -1,4 +1,4 @@
--- `attributes::read_attribute` meets its contract: the role is that of the attribute's class.
+-- `start_attributes::read_attribute` meets its contract: the role is that of the attribute's class.
 use Rattle.start_attributes.specs.Reads.{read-one}
 use borrow.Author.Needs.{needs}
 use Rattle.start_attributes.proofs.read_attribute.Statement.{statement}

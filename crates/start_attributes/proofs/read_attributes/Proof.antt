@@ -1,4 +1,4 @@
--- `attributes::read_attributes` meets its contract. The loop's invariant: the first `j` attributes are read, and nothing is wrong with them.
+-- `start_attributes::read_attributes` meets its contract. The loop's invariant: the first `j` attributes are read, and nothing is wrong with them.
 use Prim.Native.Nat.{_-_}
 use Rattle.start_attributes.specs.Reads.{Reading, reading-begins, reading-more, reading-stops, reading-done}
 use native.Mathlib.Omega.{arith}

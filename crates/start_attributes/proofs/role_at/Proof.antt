@@ -1,4 +1,4 @@
--- `attributes::role_at` meets its contract, by the class.
+-- `start_attributes::role_at` meets its contract, by the class.
 use Rattle.spec.specs.Namespaces.{xmlName}
 use Rattle.spec.specs.Bytes.{ascii}
 use Rattle.start_attributes.specs.Attributes.{no-role-declaration, no-role-unknown, role-unprefixed, role-xml, role-own, role-held, text-unprefixed, text-xml, text-own, text-held}

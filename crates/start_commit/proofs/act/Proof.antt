@@ -1,4 +1,4 @@
--- `acting::act` meets its contract. 2, or all that was judged is done.
+-- `start_commit::act` meets its contract. 2, or all that was judged is done.
 use mathlib.Core.Path.{refl}
 use Rattle.start_commit.specs.Acts.{act-full, act-done}
 use borrow.Author.Tests.{not-true, not-false}

@@ -1,4 +1,4 @@
--- `acting::enter` meets its contract. The same table, or one more in it.
+-- `start_commit::enter` meets its contract. The same table, or one more in it.
 use Rattle.start_commit.specs.Entered.{enters-none, enters-one}
 use mathlib.Core.Path.{sym, _∙_}
 use borrow.Author.Tests.{not-true, not-false}

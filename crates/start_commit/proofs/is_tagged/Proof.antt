@@ -1,4 +1,4 @@
--- `acting::is_tagged` meets its contract: its own tag, or else one around.
+-- `start_commit::is_tagged` meets its contract: its own tag, or else one around.
 use borrow.Author.Needs.{needs}
 use Rattle.start_commit.proofs.is_tagged.Statement.{statement}
 use Rattle.start_commit.proofs.is_tagged.Tie as tie

@@ -1,4 +1,4 @@
--- `acting::language_of` meets its contract. By the source.
+-- `start_commit::language_of` meets its contract. By the source.
 use Rattle.start_commit.specs.Told.{language-around, language-own, language-made}
 use borrow.Author.Needs.{needs}
 use Rattle.start_commit.proofs.language_of.Statement.{statement}

@@ -1,4 +1,4 @@
--- `acting::main_of` meets its contract. Of a span that ends before it starts, nothing.
+-- `start_commit::main_of` meets its contract. Of a span that ends before it starts, nothing.
 use Rattle.start_commit.specs.Told.{span-lent}
 use native.Mathlib.Omega.{arith}
 use borrow.Author.Needs.{needs}

@@ -1,4 +1,4 @@
--- `acting::say` meets its contract. Nothing, or drafted and then copied or written once more.
+-- `start_commit::say` meets its contract. Nothing, or drafted and then copied or written once more.
 use mathlib.Core.Path.{refl, sym}
 use lib.Seq.{length-take-le}
 use Rattle.writer.specs.Said.{says-nothing, drafted-not, drafted-all, drafted-long}

@@ -1,4 +1,4 @@
--- `acting::tell` meets its contract. By the plan.
+-- `start_commit::tell` meets its contract. By the plan.
 use Rattle.start_commit.specs.Told.{told-nothing, told-node, told-object, told-resource}
 use borrow.Author.Needs.{needs}
 use Rattle.start_commit.proofs.tell.Statement.{statement}

@@ -1,4 +1,4 @@
--- `acting::tell_resource` meets its contract. What is lent is what the plan says.
+-- `start_commit::tell_resource` meets its contract. What is lent is what the plan says.
 use Rattle.start_commit.specs.Told.{resource-told}
 use borrow.Author.Needs.{needs}
 use Rattle.start_commit.proofs.tell_resource.Statement.{statement}

@@ -1,4 +1,4 @@
--- `element::append` meets its contract. One write.
+-- `start_element::append` meets its contract. One write.
 use Rattle.start_element.specs.Places.{puts}
 use borrow.Author.Needs.{needs}
 use Rattle.start_element.proofs.append.Statement.{statement}

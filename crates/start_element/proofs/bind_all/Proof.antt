@@ -1,4 +1,4 @@
--- `element::bind_all` meets its contract. The loop's invariant: the attributes from `j` on have their bindings.
+-- `start_element::bind_all` meets its contract. The loop's invariant: the attributes from `j` on have their bindings.
 use Rattle.start_element.specs.Rows.{Entering, entering-begins, entering-fits, entering-more, entering-done}
 use native.Mathlib.Omega.{arith}
 use borrow.Author.Needs.{needs}

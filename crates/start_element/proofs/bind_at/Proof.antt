@@ -1,4 +1,4 @@
--- `element::bind_at` meets its contract. A law of specs/ for each return.
+-- `start_element::bind_at` meets its contract. A law of specs/ for each return.
 use Rattle.start_element.specs.Rows.{binds-none, binds-one}
 use Rattle.start_element.specs.Sizes.{these-bytes}
 use Rattle.start_names.specs.Declarations.{told}

@@ -1,4 +1,4 @@
--- `element::bytes_at` meets its contract. None where attribute j is no declaration.
+-- `start_element::bytes_at` meets its contract. None where attribute j is no declaration.
 use borrow.Author.Tests.{not-true, not-false}
 use Rattle.start_names.specs.Declarations.{told}
 use Rattle.start_element.specs.Sizes.{no-bytes, these-bytes}

@@ -1,4 +1,4 @@
--- `element::commit` meets its contract. What was judged holds still where an rdf:li was counted.
+-- `start_element::commit` meets its contract. What was judged holds still where an rdf:li was counted.
 use Rattle.start_element.specs.Laws.{ready-counted, commits}
 use mathlib.Core.Path.{_∙_}
 use borrow.Author.Needs.{needs}

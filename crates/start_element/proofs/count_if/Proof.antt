@@ -1,4 +1,4 @@
--- `element::count_if` meets its contract. A law of specs/ for each return.
+-- `start_element::count_if` meets its contract. A law of specs/ for each return.
 use Rattle.start_element.specs.Laws.{counts-not, counts-does}
 use borrow.Author.Tests.{not-true, not-false}
 use borrow.Author.Needs.{needs}

@@ -1,4 +1,4 @@
--- `element::declared_size` meets its contract. The loop's invariant: the first `j` attributes have `n` bytes.
+-- `start_element::declared_size` meets its contract. The loop's invariant: the first `j` attributes have `n` bytes.
 use Prim.Native.Nat.{_-_}
 use Rattle.spec.specs.Limits.{mostAttributes}
 use Rattle.start_element.specs.Sizes.{Summed, summed-begins, summed-more, summed-done, few-bytes}

@@ -1,4 +1,4 @@
--- `element::lay` meets its contract. Each part has the room that those before it leave; the writes in a row are one write.
+-- `start_element::lay` meets its contract. Each part has the room that those before it leave; the writes in a row are one write.
 use Rattle.start_element.specs.Places.{spread-name, spread-bound, spread-from, spread-1, spread-2, spread-3, spread-4, spread-5, spread-6, lays}
 use Prim.Native.Nat.{ℕ, _≤_}
 use mir.Val.{Fits}

@@ -1,4 +1,4 @@
--- `element::marks` meets its contract. Mark by mark.
+-- `start_element::marks` meets its contract. Mark by mark.
 use Rattle.spec.specs.Limits.{mostBindings}
 use Rattle.start_element.specs.Places.{marks-are}
 use borrow.Author.Needs.{needs}

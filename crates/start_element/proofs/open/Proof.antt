@@ -1,4 +1,4 @@
--- `element::open` meets its contract. Each call has its room from what was judged; one law makes the whole of what they ensure.
+-- `start_element::open` meets its contract. Each call has its room from what was judged; one law makes the whole of what they ensure.
 use mathlib.Core.Path.{_∙_}
 use Rattle.spec.specs.Limits.{mostBindings}
 use Rattle.start_element.specs.Laws.{name-room, bind-room, lay-room, opens}

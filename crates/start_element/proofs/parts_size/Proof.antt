@@ -1,4 +1,4 @@
--- `element::parts_size` meets its contract. No sum of lengths is too large.
+-- `start_element::parts_size` meets its contract. No sum of lengths is too large.
 use Rattle.start_element.specs.Sizes.{few-text}
 use native.Mathlib.Omega.{arith}
 use borrow.Author.Needs.{needs}

@@ -1,4 +1,4 @@
--- `element::put_text` meets its contract: the part's bytes are written.
+-- `start_element::put_text` meets its contract: the part's bytes are written.
 use borrow.Author.Needs.{needs}
 use Rattle.start_element.proofs.put_text.Statement.{statement}
 use Rattle.start_element.proofs.put_text.Tie as tie

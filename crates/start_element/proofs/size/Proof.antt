@@ -1,4 +1,4 @@
--- `element::size` meets its contract. The lengths of all parts, which are the bytes of the element.
+-- `start_element::size` meets its contract. The lengths of all parts, which are the bytes of the element.
 use mathlib.Core.Path.{ap}
 use lib.ListN.{length}
 use Rattle.spec.specs.Limits.{mostAttributes}

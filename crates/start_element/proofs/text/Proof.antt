@@ -1,4 +1,4 @@
--- `element::text` meets its contract. By the source.
+-- `start_element::text` meets its contract. By the source.
 use Rattle.start_element.specs.Element.{textOf}
 use borrow.Author.Needs.{needs}
 use Rattle.start_element.proofs.text.Statement.{statement}

@@ -1,4 +1,4 @@
--- `lines::emit_property_attr` meets its contract: no line, or that of the attribute by its class.
+-- `start_lines::emit_property_attr` meets its contract: no line, or that of the attribute by its class.
 use Rattle.start_lines.specs.Lines.{no-line, one-line}
 use Rattle.spec.specs.Namespaces.{xmlName}
 use Rattle.spec.specs.Bytes.{ascii}

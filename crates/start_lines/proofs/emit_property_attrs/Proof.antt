@@ -1,4 +1,4 @@
--- `lines::emit_property_attrs` meets its contract. The loop's invariant: the lines of the first `j` attributes are written.
+-- `start_lines::emit_property_attrs` meets its contract. The loop's invariant: the lines of the first `j` attributes are written.
 use Rattle.start_lines.specs.Lines.{Emitting, emitting-begins, emitting-more, emitting-done}
 use Rattle.ntriples.specs.Terms.{subjectOf, idOf as given}
 use Prim.Native.Nat.{_-_}

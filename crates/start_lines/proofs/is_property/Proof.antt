@@ -1,4 +1,4 @@
--- `lines::is_property` meets its contract.
+-- `start_lines::is_property` meets its contract.
 use Rattle.start_lines.specs.Lines.{role-none}
 use borrow.Author.Needs.{needs}
 use Rattle.start_lines.proofs.is_property.Statement.{statement}

@@ -1,4 +1,4 @@
--- `lines::literal_kind` meets its contract.
+-- `start_lines::literal_kind` meets its contract.
 use Rattle.start_lines.specs.Lines.{literalKind}
 use Rattle.start_lines.proofs.literal_kind.Statement.{statement}
 use Rattle.start_lines.proofs.literal_kind.Tie as tie

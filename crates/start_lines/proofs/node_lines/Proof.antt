@@ -1,4 +1,4 @@
--- `lines::node_lines` meets its contract: two rows of lines.
+-- `start_lines::node_lines` meets its contract: two rows of lines.
 use mathlib.Core.Path.{_∙_}
 use Rattle.start_lines.specs.Lines.{lines-then}
 use Rattle.writer.specs.Put.{puts, put-as}

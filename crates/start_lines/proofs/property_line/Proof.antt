@@ -1,4 +1,4 @@
--- `lines::property_line` meets its contract: one line, from what it reads.
+-- `start_lines::property_line` meets its contract: one line, from what it reads.
 use Rattle.writer.specs.Put.{put-as}
 use Rattle.start_lines.specs.Lines.{property-text}
 use borrow.Author.Needs.{needs}

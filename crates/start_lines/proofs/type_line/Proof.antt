@@ -1,4 +1,4 @@
--- `lines::type_line` meets its contract: no line, or one.
+-- `start_lines::type_line` meets its contract: no line, or one.
 use Rattle.start_lines.specs.Lines.{no-type, one-type}
 use Rattle.spec.specs.Bytes.{ascii}
 use borrow.Author.Tests.{not-true, not-false}

@@ -1,4 +1,4 @@
--- `names::all_legal` meets its contract. The loop's invariant: each declaration among the first `j` attributes is legal.
+-- `start_names::all_legal` meets its contract. The loop's invariant: each declaration among the first `j` attributes is legal.
 use Prim.Native.Nat.{_-_}
 use mathlib.Core.Path.{sym, _∙_}
 use borrow.Author.Tests.{not-true, not-false}

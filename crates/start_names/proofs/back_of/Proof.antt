@@ -1,4 +1,4 @@
--- `names::back_of` meets its contract.
+-- `start_names::back_of` meets its contract.
 use Rattle.start_names.specs.Tag.{back-none, back-rest}
 use native.Mathlib.Omega.{arith}
 use borrow.Author.Needs.{needs}

@@ -1,4 +1,4 @@
--- `names::binds` meets its contract.
+-- `start_names::binds` meets its contract.
 use mathlib.Core.Path.{_∙_}
 use borrow.Author.Tests.{not-true, not-false}
 use Rattle.start_names.specs.Declarations.{told, binds-none, binds-declared}

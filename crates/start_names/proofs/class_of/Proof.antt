@@ -1,4 +1,4 @@
--- `names::class_of` meets its contract. By what `lookup` answers.
+-- `start_names::class_of` meets its contract. By what `lookup` answers.
 use Rattle.start_names.specs.Declarations.{told}
 use Rattle.start_names.specs.Classes.{says-class, says-unprefixed}
 use borrow.Author.Needs.{needs}

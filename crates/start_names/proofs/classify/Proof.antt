@@ -1,4 +1,4 @@
--- `names::classify` meets its contract. The loop's invariant: the first `j` attributes have their classes.
+-- `start_names::classify` meets its contract. The loop's invariant: the first `j` attributes have their classes.
 use Prim.Native.Nat.{_-_}
 use Rattle.start_names.specs.Classes.{Classifying, too-few-words, classifying-begins, classifying-own, classifying-done}
 use native.Mathlib.Omega.{arith}

@@ -1,4 +1,4 @@
--- `names::count_declared` meets its contract. The loop's invariant: `n` of the first `j` attributes are declarations.
+-- `start_names::count_declared` meets its contract. The loop's invariant: `n` of the first `j` attributes are declarations.
 use Prim.Native.Nat.{_-_}
 use Rattle.start_names.specs.Declarations.{Counted, counted-begins, counted-more, counted-done, at-most-one}
 use Rattle.start_names.specs.Tag.{attributeAt}

@@ -1,4 +1,4 @@
--- `names::declared_at` meets its contract.
+-- `start_names::declared_at` meets its contract.
 use Rattle.start_names.specs.Declarations.{told, no-binding, one-binding}
 use borrow.Author.Needs.{needs}
 use Rattle.start_names.proofs.declared_at.Statement.{statement}

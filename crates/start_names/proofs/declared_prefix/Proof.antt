@@ -1,4 +1,4 @@
--- `names::declared_prefix` meets its contract.
+-- `start_names::declared_prefix` meets its contract.
 use mathlib.Core.Path.{_∙_}
 use Rattle.start_names.specs.Declarations.{declares-after}
 use borrow.Author.Needs.{needs}

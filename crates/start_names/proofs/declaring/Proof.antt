@@ -1,4 +1,4 @@
--- `names::declaring` meets its contract. The loop's invariant: what the first `i` attributes declare is all that is declared.
+-- `start_names::declaring` meets its contract. The loop's invariant: what the first `i` attributes declare is all that is declared.
 use mathlib.Core.Path.{_≡_, refl}
 use Rattle.spec.specs.Namespaces.{declared}
 use Rattle.start_names.specs.Tag.{attributesOf}

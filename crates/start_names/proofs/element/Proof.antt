@@ -1,4 +1,4 @@
--- `names::element` meets its contract. By what `lookup` answers.
+-- `start_names::element` meets its contract. By what `lookup` answers.
 use mathlib.Core.Path.{refl, ap, _∙_}
 use Rattle.spec.specs.Bytes.{ascii}
 use Rattle.spec.specs.Namespaces.{xmlName, namespace}

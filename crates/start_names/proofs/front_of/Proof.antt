@@ -1,4 +1,4 @@
--- `names::front_of` meets its contract.
+-- `start_names::front_of` meets its contract.
 use mathlib.Core.Path.{_∙_}
 use Rattle.start_names.specs.Tag.{front-none, front-piece}
 use native.Mathlib.Omega.{arith}

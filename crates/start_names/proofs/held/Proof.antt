@@ -1,4 +1,4 @@
--- `names::held` meets its contract. The loop's invariant: none of the rows from `i` on binds the prefix.
+-- `start_names::held` meets its contract. The loop's invariant: none of the rows from `i` on binds the prefix.
 use mathlib.Core.Path.{sym, _∙_}
 use Rattle.start_names.specs.Found.{Sought, sought-begins, sought-more, sought-hit, sought-done}
 use native.Mathlib.Omega.{arith}

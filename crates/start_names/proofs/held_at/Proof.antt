@@ -1,4 +1,4 @@
--- `names::held_at` meets its contract.
+-- `start_names::held_at` meets its contract.
 use Rattle.start_names.specs.Found.{held-read}
 use borrow.Author.Needs.{needs}
 use Rattle.start_names.proofs.held_at.Statement.{statement}

@@ -1,4 +1,4 @@
--- `names::is_declaration` meets its contract. Test by test.
+-- `start_names::is_declaration` meets its contract. Test by test.
 use mathlib.Core.Path.{sym, _∙_}
 use Rattle.spec.specs.Bytes.{ascii}
 use Rattle.start_names.specs.Declarations.{plainly, begins-decides}

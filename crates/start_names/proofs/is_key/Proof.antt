@@ -1,4 +1,4 @@
--- `names::is_key` meets its contract. Where the classes are one, the names tell; else the texts do, if the kinds are the same.
+-- `start_names::is_key` meets its contract. Where the classes are one, the names tell; else the texts do, if the kinds are the same.
 use Rattle.spec.specs.Bytes.{ascii}
 use Rattle.spec.specs.Namespaces.{xmlName}
 use Rattle.start_names.specs.Classes.{key-behind, key-other, key-texts}

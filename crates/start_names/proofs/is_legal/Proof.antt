@@ -1,4 +1,4 @@
--- `names::is_legal` meets its contract. Test by test.
+-- `start_names::is_legal` meets its contract. Test by test.
 use mathlib.Core.Path.{sym, _∙_}
 use Rattle.spec.specs.Bytes.{ascii}
 use Rattle.spec.specs.Namespaces.{xmlName, xmlnsName}

@@ -1,4 +1,4 @@
--- `names::key_behind` meets its contract. The loop's invariant: none of the attributes between `j` and `i` repeats attribute `j`.
+-- `start_names::key_behind` meets its contract. The loop's invariant: none of the attributes between `j` and `i` repeats attribute `j`.
 use Prim.Native.Nat.{_-_}
 use mathlib.Core.Path.{sym, _∙_}
 use Rattle.spec.specs.Bytes.{ascii}

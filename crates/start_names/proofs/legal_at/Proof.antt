@@ -1,4 +1,4 @@
--- `names::legal_at` meets its contract.
+-- `start_names::legal_at` meets its contract.
 use mathlib.Core.Path.{_∙_}
 use borrow.Author.Tests.{not-true, not-false}
 use Rattle.start_names.specs.Declarations.{told, legal-other, legal-declared}

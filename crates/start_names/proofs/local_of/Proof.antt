@@ -1,4 +1,4 @@
--- `names::local_of` meets its contract.
+-- `start_names::local_of` meets its contract.
 use mathlib.Core.Path.{_∙_}
 use Rattle.start_names.specs.Tag.{back-read}
 use borrow.Author.Needs.{needs}

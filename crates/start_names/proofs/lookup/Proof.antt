@@ -1,4 +1,4 @@
--- `names::lookup` meets its contract. `xml`, then what `own` answers, then `held`.
+-- `start_names::lookup` meets its contract. `xml`, then what `own` answers, then `held`.
 use mathlib.Core.Path.{refl, sym, _∙_}
 use Rattle.spec.specs.Bytes.{ascii}
 use Rattle.start_names.specs.Found.{foundBytes, found-xml, found-own, found-held}

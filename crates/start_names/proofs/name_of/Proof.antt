@@ -1,4 +1,4 @@
--- `names::name_of` meets its contract.
+-- `start_names::name_of` meets its contract.
 use mathlib.Core.Path.{_∙_}
 use Rattle.start_names.specs.Tag.{name-read}
 use borrow.Author.Needs.{needs}

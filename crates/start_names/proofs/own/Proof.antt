@@ -1,4 +1,4 @@
--- `names::own` meets its contract. The loop's invariant: none of the first `j` attributes binds the prefix.
+-- `start_names::own` meets its contract. The loop's invariant: none of the first `j` attributes binds the prefix.
 use Prim.Native.Nat.{_-_}
 use mathlib.Core.Path.{sym, _∙_}
 use Rattle.start_names.specs.Found.{Passed, passed-begins, passed-more, passed-hit, passed-done}

@@ -1,4 +1,4 @@
--- `names::own_at` meets its contract.
+-- `start_names::own_at` meets its contract.
 use Rattle.start_names.specs.Found.{own-words}
 use borrow.Author.Needs.{needs}
 use Rattle.start_names.proofs.own_at.Statement.{statement}

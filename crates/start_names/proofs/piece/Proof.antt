@@ -1,4 +1,4 @@
--- `names::piece` meets its contract.
+-- `start_names::piece` meets its contract.
 use Rattle.copy.specs.Copy.{part-of}
 use Rattle.start_names.specs.Tag.{piece-none, piece-end}
 use native.Mathlib.Omega.{arith}

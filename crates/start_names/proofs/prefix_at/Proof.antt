@@ -1,4 +1,4 @@
--- `names::prefix_at` meets its contract.
+-- `start_names::prefix_at` meets its contract.
 use Rattle.start_names.specs.Found.{prefix-read, row-start}
 use mathlib.Core.Path.{_∙_}
 use borrow.Author.Needs.{needs}

@@ -1,4 +1,4 @@
--- `names::prefix_of` meets its contract.
+-- `start_names::prefix_of` meets its contract.
 use mathlib.Core.Path.{_∙_}
 use Rattle.start_names.specs.Tag.{front-read}
 use borrow.Author.Needs.{needs}

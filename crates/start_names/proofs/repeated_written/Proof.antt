@@ -1,4 +1,4 @@
--- `names::repeated_written` meets its contract. The loop's invariant: none of the first `j` attributes has its name repeated.
+-- `start_names::repeated_written` meets its contract. The loop's invariant: none of the first `j` attributes has its name repeated.
 use Prim.Native.Nat.{_-_}
 use mathlib.Core.Path.{sym, _∙_}
 use Rattle.start_names.specs.Pairs.{Unpaired, unpaired-begins, unpaired-hit, unpaired-more, unpaired-done}

@@ -1,4 +1,4 @@
--- `names::row_word` meets its contract.
+-- `start_names::row_word` meets its contract.
 use Rattle.start_names.specs.Tag.{word-none}
 use native.Mathlib.Omega.{arith}
 use borrow.Author.Needs.{needs}

@@ -1,4 +1,4 @@
--- `names::same_from_shorter` meets its contract. Test by test: lengths first, then the last bytes, and the fronts at last.
+-- `start_names::same_from_shorter` meets its contract. Test by test: lengths first, then the last bytes, and the fronts at last.
 use mathlib.Core.Path.{sym, _∙_}
 use borrow.Author.Tests.{not-true, not-false}
 use Rattle.copy.specs.Copy.{rest-of}

@@ -1,4 +1,4 @@
--- `names::same_joined` meets its contract.
+-- `start_names::same_joined` meets its contract.
 use mathlib.Core.Path.{_∙_}
 use Rattle.start_names.specs.Joined.{same-sym}
 use borrow.Author.Needs.{needs}

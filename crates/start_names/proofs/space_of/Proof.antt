@@ -1,4 +1,4 @@
--- `names::space_of` meets its contract, by the class.
+-- `start_names::space_of` meets its contract, by the class.
 use borrow.Author.Needs.{needs}
 use Rattle.start_names.proofs.space_of.Statement.{statement}
 use Rattle.start_names.proofs.space_of.Tie as tie

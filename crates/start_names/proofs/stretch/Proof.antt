@@ -1,4 +1,4 @@
--- `names::stretch` meets its contract: all of it is there, or it is a piece.
+-- `start_names::stretch` meets its contract: all of it is there, or it is a piece.
 use Rattle.copy.specs.Copy.{part-of}
 use borrow.Author.Needs.{needs}
 use Rattle.start_names.proofs.stretch.Statement.{statement}

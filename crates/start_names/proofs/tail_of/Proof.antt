@@ -1,4 +1,4 @@
--- `names::tail_of` meets its contract, by the class.
+-- `start_names::tail_of` meets its contract, by the class.
 use borrow.Author.Needs.{needs}
 use Rattle.start_names.proofs.tail_of.Statement.{statement}
 use Rattle.start_names.proofs.tail_of.Tie as tie

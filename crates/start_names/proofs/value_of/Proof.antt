@@ -1,4 +1,4 @@
--- `names::value_of` meets its contract.
+-- `start_names::value_of` meets its contract.
 use mathlib.Core.Path.{_∙_}
 use Rattle.start_names.specs.Tag.{value-read}
 use borrow.Author.Needs.{needs}

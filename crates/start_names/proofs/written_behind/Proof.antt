@@ -1,4 +1,4 @@
--- `names::written_behind` meets its contract. The loop's invariant: none of the attributes between `j` and `i` has the name of attribute `j`.
+-- `start_names::written_behind` meets its contract. The loop's invariant: none of the attributes between `j` and `i` has the name of attribute `j`.
 use Prim.Native.Nat.{_-_}
 use mathlib.Core.Path.{_∙_}
 use Rattle.start_names.specs.Pairs.{Alone, alone-begins, alone-hit, alone-more, alone-done, none-behind}

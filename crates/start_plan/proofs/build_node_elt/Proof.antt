@@ -1,4 +1,4 @@
--- `plan::build_node_elt` meets its contract: a law for each return.
+-- `start_plan::build_node_elt` meets its contract: a law for each return.
 use Rattle.start_plan.specs.Plan.{node-made}
 use mathlib.Core.Path.{sym, _∙_}
 use native.Mathlib.Omega.{arith}

@@ -1,4 +1,4 @@
--- `plan::default` meets its contract: a law for each return.
+-- `start_plan::default` meets its contract: a law for each return.
 use Rattle.start_plan.specs.Plan.{default-none, default-some}
 use mathlib.Core.Path.{sym, _∙_}
 use native.Mathlib.Omega.{arith}

@@ -1,4 +1,4 @@
--- `plan::object_of` meets its contract: a law for each return.
+-- `start_plan::object_of` meets its contract: a law for each return.
 use Rattle.start_plan.specs.Plan.{as-resource, as-node, as-label, as-nothing}
 use mathlib.Core.Path.{sym, _∙_}
 use native.Mathlib.Omega.{arith}

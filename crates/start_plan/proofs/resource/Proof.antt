@@ -1,4 +1,4 @@
--- `plan::resource` meets its contract: a law for each return.
+-- `start_plan::resource` meets its contract: a law for each return.
 use native.Mathlib.Omega.{arith}
 use borrow.Author.Needs.{needs}
 use Rattle.start_plan.proofs.resource.Statement.{statement}

@@ -1,4 +1,4 @@
--- `plan::subject_of` meets its contract: a law for each return.
+-- `start_plan::subject_of` meets its contract: a law for each return.
 use Rattle.start_plan.specs.Plan.{by-id, by-about, by-node, by-label}
 use mathlib.Core.Path.{sym, _∙_}
 use native.Mathlib.Omega.{arith}

@@ -1,4 +1,4 @@
--- `references::base_of` meets its contract: by where xml:base stands.
+-- `start_references::base_of` meets its contract: by where xml:base stands.
 use Rattle.start_references.specs.Values.{bases-own, bases-other}
 use borrow.Author.Needs.{needs}
 use Rattle.start_references.proofs.base_of.Statement.{statement}

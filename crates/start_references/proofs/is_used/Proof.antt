@@ -1,4 +1,4 @@
--- `references::is_used` meets its contract.
+-- `start_references::is_used` meets its contract.
 use Rattle.start_references.specs.References.{used-missing, used-bad, used-long, used-made}
 use borrow.Author.Needs.{needs}
 use Rattle.start_references.proofs.is_used.Statement.{statement}

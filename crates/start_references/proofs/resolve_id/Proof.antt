@@ -1,4 +1,4 @@
--- `references::resolve_id` meets its contract.
+-- `start_references::resolve_id` meets its contract.
 use mathlib.Core.Path.{ap}
 use lib.ListN.{length}
 use Rattle.start_references.specs.Reference.{given}

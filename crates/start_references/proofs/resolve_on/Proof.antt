@@ -1,4 +1,4 @@
--- `references::resolve_on` meets its contract: rdf:ID is resolved, not bad and not used, then the others are.
+-- `start_references::resolve_on` meets its contract: rdf:ID is resolved, not bad and not used, then the others are.
 use mathlib.Core.Path.{sym, _∙_}
 use Rattle.start_references.specs.References.{fiveAt, stop-bad, stop-used, stop-others, all-resolved}
 use Rattle.start_references.specs.Reference.{given}

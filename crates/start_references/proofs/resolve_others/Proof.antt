@@ -1,4 +1,4 @@
--- `references::resolve_others` meets its contract.
+-- `start_references::resolve_others` meets its contract.
 use Rattle.start_references.specs.References.{fiveAt, four-made}
 use borrow.Author.Needs.{needs}
 use Rattle.start_references.proofs.resolve_others.Statement.{statement}

@@ -1,4 +1,4 @@
--- `references::resolve_references` meets its contract: the base is the value of the first xml:base, or what was found in force.
+-- `start_references::resolve_references` meets its contract: the base is the value of the first xml:base, or what was found in force.
 use Rattle.start_references.specs.References.{freshBy, fiveAt, base-as}
 use Rattle.start_references.specs.Values.{bases-most, based}
 use native.Mathlib.Omega.{arith}

@@ -1,4 +1,4 @@
--- `production::is_rdf` meets its contract: what stands behind the namespace decides.
+-- `start_rules::is_rdf` meets its contract: what stands behind the namespace decides.
 use Rattle.start_rules.specs.Names.{is-rdf-name}
 use Rattle.spec.specs.Bytes.{ascii, isEmpty}
 use mathlib.Core.Path.{refl, _∙_}

@@ -1,4 +1,4 @@
--- `production::is_reserved_property` meets its contract, by its term.
+-- `start_rules::is_reserved_property` meets its contract, by its term.
 use mathlib.Core.Path.{_∙_}
 use Rattle.start_rules.specs.Names.{property-by-term}
 use borrow.Author.Needs.{needs}

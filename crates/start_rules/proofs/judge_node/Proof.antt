@@ -1,4 +1,4 @@
--- `production::judge_node` meets its contract: the refusals in their order.
+-- `start_rules::judge_node` meets its contract: the refusals in their order.
 use Rattle.start_rules.specs.Judged.{node-reserved, node-two, node-spent, node-good}
 use mathlib.Core.Path.{sym, _∙_}
 use borrow.Author.Needs.{needs}

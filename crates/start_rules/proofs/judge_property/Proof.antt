@@ -1,4 +1,4 @@
--- `production::judge_property` meets its contract: the refusals in their order.
+-- `start_rules::judge_property` meets its contract: the refusals in their order.
 use Rattle.start_rules.specs.Judged.{property-reserved, property-two, property-counted, property-spent, property-good}
 use mathlib.Core.Path.{sym, _∙_}
 use borrow.Author.Needs.{needs}

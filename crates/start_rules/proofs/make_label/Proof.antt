@@ -1,4 +1,4 @@
--- `production::make_label` meets its contract: a label is left, and its bytes are stored.
+-- `start_rules::make_label` meets its contract: a label is left, and its bytes are stored.
 use Rattle.start_rules.specs.Made.{label-made}
 use borrow.Author.Needs.{needs}
 use Rattle.start_rules.proofs.make_label.Statement.{statement}

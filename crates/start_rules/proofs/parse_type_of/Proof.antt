@@ -1,4 +1,4 @@
--- `production::parse_type_of` meets its contract, test by test.
+-- `start_rules::parse_type_of` meets its contract, test by test.
 use Rattle.start_rules.specs.Judged.{parse-absent, parse-collection, parse-resource, parse-literal, parse-other}
 use Rattle.spec.specs.Bytes.{ascii}
 use borrow.Author.Tests.{not-true, not-false}

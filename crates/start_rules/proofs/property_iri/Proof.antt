@@ -1,4 +1,4 @@
--- `production::property_iri` meets its contract: the namespace, `_`, the digits.
+-- `start_rules::property_iri` meets its contract: the namespace, `_`, the digits.
 use Rattle.start_rules.specs.Made.{iri-made}
 use Rattle.spec.specs.Limits.{mostLabels}
 use Rattle.spec.specs.Bytes.{ascii}

@@ -1,4 +1,4 @@
--- `production::rdf_name` meets its contract: an IRI of the namespace begins with it.
+-- `start_rules::rdf_name` meets its contract: an IRI of the namespace begins with it.
 use Rattle.start_rules.specs.Names.{name-outside, name-inside}
 use Rattle.copy.specs.Texts.{begins-length}
 use Rattle.spec.specs.Bytes.{ascii}

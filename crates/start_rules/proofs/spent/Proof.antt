@@ -1,4 +1,4 @@
--- `production::spent` meets its contract.
+-- `start_rules::spent` meets its contract.
 use Rattle.start_rules.specs.Judged.{spent-by}
 use borrow.Author.Tests.{not-true, not-false}
 use Rattle.start_rules.proofs.spent.Statement.{statement}

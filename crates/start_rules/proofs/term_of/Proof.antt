@@ -1,4 +1,4 @@
--- `production::term_of` meets its contract: the name behind the namespace tells.
+-- `start_rules::term_of` meets its contract: the name behind the namespace tells.
 use mathlib.Core.Path.{sym, _∙_}
 use Rattle.start_rules.specs.Names.{name-term}
 use borrow.Author.Needs.{needs}

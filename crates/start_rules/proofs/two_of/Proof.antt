@@ -1,4 +1,4 @@
--- `production::two_of` meets its contract.
+-- `start_rules::two_of` meets its contract.
 use Rattle.start_rules.specs.Judged.{first-there}
 use Rattle.start_rules.proofs.two_of.Statement.{statement}
 use Rattle.start_rules.proofs.two_of.Tie as tie

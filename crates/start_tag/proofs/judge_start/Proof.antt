@@ -1,4 +1,4 @@
--- `starting::judge_start` meets its contract.
+-- `start_tag::judge_start` meets its contract.
 use mathlib.Core.Path.{_∙_}
 use Rattle.state_ids.specs.Ids.{spans-in}
 use Rattle.start_tag.specs.Starting.{form-stops, tag-asks, read-stops, ready-behind, start-judged}

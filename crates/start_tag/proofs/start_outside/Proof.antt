@@ -1,4 +1,4 @@
--- `starting::start_outside` meets its contract.
+-- `start_tag::start_outside` meets its contract.
 use mathlib.Core.Path.{refl}
 use Rattle.start_tag.specs.Starting.{judge-asks, start-stops, start-goes}
 use native.Mathlib.Omega.{arith}

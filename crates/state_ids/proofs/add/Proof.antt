@@ -1,4 +1,4 @@
--- `ids::add` meets its contract: what room there is bounds the next place and its numbers.
+-- `state_ids::add` meets its contract: what room there is bounds the next place and its numbers.
 use mathlib.Core.Path.{sym, _∙_}
 use borrow.Author.Tests.{not-true, not-false}
 use Rattle.spec.specs.Limits.{mostIds, mostIdBytes, mostNameBytes}

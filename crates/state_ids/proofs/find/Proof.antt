@@ -1,4 +1,4 @@
--- `ids::find` meets its contract. The loop's invariant: none of the places from `i` on has the ID.
+-- `state_ids::find` meets its contract. The loop's invariant: none of the places from `i` on has the ID.
 use Rattle.spec.specs.Limits.{mostIds}
 use Rattle.state_ids.specs.Walks.{Sought, sought-begins, sought-none, sought-hit, sought-more, sought-done}
 use mathlib.Core.Path.{sym, _∙_}

@@ -1,4 +1,4 @@
--- `ids::is_at` meets its contract.
+-- `state_ids::is_at` meets its contract.
 use mathlib.Core.Path.{ap, _∙_}
 use Rattle.spec.specs.Bytes.{same}
 use Rattle.copy.specs.Copy.{part-of}

@@ -1,4 +1,4 @@
--- `ids::room` meets its contract. That the constants of `IdTable` are the limits of document 01 is seen where those unfold.
+-- `state_ids::room` meets its contract. That the constants of `IdTable` are the limits of document 01 is seen where those unfold.
 use Rattle.spec.specs.Limits.{mostIds, mostIdBytes, mostNameBytes}
 use Rattle.state_ids.specs.Ids.{no-place, too-long, no-bytes, bytes-decide}
 use native.Mathlib.Omega.{arith}

@@ -1,4 +1,4 @@
--- `ids::valid` meets its contract. The loop's invariant: the places from `i` on lie end to end from `end` to `used`.
+-- `state_ids::valid` meets its contract. The loop's invariant: the places from `i` on lie end to end from `end` to `used`.
 use Rattle.spec.specs.Limits.{idStoreBytes, mostIds, mostIdBytes, mostNameBytes}
 use Rattle.state_ids.specs.Walks.{Walked, walked-begins, walked-long, walked-apart, walked-more, walked-done, other-store, too-many, too-full, spans-decide}
 use native.Mathlib.Omega.{arith}

@@ -1,4 +1,4 @@
--- `inside::base_in_force` meets its contract. A law of specs/ for each return, with the tests that led there.
+-- `state_inner::base_in_force` meets its contract. A law of specs/ for each return, with the tests that led there.
 use Rattle.state_inner.specs.Calls.{base-own, base-start}
 use borrow.Author.Needs.{needs}
 use Rattle.state_inner.proofs.base_in_force.Statement.{statement}

@@ -1,4 +1,4 @@
--- `inside::ceiling` meets its contract. A law of specs/ for each return, with the tests that led there.
+-- `state_inner::ceiling` meets its contract. A law of specs/ for each return, with the tests that led there.
 use Rattle.state_inner.specs.Calls.{ceiling-none, ceiling-there}
 use mathlib.Core.Path.{_∙_}
 use borrow.Author.Needs.{needs}

@@ -1,4 +1,4 @@
--- `inside::close_inside` meets its contract. A law of specs/ for each return, with the tests that led there.
+-- `state_inner::close_inside` meets its contract. A law of specs/ for each return, with the tests that led there.
 use Rattle.state_inner.specs.Calls.{close-none, close-done}
 use borrow.Author.Needs.{needs}
 use Rattle.state_inner.proofs.close_inside.Statement.{statement}

@@ -1,4 +1,4 @@
--- `inside::held` meets its contract. A law of specs/ for each return, with the tests that led there.
+-- `state_inner::held` meets its contract. A law of specs/ for each return, with the tests that led there.
 use Rattle.state_inner.specs.Calls.{held-wild, held-crossed, held-is}
 use native.Mathlib.Omega.{arith}
 use borrow.Author.Needs.{needs}

@@ -1,4 +1,4 @@
--- `inside::holds_no_more` meets its contract. From what the calls ensure.
+-- `state_inner::holds_no_more` meets its contract. From what the calls ensure.
 use Rattle.spec.specs.Limits.{mostHeldBytes}
 use borrow.Author.Needs.{needs}
 use Rattle.state_inner.proofs.holds_no_more.Statement.{statement}

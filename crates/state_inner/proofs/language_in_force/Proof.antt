@@ -1,4 +1,4 @@
--- `inside::language_in_force` meets its contract. From what the calls ensure.
+-- `state_inner::language_in_force` meets its contract. From what the calls ensure.
 use Rattle.state_inner.specs.Calls.{languageIn}
 use borrow.Author.Needs.{needs}
 use Rattle.state_inner.proofs.language_in_force.Statement.{statement}

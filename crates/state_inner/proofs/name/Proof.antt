@@ -1,4 +1,4 @@
--- `inside::name` meets its contract. A law of specs/ for each return, with the tests that led there.
+-- `state_inner::name` meets its contract. A law of specs/ for each return, with the tests that led there.
 use Rattle.state_inner.specs.Calls.{name-inside, name-none, name-top}
 use native.Mathlib.Omega.{arith}
 use borrow.Author.Needs.{needs}

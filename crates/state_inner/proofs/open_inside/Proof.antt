@@ -1,4 +1,4 @@
--- `inside::open_inside` meets its contract. A law of specs/ for each return, with the tests that led there.
+-- `state_inner::open_inside` meets its contract. A law of specs/ for each return, with the tests that led there.
 use Rattle.state_inner.specs.Calls.{open-deep, open-far, open-long, open-many, open-short, open-done}
 use borrow.Author.Tests.{not-true, not-false}
 use native.Mathlib.Omega.{arith}

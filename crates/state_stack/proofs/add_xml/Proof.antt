@@ -1,4 +1,4 @@
--- `stack::add_xml` meets its contract. A law of specs/ for each return, with the tests that led there.
+-- `state_stack::add_xml` meets its contract. A law of specs/ for each return, with the tests that led there.
 use Rattle.state_stack.specs.Calls.{xml-dropped, xml-other, xml-done}
 use Rattle.state.specs.Tests.{yes, no}
 use mathlib.Core.Path.{_∙_, sym, refl}

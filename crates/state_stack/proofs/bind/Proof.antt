@@ -1,4 +1,4 @@
--- `stack::bind` meets its contract. A law of specs/ for each return, with the tests that led there.
+-- `state_stack::bind` meets its contract. A law of specs/ for each return, with the tests that led there.
 use borrow.Author.Tests.{not-true, not-false}
 use Rattle.state_stack.specs.Calls.{bind-large, bind-full, bind-short, bind-done}
 use native.Mathlib.Omega.{arith}

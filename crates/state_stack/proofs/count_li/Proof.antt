@@ -1,4 +1,4 @@
--- `stack::count_li` meets its contract. A law of specs/ for each return, with the tests that led there.
+-- `state_stack::count_li` meets its contract. A law of specs/ for each return, with the tests that led there.
 use mathlib.Core.Path.{refl}
 use Rattle.state_stack.specs.Calls.{count-other, count-empty, count-spent, count-done}
 use Rattle.state.specs.Tests.{yes, no}

@@ -1,4 +1,4 @@
--- `stack::pop` meets its contract. A law of specs/ for each return, with the tests that led there.
+-- `state_stack::pop` meets its contract. A law of specs/ for each return, with the tests that led there.
 use Rattle.state_stack.specs.Calls.{pop-inside, pop-empty, pop-done}
 use native.Mathlib.Omega.{arith}
 use borrow.Author.Needs.{needs}

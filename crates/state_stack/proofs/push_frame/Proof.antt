@@ -1,4 +1,4 @@
--- `stack::push_frame` meets its contract. A law of specs/ for each return, with the tests that led there.
+-- `state_stack::push_frame` meets its contract. A law of specs/ for each return, with the tests that led there.
 use Rattle.state_stack.specs.Calls.{push-inside, push-deep, push-short, push-done}
 use borrow.Author.Tests.{not-true, not-false}
 use native.Mathlib.Omega.{arith}

@@ -1,4 +1,4 @@
--- `stack::same_kind` meets its contract. From what the calls ensure.
+-- `state_stack::same_kind` meets its contract. From what the calls ensure.
 use borrow.Author.Needs.{needs}
 use Rattle.state_stack.proofs.same_kind.Statement.{statement}
 use Rattle.state_stack.proofs.same_kind.Tie as tie

@@ -1,4 +1,4 @@
--- `stack::set_text` meets its contract. A law of specs/ for each return, with the tests that led there.
+-- `state_stack::set_text` meets its contract. A law of specs/ for each return, with the tests that led there.
 use Rattle.state_stack.specs.Calls.{text-other, text-done}
 use Rattle.state.specs.Tests.{yes, no}
 use borrow.Author.Needs.{needs}

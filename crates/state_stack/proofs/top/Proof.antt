@@ -1,4 +1,4 @@
--- `stack::top` meets its contract. A law of specs/ for each return, with the tests that led there.
+-- `state_stack::top` meets its contract. A law of specs/ for each return, with the tests that led there.
 use Rattle.state_stack.specs.Calls.{top-none, top-there}
 use mathlib.Core.Path.{_∙_}
 use borrow.Author.Needs.{needs}

@@ -1,4 +1,4 @@
--- `stack::write_tail` meets its contract. A law of specs/ for each return, with the tests that led there.
+-- `state_stack::write_tail` meets its contract. A law of specs/ for each return, with the tests that led there.
 use Rattle.state_stack.specs.Calls.{tail-empty, tail-large, tail-beyond, tail-full, tail-short, tail-done}
 use borrow.Author.Tests.{not-true, not-false}
 use native.Mathlib.Omega.{arith}

@@ -1,4 +1,4 @@
--- `statements::cell` meets its contract. Two lines; what follows the cell is the list so far, or rdf:nil.
+-- `end_tag::statements::cell` meets its contract. Two lines; what follows the cell is the list so far, or rdf:nil.
 use mathlib.Core.Path.{ap, _∙_}
 use Rattle.spec.specs.Limits.{mostLabels}
 use Rattle.spec.specs.Bytes.{ascii}

@@ -1,4 +1,4 @@
--- `statements::cells` meets its contract. The loop's invariant: what is written, and the cells of the children that are left, are the cells of all.
+-- `end_tag::statements::cells` meets its contract. The loop's invariant: what is written, and the cells of the children that are left, are the cells of all.
 use mathlib.Core.Path.{refl}
 use Rattle.spec.specs.Limits.{mostLabels}
 use Rattle.end_tag.specs.Cells.{Celled, celled-begins, celled-more, celled-done}

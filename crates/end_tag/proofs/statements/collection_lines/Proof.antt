@@ -1,4 +1,4 @@
--- `statements::collection_lines` meets its contract. The cells, and then the statement with their head.
+-- `end_tag::statements::collection_lines` meets its contract. The cells, and then the statement with their head.
 use Prim.Native.Nat.{_+_}
 use mathlib.Core.Path.{ap, _∙_}
 use Rattle.spec.specs.Limits.{mostLabels}

@@ -1,4 +1,4 @@
--- `statements::label_of` meets its contract. The next label behind `n - 1`.
+-- `end_tag::statements::label_of` meets its contract. The next label behind `n - 1`.
 use Rattle.spec.specs.Limits.{mostLabels}
 use Rattle.end_tag.specs.Cells.{next-label}
 use native.Mathlib.Omega.{arith}

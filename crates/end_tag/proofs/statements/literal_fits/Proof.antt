@@ -1,4 +1,4 @@
--- `statements::literal_fits` meets its contract. Its object is a text with a datatype.
+-- `end_tag::statements::literal_fits` meets its contract. Its object is a text with a datatype.
 use Rattle.end_tag.specs.Room.{literal-fits}
 use borrow.Author.Needs.{needs}
 use Rattle.end_tag.proofs.statements.literal_fits.Statement.{statement}

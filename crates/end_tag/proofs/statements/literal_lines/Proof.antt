@@ -1,4 +1,4 @@
--- `statements::literal_lines` meets its contract. `RDF_XML_LITERAL` is the name of the definitions.
+-- `end_tag::statements::literal_lines` meets its contract. `RDF_XML_LITERAL` is the name of the definitions.
 use Rattle.spec.specs.Bytes.{ascii}
 use Rattle.spec.specs.Rdf.{rdf}
 use Rattle.ntriples.specs.Terms.{termOf}

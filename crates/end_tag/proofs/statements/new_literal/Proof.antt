@@ -1,4 +1,4 @@
--- `statements::new_literal` meets its contract. Datatype beats language.
+-- `end_tag::statements::new_literal` meets its contract. Datatype beats language.
 use Rattle.end_tag.specs.Object.{literal-typed, literal-tagged, literal-plain}
 use native.Mathlib.Omega.{arith}
 use Rattle.end_tag.proofs.statements.new_literal.Statement.{statement}

@@ -1,4 +1,4 @@
--- `statements::object_room` meets its contract. By the mark of the object.
+-- `end_tag::statements::object_room` meets its contract. By the mark of the object.
 use borrow.Author.Tests.{eq-eqb, ne-eqb}
 use native.Mathlib.Omega.{arith}
 use borrow.Author.Needs.{needs}

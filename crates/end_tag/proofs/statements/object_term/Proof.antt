@@ -1,4 +1,4 @@
--- `statements::object_term` meets its contract. By the mark of the tail.
+-- `end_tag::statements::object_term` meets its contract. By the mark of the tail.
 use Rattle.end_tag.specs.Object.{term-named, term-blank, term-literal}
 use borrow.Author.Needs.{needs}
 use Rattle.end_tag.proofs.statements.object_term.Statement.{statement}

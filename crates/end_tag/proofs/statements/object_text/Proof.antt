@@ -1,4 +1,4 @@
--- `statements::object_text` meets its contract. By the mark of the tail.
+-- `end_tag::statements::object_text` meets its contract. By the mark of the tail.
 use Rattle.end_tag.specs.Object.{lent-none, lent-marked}
 use borrow.Author.Needs.{needs}
 use Rattle.end_tag.proofs.statements.object_text.Statement.{statement}

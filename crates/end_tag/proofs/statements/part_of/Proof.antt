@@ -1,4 +1,4 @@
--- `statements::part_of` meets its contract. A piece from one place to the next.
+-- `end_tag::statements::part_of` meets its contract. A piece from one place to the next.
 use Rattle.end_tag.specs.Object.{span-lent}
 use native.Mathlib.Omega.{arith}
 use borrow.Author.Needs.{needs}

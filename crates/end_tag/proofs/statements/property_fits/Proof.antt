@@ -1,4 +1,4 @@
--- `statements::property_fits` meets its contract. Its object is a node or a text, with a datatype or a tag beside it.
+-- `end_tag::statements::property_fits` meets its contract. Its object is a node or a text, with a datatype or a tag beside it.
 use mathlib.Core.Bool.{false≢true}
 use Rattle.end_tag.specs.Room.{property-fits}
 use native.Mathlib.Omega.{arith}

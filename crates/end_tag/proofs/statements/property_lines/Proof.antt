@@ -1,4 +1,4 @@
--- `statements::property_lines` meets its contract. The statement, with the object that the marks and parts say.
+-- `end_tag::statements::property_lines` meets its contract. The statement, with the object that the marks and parts say.
 use Rattle.writer.specs.Put.{put-as}
 use Rattle.end_tag.specs.Object.{said}
 use borrow.Author.Needs.{needs}

@@ -1,4 +1,4 @@
--- `statements::statement` meets its contract. The statement of `ntriples`, with the parts of the frames.
+-- `end_tag::statements::statement` meets its contract. The statement of `ntriples`, with the parts of the frames.
 use Rattle.writer.specs.Put.{put-as}
 use Rattle.end_tag.specs.Object.{stated}
 use borrow.Author.Needs.{needs}

@@ -1,4 +1,4 @@
--- `statements::statement_fits` meets its contract. One line, or five.
+-- `end_tag::statements::statement_fits` meets its contract. One line, or five.
 use borrow.Author.Tests.{leb-true}
 use Rattle.end_tag.specs.Room.{fits-one, fits-five}
 use native.Mathlib.Omega.{arith}

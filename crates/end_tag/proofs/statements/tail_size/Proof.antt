@@ -1,4 +1,4 @@
--- `statements::tail_size` meets its contract. The size of the part.
+-- `end_tag::statements::tail_size` meets its contract. The size of the part.
 use mathlib.Core.Path.{ap}
 use lib.ListN.{length}
 use borrow.Author.Needs.{needs}

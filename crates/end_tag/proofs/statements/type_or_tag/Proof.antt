@@ -1,4 +1,4 @@
--- `statements::type_or_tag` meets its contract. By the mark of a datatype.
+-- `end_tag::statements::type_or_tag` meets its contract. By the mark of a datatype.
 use Rattle.end_tag.specs.Object.{lent-unmarked, lent-marked}
 use borrow.Author.Needs.{needs}
 use Rattle.end_tag.proofs.statements.type_or_tag.Statement.{statement}

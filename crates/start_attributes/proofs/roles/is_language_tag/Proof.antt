@@ -1,4 +1,4 @@
--- `roles::is_language_tag` meets its contract, arm by arm.
+-- `start_attributes::roles::is_language_tag` meets its contract, arm by arm.
 use Rattle.langtag.specs.Verdict.{verdict}
 use Rattle.start_attributes.specs.Judgment.{well-formed, ill-formed}
 use borrow.Author.Needs.{needs}

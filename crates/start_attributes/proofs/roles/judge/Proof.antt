@@ -1,4 +1,4 @@
--- `roles::judge` meets its contract, role by role.
+-- `start_attributes::roles::judge` meets its contract, role by role.
 use Rattle.spec.specs.StartTag.{judge}
 use borrow.Author.Needs.{needs}
 use Rattle.start_attributes.proofs.roles.judge.Statement.{statement}

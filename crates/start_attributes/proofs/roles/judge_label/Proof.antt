@@ -1,4 +1,4 @@
--- `roles::judge_label` meets its contract, test by test.
+-- `start_attributes::roles::judge_label` meets its contract, test by test.
 use mathlib.Core.Path.{sym, _∙_}
 use borrow.Author.Tests.{not-true, not-false}
 use Rattle.start_attributes.specs.Judgment.{no-name, ends-in-stop, is-generated, is-label}

@@ -1,4 +1,4 @@
--- `roles::require` meets its contract.
+-- `start_attributes::roles::require` meets its contract.
 use Rattle.spec.specs.Bytes.{require_or_}
 use Rattle.start_attributes.proofs.roles.require.Statement.{statement}
 use Rattle.start_attributes.proofs.roles.require.Tie as tie

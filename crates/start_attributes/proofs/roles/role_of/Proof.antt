@@ -1,4 +1,4 @@
--- `roles::role_of` meets its contract, test by test.
+-- `start_attributes::roles::role_of` meets its contract, test by test.
 use mathlib.Core.Path.{sym, _∙_}
 use borrow.Author.Tests.{not-true, not-false}
 use Rattle.spec.specs.Bytes.{ascii}

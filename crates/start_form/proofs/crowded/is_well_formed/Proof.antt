@@ -1,4 +1,4 @@
--- `crowded::is_well_formed` meets its contract: a law for each return.
+-- `start_form::crowded::is_well_formed` meets its contract: a law for each return.
 use Rattle.start_form.specs.CrowdedForm.{forms-second, forms-illegal, forms-repeats}
 use borrow.Author.Tests.{not-true, not-false}
 use borrow.Author.Needs.{needs}

@@ -1,4 +1,4 @@
--- `crowded::refusal` meets its contract: what is decoded anew is the start tag, and it has all words.
+-- `start_form::crowded::refusal` meets its contract: what is decoded anew is the start tag, and it has all words.
 use mathlib.Core.Bool.{true, false}
 use Rattle.start_form.specs.Crowd.{reread, ready, refuses}
 use native.Mathlib.Omega.{arith}

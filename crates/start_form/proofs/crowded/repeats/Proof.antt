@@ -1,4 +1,4 @@
--- `crowded::repeats` meets its contract, by where the tag stands.
+-- `start_form::crowded::repeats` meets its contract, by where the tag stands.
 use Rattle.start_form.specs.CrowdedForm.{repeats-written, repeats-expanded}
 use borrow.Author.Needs.{needs}
 use Rattle.start_form.proofs.crowded.repeats.Statement.{statement}

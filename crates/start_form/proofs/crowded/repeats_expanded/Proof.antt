@@ -1,4 +1,4 @@
--- `crowded::repeats_expanded` meets its contract, by how many they are.
+-- `start_form::crowded::repeats_expanded` meets its contract, by how many they are.
 use Rattle.start_form.specs.CrowdedForm.{finds-few}
 use native.Mathlib.Omega.{arith}
 use borrow.Author.Needs.{needs}

@@ -1,4 +1,4 @@
--- `crowded::repeats_written` meets its contract. Among many, classes of zeros have the names compared as written.
+-- `start_form::crowded::repeats_written` meets its contract. Among many, classes of zeros have the names compared as written.
 use mathlib.Core.Path.{_∙_}
 use Rattle.start_names.specs.Repeats.{written-means}
 use Rattle.start_form.specs.Marks.{zero-pairs}

@@ -1,4 +1,4 @@
--- `crowded::marks::byte_from_end` meets its contract: in the last part, in the first, or in none.
+-- `start_form::marks::byte_from_end` meets its contract: in the last part, in the first, or in none.
 use Rattle.start_form.specs.Marks.{byte-back, byte-front, byte-none}
 use native.Mathlib.Omega.{arith}
 use borrow.Author.Needs.{needs}

@@ -1,4 +1,4 @@
--- `crowded::marks::has_mark` meets its contract. The loop's invariant: `found` is the answer for the first `j` marks.
+-- `start_form::marks::has_mark` meets its contract. The loop's invariant: `found` is the answer for the first `j` marks.
 use Prim.Native.Nat.{_-_}
 use lib.ListN.{length}
 use Rattle.copy.specs.Scan.{Gathered, gathered-begins, gathered-more, gathered-done}

@@ -1,4 +1,4 @@
--- `crowded::marks::mark` meets its contract. The loop's invariant: `i` bytes are in the number.
+-- `start_form::marks::mark` meets its contract. The loop's invariant: `i` bytes are in the number.
 use Prim.Native.Nat.{_-_}
 use mathlib.Core.Path.{_∙_}
 use mathlib.Core.List.{_++_}

@@ -1,4 +1,4 @@
--- `crowded::marks::mark_all` meets its contract. The loop's invariant: the first `j` attributes are marked.
+-- `start_form::marks::mark_all` meets its contract. The loop's invariant: the first `j` attributes are marked.
 use Prim.Native.Nat.{_-_}
 use Rattle.spec.specs.Bytes.{ascii}
 use Rattle.spec.specs.Namespaces.{xmlName}

@@ -1,4 +1,4 @@
--- `crowded::marks::next_alike` meets its contract. The loop's invariant: none of those from `from` up to `i` has the marks of `j`.
+-- `start_form::marks::next_alike` meets its contract. The loop's invariant: none of those from `from` up to `i` has the marks of `j`.
 use Prim.Native.Nat.{_-_}
 use Rattle.start_form.specs.Marks.{Next, next-begins, next-block, next-more}
 use native.Mathlib.Omega.{arith}

@@ -1,4 +1,4 @@
--- `crowded::marks::repeated` meets its contract. The loop's invariant: none of the first `j` attributes is repeated.
+-- `start_form::marks::repeated` meets its contract. The loop's invariant: none of the first `j` attributes is repeated.
 use Prim.Native.Nat.{_-_}
 use mathlib.Core.Path.{sym, _∙_}
 use lib.ListN.{length-replicate}

@@ -1,4 +1,4 @@
--- `crowded::marks::repeated_behind` meets its contract. The loop's invariant: none of the attributes between `j` and `i` repeats attribute `j`.
+-- `start_form::marks::repeated_behind` meets its contract. The loop's invariant: none of the attributes between `j` and `i` repeats attribute `j`.
 use Prim.Native.Nat.{_-_}
 use mathlib.Core.Path.{sym, _∙_}
 use Rattle.spec.specs.Bytes.{ascii}

@@ -1,4 +1,4 @@
--- `crowded::own::class_of` meets its contract. By what is found among the rows, then among those of the open elements.
+-- `start_form::own::class_of` meets its contract. By what is found among the rows, then among those of the open elements.
 use mathlib.Core.Path.{refl}
 use Rattle.start_names.specs.Declarations.{told}
 use Rattle.start_names.specs.Found.{foundBytes}

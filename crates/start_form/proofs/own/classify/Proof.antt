@@ -1,4 +1,4 @@
--- `crowded::own::classify` meets its contract. The loop's invariant: the first `j` attributes have their classes.
+-- `start_form::own::classify` meets its contract. The loop's invariant: the first `j` attributes have their classes.
 use Prim.Native.Nat.{_-_}
 use mathlib.Core.Path.{refl}
 use Rattle.start_names.specs.Classes.{Classifying, classifying-begins, classifying-more, classifying-done}

@@ -1,4 +1,4 @@
--- `crowded::own::own_row` meets its contract. By the length of the name.
+-- `start_form::own::own_row` meets its contract. By the length of the name.
 use Rattle.start_form.specs.OwnLaws.{row-within, row-short, row-long}
 use native.Mathlib.Omega.{arith}
 use borrow.Author.Needs.{needs}

@@ -1,4 +1,4 @@
--- `crowded::own::own_rows` meets its contract.
+-- `start_form::own::own_rows` meets its contract.
 -- The loop's invariant: the rows so far bind what the attributes from `j` on declare.
 use Rattle.start_names.specs.Declarations.{told}
 use Rattle.start_form.specs.OwnLaws.{Owning, owning-begins, owning-other, owning-more, owning-done}

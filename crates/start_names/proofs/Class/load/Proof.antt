@@ -1,4 +1,4 @@
--- `names::Class::load` meets its contract.
+-- `start_names::Class::load` meets its contract.
 use mathlib.Core.Path.{_∙_}
 use Rattle.start_names.specs.Classes.{class-none, class-loaded}
 use native.Mathlib.Omega.{arith}

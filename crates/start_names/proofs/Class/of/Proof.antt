@@ -1,4 +1,4 @@
--- `names::Class::of` meets its contract.
+-- `start_names::Class::of` meets its contract.
 use borrow.Author.Tests.{ne-eqb}
 use Rattle.start_names.specs.Classes.{classOf}
 use Rattle.start_names.proofs.Class.of.Statement.{statement}

@@ -1,4 +1,4 @@
--- `names::Class::same` meets its contract: the words of both are compared.
+-- `start_names::Class::same` meets its contract: the words of both are compared.
 use Rattle.start_names.specs.Classes.{one-class}
 use mathlib.Core.Bool.{false≢true}
 use native.Mathlib.Omega.{arith}

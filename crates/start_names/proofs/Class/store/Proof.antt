@@ -1,4 +1,4 @@
--- `names::Class::store` meets its contract.
+-- `start_names::Class::store` meets its contract.
 use lib.ListN.{length-set}
 use Rattle.start_names.specs.Classes.{class-refused, class-stored}
 use native.Mathlib.Omega.{arith}

@@ -1,4 +1,4 @@
--- `names::Class::words` meets its contract.
+-- `start_names::Class::words` meets its contract.
 use borrow.Author.Needs.{needs}
 use Rattle.start_names.proofs.Class.words.Statement.{statement}
 use Rattle.start_names.proofs.Class.words.Tie as tie

@@ -1,4 +1,4 @@
--- `names::Found::class` meets its contract. An arm for each answer.
+-- `start_names::Found::class` meets its contract. An arm for each answer.
 use borrow.Author.Needs.{needs}
 use Rattle.start_names.proofs.Found.class.Statement.{statement}
 use Rattle.start_names.proofs.Found.class.Tie as tie

@@ -1,4 +1,4 @@
--- `reference::absolute` meets its contract.
+-- `start_references::reference::absolute` meets its contract.
 use mathlib.Core.Path.{sym, _∙_}
 use borrow.Author.Tests.{not-true, not-false}
 use Rattle.start_references.specs.Reference.{no-iri, long-iri, put-iri}

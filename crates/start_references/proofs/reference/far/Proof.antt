@@ -1,4 +1,4 @@
--- `reference::far` meets its contract: what was resolved in room of its own is put at the place.
+-- `start_references::reference::far` meets its contract: what was resolved in room of its own is put at the place.
 use lib.ListN.{length-take}
 use Rattle.start_references.specs.Reference.{far-made, far-formless, far-long, answers}
 use Rattle.resolve.specs.Resolve.{need, result-length}

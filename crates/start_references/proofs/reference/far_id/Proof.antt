@@ -1,4 +1,4 @@
--- `reference::far_id` meets its contract, as `near_id` does.
+-- `start_references::reference::far_id` meets its contract, as `near_id` does.
 use Prim.Native.Nat.{_+_}
 use mathlib.Core.Path.{refl}
 use lib.ListN.{length, length-take, take}

@@ -1,4 +1,4 @@
--- `reference::near` meets its contract: the part of the area that was lent is back.
+-- `start_references::reference::near` meets its contract: the part of the area that was lent is back.
 use lib.ListN.{length-drop}
 use Rattle.spec.specs.Limits.{mostNameBytes}
 use Rattle.copy.specs.Copy.{rest-of}

@@ -1,4 +1,4 @@
--- `reference::near_id` meets its contract: the value is put behind a "#", which the array is full of.
+-- `start_references::reference::near_id` meets its contract: the value is put behind a "#", which the array is full of.
 use Prim.Native.Nat.{_+_}
 use mathlib.Core.Path.{refl}
 use lib.ListN.{length, length-take, take}

@@ -1,4 +1,4 @@
--- `reference::resolved` meets its contract.
+-- `start_references::reference::resolved` meets its contract.
 use mathlib.Core.Path.{sym, _∙_}
 use borrow.Author.Tests.{not-true, not-false}
 use Rattle.spec.specs.Limits.{mostNameBytes}

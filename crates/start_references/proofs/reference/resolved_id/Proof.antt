@@ -1,4 +1,4 @@
--- `reference::resolved_id` meets its contract, by the value's length.
+-- `start_references::reference::resolved_id` meets its contract, by the value's length.
 use borrow.Author.Needs.{needs}
 use Rattle.start_references.proofs.reference.resolved_id.Statement.{statement}
 use Rattle.start_references.proofs.reference.resolved_id.Tie as tie

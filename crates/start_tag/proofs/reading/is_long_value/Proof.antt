@@ -1,4 +1,4 @@
--- `tag::is_long_value` meets its contract.
+-- `start_tag::reading::is_long_value` meets its contract.
 use Rattle.start_tag.specs.Made.{no-value, value-length}
 use borrow.Author.Needs.{needs}
 use Rattle.start_tag.proofs.reading.is_long_value.Statement.{statement}

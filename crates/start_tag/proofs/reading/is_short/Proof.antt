@@ -1,4 +1,4 @@
--- `tag::is_short` meets its contract: the tests in the order of `isShort`.
+-- `start_tag::reading::is_short` meets its contract: the tests in the order of `isShort`.
 use mathlib.Core.Path.{sym, _∙_}
 use borrow.Author.Tests.{not-true, not-false}
 use Rattle.spec.specs.Bytes.{every}

@@ -1,4 +1,4 @@
--- `tag::join` meets its contract: two stores in a row.
+-- `start_tag::reading::join` meets its contract: two stores in a row.
 use mathlib.Core.Path.{_∙_}
 use Rattle.start_tag.specs.Made.{space-long, both-long, joined}
 use borrow.Author.Needs.{needs}

@@ -1,4 +1,4 @@
--- `tag::make_iri` meets its contract: the namespace that was found and the local part are joined.
+-- `start_tag::reading::make_iri` meets its contract: the namespace that was found and the local part are joined.
 use mathlib.Core.Path.{sym, _∙_}
 use Rattle.spec.specs.Namespaces.{xmlName}
 use Rattle.spec.specs.Bytes.{ascii}

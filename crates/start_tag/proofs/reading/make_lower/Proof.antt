@@ -1,4 +1,4 @@
--- `tag::make_lower` meets its contract.
+-- `start_tag::reading::make_lower` meets its contract.
 use Rattle.start_tag.specs.Made.{no-language, language-lowered}
 use borrow.Author.Needs.{needs}
 use Rattle.start_tag.proofs.reading.make_lower.Statement.{statement}

@@ -1,4 +1,4 @@
--- `tag::read_tag` meets its contract, by what stops it first: the name, an attribute, a reference; or nothing.
+-- `start_tag::reading::read_tag` meets its contract, by what stops it first: the name, an attribute, a reference; or nothing.
 use mathlib.Core.Path.{sym, _∙_}
 use Rattle.spec.specs.Limits.{mostHeldBytes}
 use Rattle.start_tag.specs.Tag.{unknown-name, wrong-attribute, wrong-reference, tag-read}

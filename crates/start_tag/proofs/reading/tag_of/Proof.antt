@@ -1,4 +1,4 @@
--- `tag::tag_of` meets its contract: the parts of the tag, each from the call that made it.
+-- `start_tag::reading::tag_of` meets its contract: the parts of the tag, each from the call that made it.
 use mathlib.Core.Path.{_∙_}
 use Rattle.spec.specs.Limits.{mostHeldBytes}
 use Rattle.start_tag.specs.Made.{finished}

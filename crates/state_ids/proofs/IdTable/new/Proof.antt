@@ -1,4 +1,4 @@
--- `ids::IdTable::new` meets its contract: its repeats are as long as `mostIds` says.
+-- `state_ids::IdTable::new` meets its contract: its repeats are as long as `mostIds` says.
 use mathlib.Core.Path.{refl}
 use Rattle.spec.specs.Limits.{mostIds}
 use Rattle.state_ids.proofs.IdTable.new.Statement.{statement}

@@ -1,4 +1,4 @@
--- `nodes::blank_byte` meets its contract. A law of specs/ for each return, with the tests that led there.
+-- `state_stack::nodes::blank_byte` meets its contract. A law of specs/ for each return, with the tests that led there.
 use borrow.Author.Tests.{eq-eqb, ne-eqb}
 use Rattle.state_stack.specs.Take.{blankByte}
 use Rattle.state_stack.proofs.nodes.blank_byte.Statement.{statement}

@@ -1,4 +1,4 @@
--- `nodes::child_at` meets its contract. A law of specs/ for each return, with the tests that led there.
+-- `state_stack::nodes::child_at` meets its contract. A law of specs/ for each return, with the tests that led there.
 use Rattle.state_stack.specs.Take.{no-child-below, no-child-above, a-child}
 use native.Mathlib.Omega.{arith}
 use borrow.Author.Needs.{needs}

@@ -1,4 +1,4 @@
--- `nodes::close_node` meets its contract. A law of specs/ for each return, with the tests that led there.
+-- `state_stack::nodes::close_node` meets its contract. A law of specs/ for each return, with the tests that led there.
 use mathlib.Core.Path.{refl}
 use Rattle.spec.specs.Limits.{workStoreBytes}
 use Rattle.state_stack.specs.Take.{close-store, close-other, close-none, close-full, close-done}

@@ -1,4 +1,4 @@
--- `nodes::may_take` meets its contract. From what the calls ensure.
+-- `state_stack::nodes::may_take` meets its contract. From what the calls ensure.
 use Rattle.spec.specs.Limits as L
 use Rattle.state_stack.specs.Take.{mayTake}
 use mathlib.Core.Path.{refl}

@@ -1,4 +1,4 @@
--- `nodes::object_word` meets its contract. A law of specs/ for each return, with the tests that led there.
+-- `state_stack::nodes::object_word` meets its contract. A law of specs/ for each return, with the tests that led there.
 use borrow.Author.Tests.{eq-eqb, ne-eqb}
 use Rattle.state_stack.specs.Take.{objectWord}
 use Rattle.state_stack.proofs.nodes.object_word.Statement.{statement}

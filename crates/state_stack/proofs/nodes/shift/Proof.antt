@@ -1,4 +1,4 @@
--- `nodes::shift` meets its contract. The loop's invariant: the first `i` bytes have moved down, and what lies from there on is as it was.
+-- `state_stack::nodes::shift` meets its contract. The loop's invariant: the first `i` bytes have moved down, and what lies from there on is as it was.
 use Rattle.state_stack.specs.Take.{Shifted, shifted-begins, shifted-more, shifted-done}
 use Prim.Native.Nat.{_-_}
 use native.Mathlib.Omega.{arith}

@@ -1,4 +1,4 @@
--- `nodes::take_child` meets its contract. A law of specs/ for each return, with the tests that led there.
+-- `state_stack::nodes::take_child` meets its contract. A law of specs/ for each return, with the tests that led there.
 use Rattle.spec.specs.Limits.{workStoreBytes}
 use Rattle.state_stack.specs.Take.{movable, child-none, child-many, child-made}
 use Rattle.state.specs.Tests.{yes, no}

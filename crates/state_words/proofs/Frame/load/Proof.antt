@@ -1,4 +1,4 @@
--- `frames::Frame::load` meets its contract. The kind, and two parts of the frame's words, each copied whole.
+-- `state_words::Frame::load` meets its contract. The kind, and two parts of the frame's words, each copied whole.
 use Rattle.state_words.specs.Words.{frame-none, frame-loaded}
 use mathlib.Core.Path.{_∙_}
 use native.Mathlib.Omega.{arith}

@@ -1,4 +1,4 @@
--- `frames::Frame::store` meets its contract. Three writes in a row: the kind, the places, the marks.
+-- `state_words::Frame::store` meets its contract. Three writes in a row: the kind, the places, the marks.
 use mathlib.Core.Path.{_∙_}
 use lib.ListN.{length-set}
 use Rattle.state_words.specs.Words.{frame-refused, frame-stored}

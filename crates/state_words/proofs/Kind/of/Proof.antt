@@ -1,4 +1,4 @@
--- `frames::Kind::of` meets its contract. One return for each word.
+-- `state_words::Kind::of` meets its contract. One return for each word.
 use borrow.Author.Tests.{ne-eqb}
 use Rattle.state_words.specs.Words.{kindOf}
 use Rattle.state_words.proofs.Kind.of.Statement.{statement}

@@ -1,4 +1,4 @@
--- `frames::Row::load` meets its contract. Three words of the row.
+-- `state_words::Row::load` meets its contract. Three words of the row.
 use Rattle.state_words.specs.Words.{row-none, row-loaded}
 use native.Mathlib.Omega.{arith}
 use borrow.Author.Needs.{needs}

@@ -1,4 +1,4 @@
--- `frames::Row::store` meets its contract. Three words set in a row.
+-- `state_words::Row::store` meets its contract. Three words set in a row.
 use lib.ListN.{length-set}
 use Rattle.state_words.specs.Words.{row-refused, row-stored}
 use native.Mathlib.Omega.{arith}
