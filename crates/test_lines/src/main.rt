@@ -4,5 +4,5 @@ mod lines;
 
 fn main() {
     events::try_all();
-    start_lines::try_all();
+    lines::try_all();
 }
