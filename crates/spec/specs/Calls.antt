@@ -15,6 +15,8 @@ use Rattle.spec.specs.Pyx.{readEvent}
 use Rattle.spec.specs.PyxCut.{Cut, wait, unended, tooLong, whole, cut}
 use Rattle.spec.specs.PyxCut as C
 use Rattle.spec.specs.NTriples.{write}
+use Rattle.spec.specs.declared.Mode.{Mode}
+use Rattle.spec.specs.Modes.{baseMode}
 use Rattle.spec.specs.Document.{Doc, fresh}
 use Rattle.spec.specs.RdfXml.{next, finish}
 use Rattle.spec.specs.RdfXml as X
@@ -33,7 +35,7 @@ pub record Report : Type 0 where
 
 -- the state before any document is closed
 unfoldable pub noDocument : State
-noDocument = isClosed (fresh none)
+noDocument = isClosed (fresh baseMode none)
 
 -- the closing mark, and nothing more
 unfoldable pub markClosed : State → State
@@ -66,13 +68,13 @@ mayStart lengths (some b) = do
   require leb (length b) mostNameBytes or OverLimit
 
 -- refused, it changes nothing; accepted, it empties both stores
-unfoldable pub started : Option Bytes → State → Answer (Unit {0}) → Report
-started base s (refuse r) = refused r s
-started base s (good _) = record { answer = 0; consumed = 0; output = []; behind = isOpen (fresh base) }
+unfoldable pub started : Mode → Option Bytes → State → Answer (Unit {0}) → Report
+started m base s (refuse r) = refused r s
+started m base s (good _) = record { answer = 0; consumed = 0; output = []; behind = isOpen (fresh m base) }
 
--- whether both stores have their lengths, the base if any, the state
-unfoldable pub callStart : Bool → Option Bytes → State → Report
-callStart lengths base s = started base s (mayStart lengths base)
+-- whether both stores have their lengths, the mode, the base if any, the state
+unfoldable pub callStart : Bool → Mode → Option Bytes → State → Report
+callStart lengths m base s = started m base s (mayStart lengths base)
 
 -- ---- step
 

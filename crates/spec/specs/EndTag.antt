@@ -7,11 +7,11 @@ use lib.Dec.{leb}
 use lib.ListN.{length}
 use Rattle.spec.specs.Bytes.{Bytes, same, isEmpty, _>>=_, _>>_, require_or_}
 use Rattle.spec.specs.Numbers.{Answer, refuse, good}
-use Rattle.spec.specs.declared.Refusal.the-variants.{NotWellFormed, EmptyLiteral, LabelsSpent}
+use Rattle.spec.specs.declared.Refusal.the-variants.{NotWellFormed, EmptyLiteral, LabelsSpent, ProfileBroken}
 use Rattle.spec.specs.Limits.{mostLabels}
 use Rattle.spec.specs.Rdf.{rdf}
 use Rattle.spec.specs.NTriples.{Subject, named, blank, Term, node, typed, Triple, triple, label}
-use Rattle.spec.specs.Document.{Object, noObject, nodeObject, textObject, Value, default, collection, literal, other, Property, Kind, rdfRDF, nodeElement, propertyElement, xmlElement, Frame, Doc, withFrames, withLabels, languageInForce, changeValue}
+use Rattle.spec.specs.Document.{Object, noObject, nodeObject, textObject, Value, default, collection, literal, other, Property, Kind, rdfRDF, wrapper, nodeElement, propertyElement, xmlElement, Frame, Doc, withFrames, withLabels, languageInForce, changeValue}
 use Rattle.spec.specs.Productions.{literalOf, statement}
 use Rattle.spec.specs.XmlLiteral.{endTagXml, addXml}
 use Rattle.spec.specs.Opening.{Step}
@@ -58,6 +58,7 @@ endValue p other l d = good ([], d)
 -- by the kind of the element n that closes
 unfoldable pub endKind : Kind → Bytes → Option Bytes → Doc → Answer Step
 endKind rdfRDF n l d = good ([], d)
+endKind (wrapper had) n l d = (require had or ProfileBroken) >> good ([], d)
 endKind (nodeElement s li) n l d = good ([], withFrames (changeValue (takesNode s) (d .frames)) d)
 endKind (propertyElement p v) n l d = endValue p v l d
 endKind xmlElement n l d = good ([], addXml (endTagXml n) d)

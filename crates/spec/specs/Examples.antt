@@ -17,6 +17,7 @@ pub mod Productions
 pub mod Refusals
 pub mod Calls
 pub mod Order
+pub mod Xmp
 pub mod Rfc3986
 pub mod Reading
 

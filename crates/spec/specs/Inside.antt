@@ -12,7 +12,7 @@ use Rattle.spec.specs.Numbers.{Answer, refuse, good}
 use Rattle.spec.specs.Pyx.{Attribute, Event, opening, closing, text, instruction}
 use Rattle.spec.specs.Namespaces.{Binding, declared, expandElement}
 use Rattle.spec.specs.NTriples.{Subject, Term, node, Triple}
-use Rattle.spec.specs.Document.{Value, other, Property, Kind, rdfRDF, nodeElement, propertyElement, xmlElement, Frame, Doc, inScope}
+use Rattle.spec.specs.Document.{Value, other, Property, Kind, rdfRDF, wrapper, nodeElement, propertyElement, xmlElement, Frame, Doc, inScope}
 use Rattle.spec.specs.Productions.{statement, isLi}
 use Rattle.spec.specs.RdfXml.{next}
 use Rattle.spec.specs.Lists.{After, here, event}
@@ -68,6 +68,7 @@ linesIn c = c .begun .startLines ++ (c .begun .innerLines ++ c .endLines)
 -- the subject of a node element
 unfoldable pub nodeSubject : Kind → List Subject
 nodeSubject rdfRDF = []
+nodeSubject (wrapper b) = []
 nodeSubject (nodeElement s li) = s ∷ []
 nodeSubject (propertyElement p v) = []
 nodeSubject xmlElement = []

@@ -6,7 +6,8 @@ use mathlib.Core.List.{List, [], _∷_}
 use Rattle.spec.specs.Bytes.{Bytes, ascii, if_then_else_, same, orElse}
 use Rattle.spec.specs.Pyx.{Attribute, attribute, Event, opening, closing, text, instruction}
 use Rattle.spec.specs.NTriples.{Term, node, plain, tagged, typed, Triple, triple}
-use Rattle.spec.specs.Document.{Frame, Doc, languageInForce}
+use Rattle.spec.specs.Document.{Frame, Doc, Place, outside, nodes, nodesOrText, xml, properties, languageInForce}
+use Rattle.spec.specs.Xmp.{startsWrapper}
 use Rattle.spec.specs.StartTag.{lowercased}
 
 -- is it a literal without datatype, then it has this language, or none where there is none
@@ -33,8 +34,15 @@ unfoldable pub valueNamed : Bytes → List Attribute → Option Bytes
 valueNamed m [] = none
 valueNamed m (attribute n v ∷ as′) = if same n m then some v else valueNamed m as′
 
--- the language in force behind a start tag, in Literal content or not: its own xml:lang, lowercased, or else the one around; in
--- Literal content it means nothing
+-- does xml:lang mean nothing in a start tag? So it is in Literal content, and in the wrapper
+unfoldable pub isMute : Place → Bytes → List Attribute → Doc → Bool
+isMute outside n as′ d = startsWrapper (d .mode .profile) n as′ (d .frames)
+isMute nodes n as′ d = false
+isMute nodesOrText n as′ d = false
+isMute (properties s li) n as′ d = false
+isMute xml n as′ d = true
+
+-- the language in force behind a start tag, where xml:lang means nothing or not: its own xml:lang, lowercased, or else the one around
 abbrev pub languageBehind : Bool → List Attribute → List Frame → Option Bytes
 languageBehind true as′ fs = languageInForce fs
 languageBehind false as′ fs = orElse (lowercased (valueNamed (ascii "xml:lang") as′)) (languageInForce fs)

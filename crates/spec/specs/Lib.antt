@@ -1,4 +1,4 @@
--- The definitions of document 01, in reading order.
+-- The definitions of document 01, as document 02 amends it, in reading order.
 -- ---- numbers, limits, texts
 pub mod Numbers
 pub mod Limits
@@ -21,8 +21,10 @@ pub mod NTriplesGrammar
 pub mod NTriplesReading
 -- ---- from events to triples
 pub mod Rdf
+pub mod Modes
 pub mod Document
 pub mod StartTag
+pub mod Xmp
 pub mod Productions
 pub mod XmlLiteral
 pub mod Opening
@@ -42,3 +44,5 @@ pub mod Lists
 pub mod ReadingBack
 pub mod Inside
 pub mod Languages
+-- ---- document 02, request 1
+pub mod Packets

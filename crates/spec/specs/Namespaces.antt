@@ -82,6 +82,10 @@ inNamespace (some ns) l = (require not (isEmpty ns) or NoNamespace) >> good (ns 
 unfoldable pub expandElement : List Binding → Bytes → Answer Bytes
 expandElement bs n = inNamespace (namespace bs (prefixOf n)) (localOf n)
 
+-- an attribute in Literal content or on the wrapper: 8 for an unknown prefix
+unfoldable pub knownAttribute : List Binding → Attribute → Answer (Unit {0})
+knownAttribute bs a = require isDeclaration a || isKnown bs (nameOf a) or NoNamespace
+
 -- ---- repeated attributes (6)
 
 -- the expanded names of a start tag's attributes, declarations apart
@@ -102,5 +106,5 @@ unfoldable pub repeatsWritten : List Attribute → Bool
 repeatsWritten as′ = repeats (map nameOf as′)
 
 unfoldable pub all : Unit {0}
-unfolding B.all X.all nameOf xmlName xmlnsName isDeclaration declares declared isLegal allLegal lookUp namespace joined expandAttribute isKnown inNamespace expandElement expandedNames unknownNames repeatsExpanded repeatsWritten
+unfolding B.all X.all nameOf xmlName xmlnsName isDeclaration declares declared isLegal allLegal lookUp namespace joined expandAttribute isKnown inNamespace expandElement knownAttribute expandedNames unknownNames repeatsExpanded repeatsWritten
 all = tt

@@ -1,8 +1,8 @@
--- Document 01, "Numbers returned".
+-- Document 01, "Numbers returned", and document 02 (19).
 use mathlib.Core.Bool.{Bool, true, false}
 use Prim.Native.Nat.{ℕ}
 use Rattle.spec.specs.declared.Refusal.{Refusal}
-use Rattle.spec.specs.declared.Refusal.the-variants.{Incomplete, NoRoom, BadState, Closed, NotPyx, NotWellFormed, OverLimit, NoNamespace, NotNcName, BadLanguage, BadIri, RepeatedId, BadLabel, Reserved, TwoNames, StrayText, EmptyLiteral, LabelsSpent}
+use Rattle.spec.specs.declared.Refusal.the-variants.{Incomplete, NoRoom, BadState, Closed, NotPyx, NotWellFormed, OverLimit, NoNamespace, NotNcName, BadLanguage, BadIri, RepeatedId, BadLabel, Reserved, TwoNames, StrayText, EmptyLiteral, LabelsSpent, ProfileBroken}
 
 -- column "No."; 0 is "done"
 abbrev pub number : Refusal → ℕ
@@ -24,6 +24,7 @@ number TwoNames = 15
 number StrayText = 16
 number EmptyLiteral = 17
 number LabelsSpent = 18
+number ProfileBroken = 19
 
 -- column "Document": what a refusal makes of it ("goes on" is for 0)
 pub data Effect : Type 0 where
@@ -48,6 +49,7 @@ effect TwoNames = becomes-closed
 effect StrayText = becomes-closed
 effect EmptyLiteral = becomes-closed
 effect LabelsSpent = becomes-closed
+effect ProfileBroken = becomes-closed
 
 -- is the closing mark set?
 abbrev pub marks : Effect → Bool

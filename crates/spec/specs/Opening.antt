@@ -1,20 +1,23 @@
--- Document 01, "Order in step": start tags (refusals 6 to 15 and 18, and the limits on names and IRIs).
-use mathlib.Core.Bool.{Bool, true, false, _&&_, _||_, not}
+-- Document 01, "Order in step": start tags (refusals 6 to 15, 18 and 19, and the limits on names and IRIs).
+use mathlib.Core.Bool.{Bool, true, false, _&&_, not}
 use mathlib.Core.Option.{Option, none, some}
 use mathlib.Core.List.{List, [], _∷_, _++_}
 use Prim.Native.Nat.{ℕ, suc}
-use lib.Dec.{leb}
+use lib.Dec.{eqb, leb}
 use lib.ListN.{length}
 use Rattle.spec.specs.Bytes.{Bytes, if_then_else_, isEmpty, _>>=_, _>>_, require_or_, each}
-use Rattle.spec.specs.Numbers.{Answer, good}
-use Rattle.spec.specs.declared.Refusal.the-variants.{NotWellFormed, OverLimit, NoNamespace}
+use Rattle.spec.specs.Numbers.{number, Answer, refuse, good}
+use Rattle.spec.specs.declared.Refusal.the-variants.{NotWellFormed, OverLimit, NoNamespace, ProfileBroken, Reserved}
 use Rattle.spec.specs.Limits.{mostOpenElements, mostAttributes, mostBindings}
 use Rattle.spec.specs.Pyx.{Attribute}
 use Rattle.spec.specs.Pyx as P
-use Rattle.spec.specs.Namespaces.{Binding, declared, isDeclaration, nameOf, allLegal, isKnown, repeatsExpanded, repeatsWritten}
+use Rattle.spec.specs.Namespaces.{declared, allLegal, isKnown, knownAttribute, repeatsExpanded, repeatsWritten}
 use Rattle.spec.specs.NTriples.{Triple}
-use Rattle.spec.specs.Document.{Kind, rdfRDF, nodeElement, propertyElement, xmlElement, Frame, Doc, withFrames, withKind, inScope, Place, outside, nodes, nodesOrText, xml, properties, placeIn}
+use Rattle.spec.specs.Document.{Kind, rdfRDF, wrapper, nodeElement, propertyElement, xmlElement, Part, ordinary, Frame, Doc, withFrames, withKind, withPart, inScope, Place, outside, nodes, nodesOrText, xml, properties, placeIn}
 use Rattle.spec.specs.StartTag.{Tag, readTag, isShort}
+use Rattle.spec.specs.declared.Mode.{Mode}
+use Rattle.spec.specs.Xmp.{startsWrapper, openWrapper, keeps, newPart, noted}
+use Rattle.spec.specs.Xmp as M
 use Rattle.spec.specs.Productions.{Opened, openNode, openProperty, openRoot, isLi}
 use Rattle.spec.specs.Productions as O
 use Rattle.spec.specs.XmlLiteral.{startTagXml, addXml}
@@ -33,30 +36,28 @@ unfoldable pub countsFit : List Attribute → List Frame → Bool
 countsFit as′ fs =
     leb (suc (length fs)) mostOpenElements && (leb (length as′) mostAttributes && leb (length (declared as′ ++ inScope fs)) mostBindings)
 
--- 8 in Literal content: an unknown prefix
-unfoldable pub knownAttribute : List Binding → Attribute → Answer (Unit {0})
-knownAttribute bs a = require isDeclaration a || isKnown bs (nameOf a) or NoNamespace
-
 -- in Literal content elements are copied
 unfoldable pub copyElement : Bytes → List Attribute → Doc → Answer Step
 copyElement n as′ d = do
   let scope = declared as′ ++ inScope (d .frames)
   require isKnown scope n or NoNamespace
   each (knownAttribute scope) as′
-  let f : Frame = record { name = n; bindings = declared as′; ownBase = none; ownTag = none; kind = xmlElement }
+  let f : Frame = record { name = n; bindings = declared as′; ownBase = none; ownTag = none; kind = xmlElement; part = ordinary }
   let d′ = addXml (startTagXml n as′) d
   good ([], withFrames (f ∷ d′ .frames) d′)
 
--- an rdf:li is counted in the node around it
+-- an rdf:li is counted in the node around it, and rdf:RDF in the wrapper
 unfoldable pub counted : Bytes → Kind → Kind
 counted i rdfRDF = rdfRDF
+counted i (wrapper b) = wrapper true
 counted i (nodeElement s li) = nodeElement s (if isLi i then suc li else li)
 counted i (propertyElement p v) = propertyElement p v
 counted i xmlElement = xmlElement
 
-unfoldable pub countLi : Bytes → List Frame → List Frame
-countLi i [] = []
-countLi i (f ∷ fs) = withKind (counted i (f .kind)) f ∷ fs
+-- and where the profile remembers it, noted
+unfoldable pub countLi : Bytes → (Part → Part) → List Frame → List Frame
+countLi i h [] = []
+countLi i h (f ∷ fs) = withPart (h (f .part)) (withKind (counted i (f .kind)) f) ∷ fs
 
 -- an rdf:ID is entered with the acceptance
 unfoldable pub enter : Option Bytes → List Bytes → List Bytes
@@ -68,25 +69,44 @@ unfoldable pub opened : Tag → Doc → Opened → Step
 opened t d o = (
   o .lines,
   record {
+    mode = d .mode;
     startBase = d .startBase;
-    frames = record { name = t .name; bindings = t .bindings; ownBase = t .ownBase; ownTag = t .ownTag; kind = o .kind } ∷ countLi (t .iri) (d .frames);
+    frames =
+        record {
+          name = t .name;
+          bindings = t .bindings;
+          ownBase = t .ownBase;
+          ownTag = t .ownTag;
+          kind = o .kind;
+          part = newPart (d .mode .profile) (placeIn (d .frames)) (t .iri);
+        } ∷ countLi (t .iri) (noted (d .mode .profile) t) (d .frames);
     rooted = true;
     labels = o .labels;
     ids = enter (t .id) (d .ids);
   },
 )
 
+-- the rules that the mode of a document adds for a start tag (19)
+unfoldable pub modeRules : Mode → List Frame → Tag → Answer (Unit {0})
+modeRules m fs t = require keeps (m .profile) fs t or ProfileBroken
+
+-- the order of a production's refusals and these: 14 comes first, all others after them
+unfoldable pub underRules : Answer (Unit {0}) → Answer Opened → Answer Opened
+underRules (good _) a = a
+underRules (refuse r) (refuse q) = if eqb (number q) (number Reserved) then refuse q else refuse r
+underRules (refuse r) (good o) = refuse r
+
 -- outside Literal content, by a production
 unfoldable pub openElement : (Tag → ℕ → Answer Opened) → Bytes → List Attribute → Doc → Answer Step
 openElement production n as′ d = do
   t ← readTag n as′ d
-  o ← production t (d .labels)
+  o ← underRules (modeRules (d .mode) (d .frames) t) (production t (d .labels))
   require isShort t or OverLimit
   good (opened t d o)
 
 -- by what the start tag stands in
 unfoldable pub openIn : Place → Bytes → List Attribute → Doc → Answer Step
-openIn outside n as′ d = openElement openRoot n as′ d
+openIn outside n as′ d = if startsWrapper (d .mode .profile) n as′ (d .frames) then openWrapper n as′ d else openElement openRoot n as′ d
 openIn nodes n as′ d = openElement openNode n as′ d
 openIn nodesOrText n as′ d = openElement openNode n as′ d
 openIn (properties s li) n as′ d = openElement (λ t. openProperty t s li) n as′ d
@@ -113,5 +133,5 @@ onOpening n as′ d = do
   openIn p n as′ d
 
 unfoldable pub all : Unit {0}
-unfolding P.all O.all X.all isSecondRoot countsFit knownAttribute copyElement counted countLi enter opened openElement openIn isXml repeated onOpening
+unfolding P.all O.all X.all M.all isSecondRoot countsFit copyElement counted countLi enter opened modeRules underRules openElement openIn isXml repeated onOpening
 all = tt

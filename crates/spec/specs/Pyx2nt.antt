@@ -7,6 +7,7 @@ use lib.ListN.{length, drop}
 use Rattle.spec.specs.Bytes.{Bytes, ascii}
 use Rattle.spec.specs.Limits.{programRoom}
 use Rattle.spec.specs.NTriples.{decimal}
+use Rattle.spec.specs.Modes.{baseMode}
 use Rattle.spec.specs.Calls.{State, noDocument, callStart, callStep, callFinish}
 use Rattle.spec.specs.Calls as C
 
@@ -26,9 +27,9 @@ print (suc f) k (b ∷ rest) s =
       | suc n ↦ lastLine (suc n) k
     ]
 
--- no base
+-- document 01: no base
 unfoldable pub pyx2nt : Bytes → Bytes
-pyx2nt s = print (suc (length s)) 1 s (callStart true none noDocument .behind)
+pyx2nt s = print (suc (length s)) 1 s (callStart true baseMode none noDocument .behind)
 
 unfoldable pub all : Unit {0}
 unfolding C.all lastLine print pyx2nt

@@ -7,6 +7,7 @@ use Rattle.spec.specs.Numbers.{good}
 use Rattle.spec.specs.Pyx.{Event}
 use Rattle.spec.specs.NTriples.{Subject, named, node, Triple, triple}
 use Rattle.spec.specs.Rdf.{rdf}
+use Rattle.spec.specs.declared.Mode.{Mode}
 use Rattle.spec.specs.Document.{Doc, fresh}
 use Rattle.spec.specs.RdfXml.{next}
 use Rattle.spec.specs.Lists.{After}
@@ -26,6 +27,6 @@ pub data CellOf (ts : List Triple) : Subject → Subject → Type 0 where
 -- of a document, of a whole one, of several one after the other.
 pub data Given : List Triple → Type 0 where
   none-given : Given []
-  by-event : (b : Option Bytes) {d : Doc} {ts : List Triple} → After (fresh b) d ts
+  by-event : (m : Mode) (b : Option Bytes) {d : Doc} {ts : List Triple} → After (fresh m b) d ts
       → (e : Event) (d′ : Doc) (us : List Triple) → next e d ≡ good (us, d′) → Given us
   and-then : {ts us : List Triple} → Given ts → Given us → Given (ts ++ us)

@@ -6,7 +6,7 @@ use lib.ListN.{length}
 use Rattle.spec.specs.Bytes.{Bytes, total, All}
 use Rattle.spec.specs.Limits.{mostOpenElements, mostBindings, mostNameBytes, mostIds, mostIdBytes, mostHeldBytes, mostLabels}
 use Rattle.spec.specs.NTriples.{Subject, named, blank}
-use Rattle.spec.specs.Document.{Object, noObject, nodeObject, textObject, Value, default, collection, literal, other, Kind, rdfRDF, nodeElement, propertyElement, xmlElement, Frame, Doc, inScope, heldBytes}
+use Rattle.spec.specs.Document.{Object, noObject, nodeObject, textObject, Value, default, collection, literal, other, Kind, rdfRDF, wrapper, nodeElement, propertyElement, xmlElement, Part, ordinary, topLevel, alternatives, Frame, Doc, inScope, heldBytes}
 
 -- "any expanded name, IRI or base 1,024 bytes"
 abbrev pub Short : Bytes → Type 0
@@ -37,12 +37,19 @@ ShortValue other = Unit {0}
 -- a node's rdf:li are counted as labels are
 abbrev pub ShortKind : Kind → Type 0
 ShortKind rdfRDF = Unit {0}
+ShortKind (wrapper b) = Unit {0}
 ShortKind (nodeElement s li) = ShortSubject s × (li ≤ mostLabels)
 ShortKind (propertyElement p v) = ShortSubject (p .subject) × Short (p .iri) × Short? (p .id) × ShortValue v
 ShortKind xmlElement = Unit {0}
 
+-- the rdf:about that the XMP profile remembers
+abbrev pub ShortPart : Part → Type 0
+ShortPart ordinary = Unit {0}
+ShortPart (topLevel a) = Short? a
+ShortPart (alternatives b) = Unit {0}
+
 abbrev pub ShortFrame : Frame → Type 0
-ShortFrame f = Short? (f .ownBase) × ShortKind (f .kind)
+ShortFrame f = Short? (f .ownBase) × ShortKind (f .kind) × ShortPart (f .part)
 
 -- every limit on what is kept between events
 pub record Within (d : Doc) : Type 0 where

@@ -7,23 +7,25 @@ use Prim.Native.Nat.{ℕ, zero, suc}
 use Rattle.spec.specs.Bytes.{Bytes, ascii, byte}
 use Rattle.spec.specs.Limits.{mostLabels}
 use Rattle.spec.specs.NTriples.{named}
-use Rattle.spec.specs.Document.{nodeElement, fresh}
+use Rattle.spec.specs.Modes.{baseMode}
+use Rattle.spec.specs.Document.{nodeElement, ordinary, fresh}
 use Rattle.spec.specs.Calls.{State, isOpen, unlawful, noDocument, callStart, callStep, callFinish}
 use Rattle.spec.specs.Examples.{page, agree}
 use Rattle.spec.specs.Examples as E
 
 unfoldable pub new : State
-new = isOpen (fresh none)
+new = isOpen (fresh baseMode none)
 
 -- a document that has generated every label
 unfoldable pub spent : State
-spent = isOpen (record { startBase = none; frames = []; rooted = false; labels = mostLabels; ids = [] })
+spent = isOpen (record { mode = baseMode; startBase = none; frames = []; rooted = false; labels = mostLabels; ids = [] })
 
 -- a document in a node element that has had n rdf:li
 unfoldable pub inNode : ℕ → State
 inNode n = isOpen (record {
+  mode = baseMode;
   startBase = none;
-  frames = record { name = ascii "rdf:Bag"; bindings = []; ownBase = none; ownTag = none; kind = nodeElement (named (ascii "a:b")) n } ∷ [];
+  frames = record { name = ascii "rdf:Bag"; bindings = []; ownBase = none; ownTag = none; kind = nodeElement (named (ascii "a:b")) n; part = ordinary } ∷ [];
   rooted = true;
   labels = 1;
   ids = [];
@@ -62,14 +64,14 @@ answers =
     -- 2 leaves no rdf:ID behind: with room the same event is accepted
     (callStep true withId 0 new .answer, 2) ∷ (whole withId (callStep true withId 0 new .behind), 0) ∷
     -- 3: not by the rules; at start, store lengths only, and before 11
-    (whole (ascii "?a\n") unlawful, 3) ∷ (callFinish unlawful .answer, 3) ∷ (callStart true none unlawful .answer, 0) ∷
-    (callStart false none new .answer, 3) ∷ (callStart false (some (ascii "a")) new .answer, 3) ∷
+    (whole (ascii "?a\n") unlawful, 3) ∷ (callFinish unlawful .answer, 3) ∷ (callStart true baseMode none unlawful .answer, 0) ∷
+    (callStart false baseMode none new .answer, 3) ∷ (callStart false baseMode (some (ascii "a")) new .answer, 3) ∷
     -- 4: closed
     (whole [] noDocument, 4) ∷ (callFinish noDocument .answer, 4) ∷
     -- 6 at finish
     (callFinish new .answer, 6) ∷
     -- 11 at start
-    (callStart true (some (ascii "a")) new .answer, 11) ∷ (callStart true (some (0xFF ∷ [])) new .answer, 11) ∷
+    (callStart true baseMode (some (ascii "a")) new .answer, 11) ∷ (callStart true baseMode (some (0xFF ∷ [])) new .answer, 11) ∷
     -- 18: a 100,000,000th label
     (whole description new, 0) ∷ (whole description spent, 18) ∷
     -- 18: a 100,000,000th rdf:li in one node; 15 comes first
