@@ -8,7 +8,8 @@ use Rattle.spec.specs.Bytes.{Bytes}
 use Rattle.spec.specs.Namespaces.{Binding}
 use Rattle.spec.specs.NTriples.{Subject, named, blank}
 use Rattle.spec.specs.Document.{Object, noObject, nodeObject, textObject, default, collection, literal, other, Property, Doc}
-use Rattle.spec.specs.Document.{Kind as What, rdfRDF, nodeElement, propertyElement, xmlElement, Frame as Element}
+use Rattle.spec.specs.Document.{Kind as What, rdfRDF, nodeElement, propertyElement, xmlElement, ordinary, Frame as Element}
+use Rattle.spec.specs.Modes.{baseMode}
 use Rattle.copy.specs.Copy.{part}
 use Rattle.state_words.specs.Parts.{NAME, BINDINGS, BASE, TAG, MAIN, ID, DATATYPE, TAIL, END, BASED, TAGGED, BLANK, IDENTIFIED, TYPED, PENDING, COUNT, FIRST}
 use Rattle.state_words.specs.declared.Kind.{Kind}
@@ -105,6 +106,7 @@ elementOf f bound w s =
       ownBase = optional (has f BASED) (span w (at f BASE) (at f TAG));
       ownTag = optional (has f TAGGED) (span w (at f TAG) (at f MAIN));
       kind = whatOf (f .kind) f w s;
+      part = ordinary;
     }
 
 -- the subject of the element around element n
@@ -122,7 +124,7 @@ framesOf fs bs w (suc n) b =
 -- ---- open elements inside Literal content
 
 unfoldable pub innerOf : Row → List Binding → List ℕ → Element
-innerOf r bound w = record { name = part w (r .at) (r .name); bindings = bound; ownBase = none; ownTag = none; kind = xmlElement }
+innerOf r bound w = record { name = part w (r .at) (r .name); bindings = bound; ownBase = none; ownTag = none; kind = xmlElement; part = ordinary }
 
 -- n elements, whose bindings end before b: innermost first
 unfoldable pub innersOf : List ℕ → List ℕ → List ℕ → ℕ → ℕ → List Element
@@ -142,4 +144,12 @@ elementsOf r fs bs is w = innersOf is bs w (r .counts .inner) (r .counts .bindin
 
 -- registers, frames, bindings, inner elements, work store; the rdf:IDs are kept elsewhere
 unfoldable pub docOf : Registers → List ℕ → List ℕ → List ℕ → List ℕ → List Bytes → Doc
-docOf r fs bs is w ids = record { startBase = startOf r w; frames = elementsOf r fs bs is w; rooted = r .flags .rooted; labels = r .counts .labels; ids = ids }
+docOf r fs bs is w ids =
+    record {
+      mode = baseMode;
+      startBase = startOf r w;
+      frames = elementsOf r fs bs is w;
+      rooted = r .flags .rooted;
+      labels = r .counts .labels;
+      ids = ids;
+    }
