@@ -249,6 +249,10 @@ pub always-mode : (m : Mode) (b : Option Bytes) (d : Doc) (ts : List Triple) →
 unfolding fresh
 always-mode m b d ts h = always-holds (λ d. d .mode ≡ m) (λ d d′ us c f k. mode-kept c ∙ k) refl h
 
+-- so they stand as that mode says
+pub nested-in : (m : Mode) (b : Option Bytes) (d : Doc) (ts : List Triple) → After (fresh m b) d ts → Nested m (d .frames)
+nested-in m b d ts h = subst (λ (x : Mode). Nested x (d .frames)) (always-mode m b d ts h) (always-nested m b d ts h)
+
 -- ---- a property's subject is held by the node around it
 
 node-bytes : (k : Kind) (s : Subject) (li : ℕ) → inKind k ≡ properties s li → subjectBytes s ≡ kindBytes k
