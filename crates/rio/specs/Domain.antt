@@ -13,7 +13,7 @@ use mathlib.Core.List.{List, _++_}
 use Rattle.spec.specs.Bytes.{ascii, begins, All}
 use Rattle.spec.specs.Numbers.{refuse}
 use Rattle.spec.specs.declared.Refusal.{Refusal}
-use Rattle.spec.specs.declared.Refusal.the-variants.{Incomplete, NoRoom, BadState, Closed, NotPyx, NotWellFormed, OverLimit, NoNamespace, NotNcName, BadLanguage, BadIri, RepeatedId, BadLabel, Reserved, TwoNames, StrayText, EmptyLiteral, LabelsSpent}
+use Rattle.spec.specs.declared.Refusal.the-variants.{Incomplete, NoRoom, BadState, Closed, NotPyx, NotWellFormed, OverLimit, NoNamespace, NotNcName, BadLanguage, BadIri, RepeatedId, BadLabel, Reserved, TwoNames, StrayText, EmptyLiteral, LabelsSpent, ProfileBroken}
 use Rattle.spec.specs.Pyx.{Attribute, Event, opening, closing, text, instruction}
 use Rattle.spec.specs.Namespaces.{Binding, declared, isDeclaration, nameOf, isKnown, allLegal}
 use Rattle.spec.specs.Document.{Doc, inScope, placeIn}
@@ -110,3 +110,5 @@ outside StrayText = false
 outside EmptyLiteral = false
 -- a label's ninth digit is lost, so labels come again; the 100,000,000th rdf:li is rdf:_100000000
 outside LabelsSpent = true
+-- never given in the base mode
+outside ProfileBroken = false

@@ -7,7 +7,7 @@ use mathlib.Core.List.{List, [], _∷_, _++_}
 use Rattle.spec.specs.Bytes.{All}
 use Rattle.spec.specs.Numbers.{refuse, good}
 use Rattle.spec.specs.declared.Refusal.{Refusal}
-use Rattle.spec.specs.declared.Refusal.the-variants.{Incomplete, NoRoom, BadState, Closed, NotPyx, NotWellFormed, OverLimit, NoNamespace, NotNcName, BadLanguage, BadIri, RepeatedId, BadLabel, Reserved, TwoNames, StrayText, EmptyLiteral, LabelsSpent}
+use Rattle.spec.specs.declared.Refusal.the-variants.{Incomplete, NoRoom, BadState, Closed, NotPyx, NotWellFormed, OverLimit, NoNamespace, NotNcName, BadLanguage, BadIri, RepeatedId, BadLabel, Reserved, TwoNames, StrayText, EmptyLiteral, LabelsSpent, ProfileBroken}
 use Rattle.spec.specs.Pyx.{Attribute, Event, opening, closing, text, instruction}
 use Rattle.spec.specs.Namespaces.{declared, isDeclaration, nameOf, isKnown, allLegal}
 use Rattle.spec.specs.Document.{Doc, inScope, placeIn}
@@ -65,6 +65,7 @@ in-domain e d k TwoNames h = refl
 in-domain e d k StrayText h = refl
 in-domain e d k EmptyLiteral h = refl
 in-domain e d k LabelsSpent h = absurd (k .not-refused-by-18 h)
+in-domain e d k ProfileBroken h = refl
 
 pub in-domain-needed : (e : Event) (d : Doc) → InDomain e d → NeededPrefixes e d
 in-domain-needed (opening n as′) d k = needed (opening n as′) d (k .namespace-well-formed .2)

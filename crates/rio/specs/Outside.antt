@@ -14,7 +14,8 @@ use Rattle.spec.specs.declared.Refusal.the-variants.{NotWellFormed, OverLimit, 
 use Rattle.spec.specs.Pyx.{Attribute, attribute, Event, opening, closing}
 use Rattle.spec.specs.Rdf.{rdf}
 use Rattle.spec.specs.NTriples.{named, blank, node, plain, Triple, triple}
-use Rattle.spec.specs.Document.{nodeElement, Doc, fresh}
+use Rattle.spec.specs.Modes.{baseMode}
+use Rattle.spec.specs.Document.{nodeElement, ordinary, Doc, fresh}
 use Rattle.spec.specs.RdfXml.{next}
 use Rattle.spec.specs.RdfXml as X
 use Rattle.rio.specs.Parser.{Ok, RdfXmlReader, new, parse-step, parse-all}
@@ -24,7 +25,7 @@ use Rattle.rio.specs.SameAsRust.{then-read, read-all}
 
 -- document 01 refuses the last of these events by this number; the Rust accepts them all, and gives these triples
 abbrev Differs : List Event → Refusal → List Triple → Type 0
-Differs es n ts = (read-all es (fresh none) .1 ≡ refuse n) × (r : RdfXmlReader) × (parse-all es (new none) ≡ (ts, Ok r))
+Differs es n ts = (read-all es (fresh baseMode none) .1 ≡ refuse n) × (r : RdfXmlReader) × (parse-all es (new none) ≡ (ts, Ok r))
 
 -- an attribute, and the declarations of the prefixes rdf, e and f
 abbrev is : String → String → Attribute
@@ -130,7 +131,7 @@ label-as-generated = (refl, _, refl)
 -- ---- 18: behind 99,999,999 labels a label's ninth digit is lost
 
 abbrev labels-spent : Doc
-labels-spent = record { startBase = none; frames = []; rooted = false; labels = 99_999_999; ids = [] }
+labels-spent = record { mode = baseMode; startBase = none; frames = []; rooted = false; labels = 99_999_999; ids = [] }
 
 label-again : (next (start-P []) labels-spent ≡ refuse LabelsSpent)
     × (r : RdfXmlReader) × (parse-step (start-P []) (reader-of labels-spent []) ≡ Ok (is-P "riog00000000" ∷ [], r))
@@ -140,6 +141,7 @@ label-again = (refl, _, refl)
 -- and behind 99,999,999 rdf:li the number is one more
 abbrev lis-spent : Doc
 lis-spent = record {
+  mode = baseMode;
   startBase = none;
   frames = record {
     name = ascii "e:P";
@@ -147,6 +149,7 @@ lis-spent = record {
     ownBase = none;
     ownTag = none;
     kind = nodeElement (blank (ascii "k")) 99_999_999;
+    part = ordinary;
   } ∷ [];
   rooted = true;
   labels = 1;

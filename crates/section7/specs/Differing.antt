@@ -13,6 +13,7 @@ use Rattle.spec.specs.declared.Refusal.the-variants.{NotWellFormed, NoNamespace
 use Rattle.spec.specs.Pyx.{Attribute, attribute}
 use Rattle.spec.specs.Rdf.{rdf}
 use Rattle.spec.specs.NTriples.{Subject, named, blank, node, plain, tagged, typed, Triple, triple, label, write}
+use Rattle.spec.specs.Modes.{baseMode}
 use Rattle.spec.specs.Document.{fresh}
 use Rattle.section7.specs.Events.{Content, end, characters, instruction, comment, element, events, Context, inside}
 use Rattle.section7.specs.Grammar.{StartElement, Identifier, Used, propertyEltList, Matches, noNode, noProperty, nodeElement, literalPropertyElt, parseTypeLiteralPropertyElt, parseTypeOtherPropertyElt, emptyPropertyEltBlank, outermost, Accepts, RDF, alone}
@@ -22,7 +23,7 @@ use Rattle.section7.specs.Deriving as D
 
 -- the lines that the reader gives
 unfoldable pub lines : Option Bytes → Content → Answer (List Triple)
-lines b x = run (events x) (fresh b) >>= λ s. good (s .0)
+lines b x = run (events x) (fresh baseMode b) >>= λ s. good (s .0)
 
 -- are they these?
 unfoldable pub gives : Answer (List Triple) → List Triple → Bool

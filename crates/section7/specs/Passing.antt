@@ -9,19 +9,19 @@ use lib.ListN.{length}
 use Rattle.spec.specs.Bytes.{Bytes, if_then_else_, isEmpty, _>>=_, _>>_, require_or_, each}
 use Rattle.spec.specs.Numbers.{Answer, refuse, good}
 use Rattle.spec.specs.declared.Refusal.{Refusal}
-use Rattle.spec.specs.declared.Refusal.the-variants.{NotWellFormed, OverLimit, NoNamespace, NotNcName, BadLanguage, BadIri, RepeatedId, BadLabel, Reserved, TwoNames, StrayText, EmptyLiteral, LabelsSpent}
+use Rattle.spec.specs.declared.Refusal.the-variants.{NotWellFormed, OverLimit, NoNamespace, NotNcName, BadLanguage, BadIri, RepeatedId, BadLabel, Reserved, TwoNames, StrayText, EmptyLiteral, LabelsSpent, ProfileBroken}
 use Rattle.spec.specs.Limits.{mostLabels}
 use Rattle.spec.specs.XmlNames.{isNCName, localOf, prefixOf}
 use Rattle.spec.specs.Pyx.{Attribute, attribute, Event, opening, closing, text, instruction}
-use Rattle.spec.specs.Namespaces.{Binding, namespace, inNamespace, expandElement, isDeclaration, expandAttribute}
-use Rattle.spec.specs.Document.{Value, default, collection, literal, other, Property, Kind, rdfRDF, nodeElement, propertyElement, xmlElement, Frame, Doc, withFrames, languageInForce, Place, outside, nodes, nodesOrText, xml, properties, placeIn, fits}
+use Rattle.spec.specs.Namespaces.{Binding, namespace, inNamespace, expandElement, isDeclaration, expandAttribute, knownAttribute}
+use Rattle.spec.specs.Document.{Value, default, collection, literal, other, Property, Kind, rdfRDF, wrapper, nodeElement, propertyElement, xmlElement, Frame, Doc, withFrames, languageInForce, Place, outside, nodes, nodesOrText, xml, properties, placeIn, fits}
 use Rattle.spec.specs.StartTag.{Role, nothing, xml-lang, xml-base, rdf-ID, rdf-bagID, rdf-nodeID, rdf-about, rdf-resource, rdf-datatype, rdf-parseType, rdf-type, forbidden, property, roleOf, judge, known, Meaning, means, meaning, resolved, Tag, readTag, isShort}
 use Rattle.spec.specs.Productions.{Opened, oneMore, openNode, objectOf, openWithNode, openDefault, openResource, openWith, noParseType, asCollection, asResource, asLiteral, asOther, ParseType, openAs, openProperty, openRoot}
 use Rattle.spec.specs.NTriples.{Subject}
-use Rattle.spec.specs.Opening.{Step, countsFit, knownAttribute, copyElement, openElement, openIn, onOpening}
+use Rattle.spec.specs.Opening.{Step, countsFit, modeRules, underRules, copyElement, openElement, openIn, onOpening}
 use Rattle.spec.specs.EndTag.{endValue, endKind, closeElement}
 use Rattle.spec.specs.RdfXml.{onText, onEvent, within, next}
-use Rattle.section7.specs.Reading.{limit, Passes, counts, names, kept, labels, lis, cells}
+use Rattle.section7.specs.Reading.{limit, Unwrapped, Passes, counts, names, kept, labels, lis, cells}
 
 -- ---- an answer that is refused with a limit's number only for this reason
 
@@ -153,6 +153,13 @@ module _ (P : Refusal → Type 0) (n : ℕ) (spent : ltb n mostLabels ≡ false 
       (for-then P _ _ (for-other P _ TwoNames refl)
       (for-then P _ _ (for-if P _ _ _ (for-limit P (ltb li mostLabels) LabelsSpent h) tt) (for-as _ t _)))
 
+-- the rules of a mode have no limit
+for-rules : (P : Refusal → Type 0) (r : Answer (Unit {0})) (a : Answer Opened) → For P r → For P a → For P (underRules r a)
+unfolding underRules
+for-rules P (good x) a h k = k
+for-rules P (refuse r) (refuse q) h k = for-if P _ _ _ k h
+for-rules P (refuse r) (good o) h k = h
+
 -- ---- events
 
 module _ (n : Bytes) (as′ : List Attribute) (d : Doc) where
@@ -160,27 +167,27 @@ module _ (n : Bytes) (as′ : List Attribute) (d : Doc) where
   Why = Passes (opening n as′) d
 
   for-element : (production : Tag → ℕ → Answer Opened) → ((t : Tag) → For Why (production t (d .labels))) → For Why (openElement production n as′ d)
-  unfolding openElement
+  unfolding openElement modeRules
   for-element production h =
       for-bind Why (readTag n as′ d) _ (for-tag Why n as′ d) λ t q.
-      for-bind Why (production t (d .labels)) _ (h t) λ o r.
+      for-bind Why _ _ (for-rules Why _ (production t (d .labels)) (for-other Why _ ProfileBroken refl) (h t)) λ o r.
       for-then Why _ _ (for-limit Why (isShort t) OverLimit λ l. names refl q l) tt
 
   for-copy : For Why (copyElement n as′ d)
   unfolding copyElement knownAttribute
   for-copy = for-then Why _ _ (for-other Why _ NoNamespace refl) (for-then Why _ _ (for-each Why _ (λ a. for-other Why _ NoNamespace refl) as′) tt)
 
-  for-place : (p : Place) → placeIn (d .frames) ≡ p → For Why (openIn p n as′ d)
-  unfolding openIn
-  for-place outside e = for-element openRoot (for-root Why (d .labels) labels)
-  for-place nodes e = for-element openNode (for-node Why (d .labels) labels)
-  for-place nodesOrText e = for-element openNode (for-node Why (d .labels) labels)
-  for-place (properties s li) e = for-element (λ t. openProperty t s li) (λ t. for-property Why (d .labels) labels t s li (lis e))
-  for-place xml e = for-copy
+  for-place : (p : Place) → Unwrapped (opening n as′) d → placeIn (d .frames) ≡ p → For Why (openIn p n as′ d)
+  unfolding openIn if_then_else_
+  for-place outside w e = rw w (for-element openRoot (for-root Why (d .labels) labels))
+  for-place nodes w e = for-element openNode (for-node Why (d .labels) labels)
+  for-place nodesOrText w e = for-element openNode (for-node Why (d .labels) labels)
+  for-place (properties s li) w e = for-element (λ t. openProperty t s li) (λ t. for-property Why (d .labels) labels t s li (lis e))
+  for-place xml w e = for-copy
 
-  for-opening : For Why (onOpening n as′ d)
+  for-opening : Unwrapped (opening n as′) d → For Why (onOpening n as′ d)
   unfolding onOpening
-  for-opening = for-then Why _ _ (for-other Why _ NotWellFormed refl) (for-then Why _ _ (for-limit Why (countsFit as′ (d .frames)) OverLimit (counts refl)) (for-place (placeIn (d .frames)) refl))
+  for-opening w = for-then Why _ _ (for-other Why _ NotWellFormed refl) (for-then Why _ _ (for-limit Why (countsFit as′ (d .frames)) OverLimit (counts refl)) (for-place (placeIn (d .frames)) w refl))
 
 module _ (n : Bytes) (d : Doc) where
   abbrev WhyEnd : Refusal → Type 0
@@ -196,6 +203,7 @@ module _ (n : Bytes) (d : Doc) where
   for-kind : (f : Frame) (fs : List Frame) (k : Kind) (l : Option Bytes) → d .frames ≡ f ∷ fs → f .kind ≡ k → For WhyEnd (endKind k n l (withFrames fs d))
   unfolding endKind
   for-kind f fs rdfRDF l e q = tt
+  for-kind f fs (wrapper b) l e q = for-then WhyEnd _ _ (for-other WhyEnd _ ProfileBroken refl) tt
   for-kind f fs (nodeElement s li) l e q = tt
   for-kind f fs (propertyElement p v) l e q = for-value f fs p v l e q
   for-kind f fs xmlElement l e q = tt
@@ -213,17 +221,17 @@ for-text P (properties u li) s d = for-then P _ _ (for-other P _ StrayText refl)
 for-text P nodesOrText s d = tt
 for-text P xml s d = tt
 
-for-event : (e : Event) (d : Doc) → For (Passes e d) (onEvent e d)
+for-event : (e : Event) (d : Doc) → Unwrapped e d → For (Passes e d) (onEvent e d)
 unfolding onEvent
-for-event (opening n as′) d = for-opening n as′ d
-for-event (closing n) d = for-closing n d (d .frames) refl
-for-event (text s) d = for-text (Passes (text s) d) (placeIn (d .frames)) s d
-for-event instruction d = tt
+for-event (opening n as′) d w = for-opening n as′ d w
+for-event (closing n) d w = for-closing n d (d .frames) refl
+for-event (text s) d w = for-text (Passes (text s) d) (placeIn (d .frames)) s d
+for-event instruction d w = tt
 
-for-next : (e : Event) (d : Doc) → For (Passes e d) (next e d)
+for-next : (e : Event) (d : Doc) → Unwrapped e d → For (Passes e d) (next e d)
 unfolding next within
-for-next e d = for-bind (Passes e d) (onEvent e d) within (for-event e d) λ s q. for-then (Passes e d) _ _ (for-limit (Passes e d) (fits (s .1)) OverLimit (kept q)) tt
+for-next e d w = for-bind (Passes e d) (onEvent e d) within (for-event e d w) λ s q. for-then (Passes e d) _ _ (for-limit (Passes e d) (fits (s .1)) OverLimit (kept q)) tt
 
 -- an event that is refused by 7 or 18 passes a limit
-pub limit-passed : (e : Event) (d : Doc) (n : Refusal) → next e d ≡ refuse n → limit n ≡ true → Passes e d n
-limit-passed e d n q = let h : For {A = Step} (Passes e d) (refuse n) = rw q at (for-next e d) in h
+pub limit-passed : (e : Event) (d : Doc) (n : Refusal) → Unwrapped e d → next e d ≡ refuse n → limit n ≡ true → Passes e d n
+limit-passed e d n w q = let h : For {A = Step} (Passes e d) (refuse n) = rw q at (for-next e d w) in h

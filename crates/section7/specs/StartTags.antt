@@ -19,12 +19,15 @@ use Rattle.spec.specs.NTriples.{Subject}
 use Rattle.spec.proofs.Booleans.{no-true}
 use Rattle.spec.proofs.Bytes.{same-true, same-refl}
 use Rattle.spec.specs.Rdf as F
-use Rattle.spec.specs.Document.{Kind, Frame, Doc, withKind, inScope, languageInForce, baseInForce, placeIn, inKind}
+use Rattle.spec.specs.Modes.{baseMode}
+use Rattle.spec.specs.Document.{Kind, ordinary, Frame, Doc, withKind, withPart, inScope, languageInForce, baseInForce, placeIn, inKind}
 use Rattle.spec.specs.StartTag.{rdf-ID, rdf-nodeID, rdf-about, rdf-resource, rdf-datatype, rdf-parseType, rdf-type, roleNumber, sameRole, rdfRoles, roleAmong, lowercased, resolved, withHash, isUnused, Tag, readTag, isShort}
 use Rattle.spec.specs.Productions.{Opened}
+use Rattle.spec.specs.Xmp.{startsWrapper, newPart, noted}
 use Rattle.spec.specs.Opening.{enter, counted, countLi, opened, openElement, openIn, isXml, isSecondRoot, repeated, onOpening}
 use Rattle.spec.specs.RdfXml.{next, onEvent}
 use Rattle.theorems.specs.Always.{always-bind, always-any, always-after, always-self, always-good}
+use Rattle.theorems.specs.Rules.{no-rules}
 use Rattle.theorems.specs.Roles.{or-none, nameIn}
 use Rattle.section7.specs.Events.{Context, written, target, language-in, inside, AttributeEvent, attributes, uri-of, is-reserved, is-named}
 use Rattle.section7.specs.Grammar.{value, values, is-rdf-id, all-resolved, typeTriple, typeTriples, Identifier, under, identifier, entered, fragment, iri-of, StartElement, Used, attrs, nodeID}
@@ -250,7 +253,7 @@ module _ (c : Context) (n : Bytes) (as′ : List Attribute) (u : Used) (e : Star
 
   -- the new element, of kind k
   unfoldable pub frame : Kind → Frame
-  frame k = record { name = n; bindings = declared as′; ownBase = written (ascii "xml:base") as′; ownTag = lowercased (written (ascii "xml:lang") as′); kind = k }
+  frame k = record { name = n; bindings = declared as′; ownBase = written (ascii "xml:base") as′; ownTag = lowercased (written (ascii "xml:lang") as′); kind = k; part = ordinary }
 
   -- its rdf:ID, entered
   pub ids-entered : enter (e .id) (map iri-of (u .ids)) ≡ map iri-of (entered (identifier c as′) (u .ids))
@@ -310,16 +313,17 @@ module _ (c : Context) (n : Bytes) (as′ : List Attribute) (u : Used) (e : Star
         → c ≡ context b (f ∷ fs) → isXml (inKind k) ≡ false → ((d : Doc) → openIn (inKind k) n as′ d ≡ openElement production n as′ d) → Produces (production tag (u .labels)) o
         → Steps (opening n as′) (doc b (withKind k f ∷ fs) u) (o .lines)
         (doc b (frame (o .kind) ∷ withKind (counted (e .uri) k) f ∷ fs) (record { labels = o .labels; ids = entered (identifier c as′) (u .ids) }))
-    unfolding next onEvent onOpening placeIn withKind openElement opened countLi frame doc tag context inScope languageInForce baseInForce _>>=_ _>>_
+    unfolding next onEvent onOpening placeIn withKind withPart startsWrapper openElement newPart noted opened countLi frame doc tag context inScope languageInForce baseInForce _>>=_ _>>_
     opening-gives b f k fs production o q x by p =
         let d : Doc = doc b (withKind k f ∷ fs) u in
         rw (← ids-entered)
         (record {
+          unwrapped = refl;
           gives =
               gives-within (onOpening n as′ d) _ _
               (gives-pass _ NotWellFormed _ _ _ (well-formed b f k fs q x)
               (gives-limit _ OverLimit _ _ _ refl
-              (rw (by d, tag-read b (withKind k f ∷ fs) q) (produced d (production tag (u .labels)) o p))));
+              (rw (by d, tag-read b (withKind k f ∷ fs) q, no-rules baseMode (withKind k f ∷ fs) tag (production tag (u .labels)) refl) (produced d (production tag (u .labels)) o p))));
         })
 
     -- the context inside it

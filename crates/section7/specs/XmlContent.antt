@@ -7,13 +7,14 @@ use Rattle.spec.specs.Bytes.{Bytes, if_then_else_, same, isEmpty, member, repea
 use Rattle.spec.specs.Numbers.{Answer, refuse, good}
 use Rattle.spec.specs.declared.Refusal.the-variants.{NotWellFormed, OverLimit, NoNamespace, EmptyLiteral}
 use Rattle.spec.specs.Pyx.{Attribute, attribute, Event, opening, closing, text}
-use Rattle.spec.specs.Namespaces.{Binding, declared, nameOf, allLegal, isKnown, repeatsWritten}
+use Rattle.spec.specs.Namespaces.{Binding, declared, nameOf, allLegal, isKnown, knownAttribute, repeatsWritten}
 use Rattle.spec.specs.Rdf.{rdf}
 use Rattle.spec.specs.NTriples.{Triple, typed, coded}
-use Rattle.spec.specs.Document.{Value, literal, Property, Kind, propertyElement, xmlElement, Frame, Doc, withFrames, withKind, isXmlElement, onValue, changeValue, inScope, languageInForce, Place, xml, placeIn, inKind, inValue}
+use Rattle.spec.specs.Document.{Value, literal, Property, Kind, propertyElement, xmlElement, ordinary, Frame, Doc, withFrames, withKind, isXmlElement, onValue, changeValue, inScope, languageInForce, Place, xml, placeIn, inKind, inValue}
 use Rattle.spec.specs.Productions.{statement}
 use Rattle.spec.specs.XmlLiteral.{startTagXml, endTagXml, textByte, textXml, takesXml, addXml}
-use Rattle.spec.specs.Opening.{Step, isSecondRoot, knownAttribute, copyElement, openIn, isXml, repeated, onOpening}
+use Rattle.spec.specs.Xmp.{startsWrapper}
+use Rattle.spec.specs.Opening.{Step, isSecondRoot, copyElement, openIn, isXml, repeated, onOpening}
 use Rattle.spec.specs.EndTag.{endValue, endKind, closeElement}
 use Rattle.spec.specs.RdfXml.{onText, onEvent, next}
 use Rattle.spec.proofs.Bytes.{same-refl}
@@ -55,7 +56,7 @@ AllXml xs = All (λ f. f .kind ≡ xmlElement) xs
 
 -- the element in Literal content that a start tag opens
 abbrev copy : Bytes → List Attribute → Frame
-copy n as′ = record { name = n; bindings = declared as′; ownBase = none; ownTag = none; kind = xmlElement }
+copy n as′ = record { name = n; bindings = declared as′; ownBase = none; ownTag = none; kind = xmlElement; part = ordinary }
 
 -- g is the Literal property, with the XML text y so far
 module _ (b : Option Bytes) (p : Property) (g : Frame) (fs : List Frame) (u : Used) where
@@ -82,6 +83,7 @@ module _ (b : Option Bytes) (p : Property) (g : Frame) (fs : List Frame) (u : Us
   text-copied : (s y : Bytes) (xs : List Frame) → AllXml xs → Steps (text s) (doc b (xs ++ around y) u) [] (doc b (xs ++ around (y ++ textXml s)) u)
   unfolding next onEvent doc onText addXml withFrames
   text-copied s y xs a = record {
+    unwrapped = tt;
     gives = gives-within (onText (placeIn (xs ++ around y)) s (doc b (xs ++ around y) u)) _ _ (rw (xml-place y xs a, onText, takes-xml (textXml s) y xs a) refl);
   }
 
@@ -101,8 +103,9 @@ module _ (b : Option Bytes) (p : Property) (g : Frame) (fs : List Frame) (u : Us
 
   tag-copied : (n : Bytes) (as′ : List Attribute) (y : Bytes) (xs : List Frame) → AllXml xs → WellFormedTag (inScope (xs ++ around y)) n as′
       → Steps (opening n as′) (doc b (xs ++ around y) u) [] (doc b ((copy n as′ ∷ xs) ++ around (y ++ startTagXml n as′)) u)
-  unfolding next onEvent onOpening openIn doc
+  unfolding next onEvent onOpening openIn startsWrapper doc
   tag-copied n as′ y xs a t = record {
+    unwrapped = refl;
     gives =
         gives-within (onOpening n as′ (doc b (xs ++ around y) u)) _ _
         (rw (xml-place y xs a)
@@ -114,6 +117,7 @@ module _ (b : Option Bytes) (p : Property) (g : Frame) (fs : List Frame) (u : Us
       → Steps (closing n) (doc b ((copy n as′ ∷ xs) ++ around y) u) [] (doc b (xs ++ around (y ++ endTagXml n)) u)
   unfolding next onEvent doc closeElement endKind addXml withFrames
   end-copied n as′ y xs a = record {
+    unwrapped = tt;
     gives =
         gives-within (closeElement n ((copy n as′ ∷ xs) ++ around y) (doc b ((copy n as′ ∷ xs) ++ around y) u)) _ _
         (gives-pass _ NotWellFormed _ _ _ (same-refl n) (rw (takes-xml (endTagXml n) y xs a) refl));
@@ -152,6 +156,7 @@ pub xml-closes : (b : Option Bytes) (p : Property) (g : Frame) (fs : List Frame)
     → Steps (closing (g .name)) (doc b (withKind (propertyElement p (literal x)) g ∷ fs) u) (statement p (typed x (rdf "XMLLiteral"))) (doc b fs u)
 unfolding next onEvent doc closeElement endKind endValue withFrames withKind
 xml-closes b p g fs u x h = record {
+  unwrapped = tt;
   gives =
       gives-within (closeElement (g .name) (withKind (propertyElement p (literal x)) g ∷ fs) (doc b (withKind (propertyElement p (literal x)) g ∷ fs) u)) _ _
       (gives-pass _ NotWellFormed _ _ _ (same-refl (g .name)) (gives-pass _ EmptyLiteral _ _ _ (ap not h) refl));

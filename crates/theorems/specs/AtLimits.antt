@@ -2,12 +2,14 @@
 -- they stand behind the definitions, and the other tables with them.
 use mathlib.Core.Path.{_≡_, refl}
 use mathlib.Core.Bool.{true}
-use mathlib.Core.Option.{some}
+use mathlib.Core.Option.{none, some}
 use mathlib.Core.List.{List, [], _∷_, _++_}
 use Prim.Native.Nat.{ℕ, zero, suc, _+_, _/_, _%_}
 use Rattle.spec.specs.Bytes.{Bytes, ascii, byte}
 use Rattle.spec.specs.Limits.{mostEventBytes}
-use Rattle.spec.specs.Calls.{callStart, callStep}
+use Rattle.spec.specs.Modes.{baseMode, xmpMode}
+use Rattle.spec.specs.Document.{fresh}
+use Rattle.spec.specs.Calls.{isOpen, callStart, callStep}
 use Rattle.spec.specs.Examples.{agree}
 use Rattle.spec.specs.Examples.Calls.{new, spent, manyOf, whole, part}
 use Rattle.spec.specs.Examples.Calls as C
@@ -17,8 +19,8 @@ use Rattle.spec.specs.Examples.Order.{inRdf}
 unfoldable pub lengths : List (ℕ × ℕ)
 lengths =
     -- a base of 1,024 bytes, and of one more
-    (callStart true (some (ascii "a:" ++ manyOf 1_022 (byte "b"))) new .answer, 0) ∷
-    (callStart true (some (ascii "a:" ++ manyOf 1_023 (byte "b"))) new .answer, 7) ∷
+    (callStart true baseMode (some (ascii "a:" ++ manyOf 1_022 (byte "b"))) new .answer, 0) ∷
+    (callStart true baseMode (some (ascii "a:" ++ manyOf 1_023 (byte "b"))) new .answer, 7) ∷
     -- event length (7), then 1
     (part (manyOf mostEventBytes (byte "?")) new, 1) ∷ (part (manyOf (suc mostEventBytes) (byte "?")) new, 7) ∷
     []
@@ -46,6 +48,22 @@ names =
     (callStep true (ascii "(l:P\nAxmlns:l " ++ (manyOf 1_024 (byte "n") ++ ascii "\n")) 0 new .answer, 7) ∷
     (callStep true (ascii "(l:P\nAxmlns:l " ++ (manyOf 1_023 (byte "n") ++ ascii "\n")) 0 new .answer, 2) ∷
     []
+
+-- the wrapper of document 02: 8 is not given for attributes without prefix, 7 is for their number and their expanded names, and none for the
+-- length of xml:base
+unfoldable pub wrapper : Bytes → ℕ
+wrapper as′ = whole (ascii "(x:xmpmeta\nAxmlns:x adobe:ns:meta/\n" ++ as′) (isOpen (fresh xmpMode none))
+
+unfoldable pub wrappers : List (ℕ × ℕ)
+wrappers =
+    (wrapper (unprefixed 63), 0) ∷ (wrapper (unprefixed 64), 7) ∷
+    (wrapper (ascii "Ax:" ++ (manyOf 1_010 (byte "n") ++ ascii " \n")), 0) ∷ (wrapper (ascii "Ax:" ++ (manyOf 1_011 (byte "n") ++ ascii " \n")), 7) ∷
+    (wrapper (ascii "Axml:base " ++ (manyOf 1_025 (byte "n") ++ ascii "\n")), 0) ∷
+    []
+
+pub at-wrappers : agree wrappers ≡ true
+unfolding C.all unprefixed wrapper wrappers
+at-wrappers = refl
 
 pub at-lengths : agree lengths ≡ true
 unfolding C.all lengths

@@ -11,15 +11,17 @@ use Rattle.spec.specs.Bytes as Y
 use Rattle.spec.specs.Numbers.{Answer, good}
 use Rattle.spec.specs.XmlNames.{prefixOf, localOf}
 use Rattle.spec.specs.Pyx.{Attribute, attribute, opening}
-use Rattle.spec.specs.Namespaces.{Binding, declared, isDeclaration, nameOf, isKnown, namespace, joined, inNamespace, expandAttribute, expandElement}
+use Rattle.spec.specs.Namespaces.{Binding, declared, isDeclaration, nameOf, isKnown, namespace, joined, inNamespace, expandAttribute, expandElement, knownAttribute}
 use Rattle.spec.specs.Document.{Doc, inScope, Place, outside, nodes, nodesOrText, xml, properties, placeIn}
 use Rattle.spec.specs.StartTag.{judge, roleOf, known, means, meaning, Tag, readTag}
 use Rattle.spec.specs.Productions.{Opened, openNode, openProperty, openRoot}
-use Rattle.spec.specs.Opening.{Step, knownAttribute, copyElement, openElement, openIn, onOpening}
+use Rattle.spec.specs.Xmp.{openWrapper}
+use Rattle.spec.specs.Opening.{Step, copyElement, openElement, openIn, onOpening}
 use Rattle.spec.specs.RdfXml.{onEvent, within, next}
 use Rattle.spec.proofs.Booleans.{or-cases, or-right, and-left, and-right, and-both, no-true}
 use Rattle.spec.proofs.Bytes.{same-true}
 use Rattle.theorems.specs.Always.{Always, always-bind, always-any, always-then, always-after, always-test, always-require, always-if, always-good}
+use Rattle.theorems.specs.Rules.{Wrapping, wrapping}
 
 -- ---- names that begin `xml`
 
@@ -127,16 +129,24 @@ module _ (n : Bytes) (as′ : List Attribute) (d : Doc) where
       (always-any All-known _ _ λ about′. always-any All-known _ _ λ resource′. always-any All-known _ _ λ datatype′. always-any All-known _ _ λ type′. (e, k)))
       λ t k. always-any All-known _ _ λ o. always-after All-known _ _ k
 
+  copied-attributes : Always (λ us. All (λ a. isDeclaration a ≡ false → isKnown (declared as′ ++ inScope (d .frames)) (nameOf a) ≡ true) as′)
+      (each (knownAttribute (declared as′ ++ inScope (d .frames))) as′)
+  copied-attributes = each-passes _ _ (copied-known _) as′
+
   copied-all : Always All-known (copyElement n as′ d)
   unfolding copyElement
-  copied-all =
-      always-require All-known _ _ _ λ e.
-      always-then (λ us. All (λ a. isDeclaration a ≡ false → isKnown (declared as′ ++ inScope (d .frames)) (nameOf a) ≡ true) as′) All-known _ _
-      (each-passes _ _ (copied-known _) as′) λ us k. (e, k)
+  copied-all = always-require All-known _ _ _ λ e. always-then _ All-known _ _ copied-attributes λ us k. (e, k)
+
+  wrapped-all : Wrapping (d .mode .profile) n as′ (d .frames) → Always All-known (openWrapper n as′ d)
+  unfolding openWrapper
+  wrapped-all w =
+      always-then _ All-known _ _ copied-attributes λ us k.
+      always-after All-known _ _ (always-good (λ i. isKnown (declared as′ ++ inScope (d .frames)) n ≡ true) (element-known _ n) (w .expands), k)
 
   opened-in : (p : Place) → Always All-known (openIn p n as′ d)
   unfolding openIn
-  opened-in outside = opened-known openRoot
+  opened-in outside =
+      always-if All-known _ _ _ (λ w. wrapped-all (wrapping (d .mode .profile) n as′ (d .frames) w)) λ w. opened-known openRoot
   opened-in nodes = opened-known openNode
   opened-in nodesOrText = opened-known openNode
   opened-in (properties s li) = opened-known λ t. openProperty t s li

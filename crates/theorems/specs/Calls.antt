@@ -13,11 +13,12 @@ use lib.Seq.{take-append-seam}
 use Rattle.spec.specs.Bytes.{Bytes, _>>=_, _>>_, require_or_}
 use Rattle.spec.specs.Numbers.{number, Effect, stays-open, unchanged, becomes-closed, effect, closes, Answer, refuse, good}
 use Rattle.spec.specs.declared.Refusal.{Refusal}
-use Rattle.spec.specs.declared.Refusal.the-variants.{Incomplete, NoRoom, BadState, Closed, NotPyx, NotWellFormed, OverLimit, NoNamespace, NotNcName, BadLanguage, BadIri, RepeatedId, BadLabel, Reserved, TwoNames, StrayText, EmptyLiteral, LabelsSpent}
+use Rattle.spec.specs.declared.Refusal.the-variants.{Incomplete, NoRoom, BadState, Closed, NotPyx, NotWellFormed, OverLimit, NoNamespace, NotNcName, BadLanguage, BadIri, RepeatedId, BadLabel, Reserved, TwoNames, StrayText, EmptyLiteral, LabelsSpent, ProfileBroken}
 use Rattle.spec.specs.Limits.{mostEventBytes}
 use Rattle.spec.specs.Pyx.{Event, readEvent}
 use Rattle.spec.specs.PyxCut.{Cut, wait, unended, tooLong, whole, cut}
 use Rattle.spec.specs.NTriples.{Triple, write, line}
+use Rattle.spec.specs.declared.Mode.{Mode}
 use Rattle.spec.specs.Document.{Doc, fresh}
 use Rattle.spec.specs.RdfXml.{next, finish}
 use Rattle.spec.specs.Lists.{After, here, event}
@@ -72,10 +73,10 @@ reported last s room d = go (cut last s) refl
 refusals : List Refusal
 refusals =
     Incomplete ∷ NoRoom ∷ BadState ∷ Closed ∷ NotPyx ∷ NotWellFormed ∷ OverLimit ∷ NoNamespace ∷ NotNcName ∷
-    BadLanguage ∷ BadIri ∷ RepeatedId ∷ BadLabel ∷ Reserved ∷ TwoNames ∷ StrayText ∷ EmptyLiteral ∷ LabelsSpent ∷ []
+    BadLanguage ∷ BadIri ∷ RepeatedId ∷ BadLabel ∷ Reserved ∷ TwoNames ∷ StrayText ∷ EmptyLiteral ∷ LabelsSpent ∷ ProfileBroken ∷ []
 
 abbrev Numbered : Refusal → Type 0
-Numbered r = (1 ≤ number r) × (number r ≤ 18) × (getD refusals (number r - 1) Incomplete ≡ r)
+Numbered r = (1 ≤ number r) × (number r ≤ 19) × (getD refusals (number r - 1) Incomplete ≡ r)
 
 numbered : (r : Refusal) → Numbered r
 unfolding refusals
@@ -97,6 +98,7 @@ numbered TwoNames = (omega arith, omega arith, refl)
 numbered StrayText = (omega arith, omega arith, refl)
 numbered EmptyLiteral = (omega arith, omega arith, refl)
 numbered LabelsSpent = (omega arith, omega arith, refl)
+numbered ProfileBroken = (omega arith, omega arith, refl)
 
 -- no refusal has the number 0, which is "done"
 pub number-positive : (r : Refusal) → number r ≡ 0 → ⊥
@@ -133,31 +135,31 @@ finish-by-table (isOpen d) = go (finish d)
     go (good u) = inl refl
 
 -- start, refused, changes nothing, whatever the number
-pub start-by-table : (lengths : Bool) (b : Option Bytes) (t : State) → (callStart lengths b t .answer ≡ 0) ⊎ ((x : Refusal) × (callStart lengths b t ≡ refused x t))
+pub start-by-table : (lengths : Bool) (m : Mode) (b : Option Bytes) (t : State) → (callStart lengths m b t .answer ≡ 0) ⊎ ((x : Refusal) × (callStart lengths m b t ≡ refused x t))
 unfolding callStart started
-start-by-table lengths b t = go (mayStart lengths b)
+start-by-table lengths m b t = go (mayStart lengths b)
   where
-    go : (a : Answer (Unit {0})) → (started b t a .answer ≡ 0) ⊎ ((x : Refusal) × (started b t a ≡ refused x t))
+    go : (a : Answer (Unit {0})) → (started m b t a .answer ≡ 0) ⊎ ((x : Refusal) × (started m b t a ≡ refused x t))
     go (refuse x) = inr (x, refl)
     go (good u) = inl refl
 
--- every call answers 0 to 18
-by-table-answer : (t : State) (r : Report) → ByTable t r → r .answer ≤ 18
+-- every call answers 0 to 19
+by-table-answer : (t : State) (r : Report) → ByTable t r → r .answer ≤ 19
 unfolding refusedIn refused
 by-table-answer t r (inl e) = omega arith
 by-table-answer t r (inr (x, e)) = rw e (numbered x .1)
 
-pub step-answer : (last : Bool) (s : Bytes) (room : ℕ) (t : State) → callStep last s room t .answer ≤ 18
+pub step-answer : (last : Bool) (s : Bytes) (room : ℕ) (t : State) → callStep last s room t .answer ≤ 19
 step-answer last s room t = by-table-answer t _ (step-by-table last s room t)
 
-pub finish-answer : (t : State) → callFinish t .answer ≤ 18
+pub finish-answer : (t : State) → callFinish t .answer ≤ 19
 finish-answer t = by-table-answer t _ (finish-by-table t)
 
-pub start-answer : (lengths : Bool) (b : Option Bytes) (t : State) → callStart lengths b t .answer ≤ 18
+pub start-answer : (lengths : Bool) (m : Mode) (b : Option Bytes) (t : State) → callStart lengths m b t .answer ≤ 19
 unfolding refused
-start-answer lengths b t = go (callStart lengths b t) (start-by-table lengths b t)
+start-answer lengths m b t = go (callStart lengths m b t) (start-by-table lengths m b t)
   where
-    go : (r : Report) → (r .answer ≡ 0) ⊎ ((x : Refusal) × (r ≡ refused x t)) → r .answer ≤ 18
+    go : (r : Report) → (r .answer ≡ 0) ⊎ ((x : Refusal) × (r ≡ refused x t)) → r .answer ≤ 19
     go r (inl e) = omega arith
     go r (inr (x, e)) = rw e (numbered x .1)
 
@@ -240,10 +242,10 @@ step-takes last rest room (isOpen d) h = go (cut last rest) refl h
 -- ---- what a document's steps write
 
 -- the steps of a document, whatever bytes and room each was given: the state behind them, and all bytes written
-pub data Steps (b : Option Bytes) : State → Bytes → Type 0 where
-  at-start : Steps b (isOpen (fresh b)) []
-  and-step : {t : State} {w : Bytes} → Steps b t w → (last : Bool) (s : Bytes) (room : ℕ)
-      → Steps b (callStep last s room t .behind) (w ++ callStep last s room t .output)
+pub data Steps (m : Mode) (b : Option Bytes) : State → Bytes → Type 0 where
+  at-start : Steps m b (isOpen (fresh m b)) []
+  and-step : {t : State} {w : Bytes} → Steps m b t w → (last : Bool) (s : Bytes) (room : ℕ)
+      → Steps m b (callStep last s room t .behind) (w ++ callStep last s room t .output)
 
 write-append : (ts us : List Triple) → write (ts ++ us) ≡ write ts ++ write us
 unfolding write
@@ -264,14 +266,14 @@ holds-marked I unchanged d w h = h
 holds-marked I becomes-closed d w h = h
 
 -- what holds at the start, and behind each accepted event if it holds before, holds behind all steps
-module _ (b : Option Bytes) (I : Doc → List Triple → Type 0) (start : I (fresh b) [])
+module _ (m : Mode) (b : Option Bytes) (I : Doc → List Triple → Type 0) (start : I (fresh m b) [])
     (onward : (d d′ : Doc) (ts us : List Triple) (bytes : Bytes) (e : Event) → AtFront bytes → readEvent bytes ≡ good e → next e d ≡ good (us, d′) → I d ts → I d′ (ts ++ us)) where
   holds-step : (d : Doc) (w : Bytes) (r : Report) → Reported d r → Holds I (isOpen d) w → Holds I (r .behind) (w ++ r .output)
   unfolding refusedIn refused
   holds-step d w r (did bytes e us d′ c p q) h = (h .0 ++ us, onward d d′ (h .0) us bytes e c p q (h .1), rw (h .2) (sym (write-append (h .0) us)))
   holds-step d w r (gave x) h = holds-marked I (effect x) d (w ++ []) (h .0, h .1, append-nil w ∙ h .2)
 
-  pub carried : (t : State) (w : Bytes) → Steps b t w → Holds I t w
+  pub carried : (t : State) (w : Bytes) → Steps m b t w → Holds I t w
   unfolding write callStep refusedIn refused markedBy
   carried t w at-start = ([], start, refl)
   carried t w (and-step {t = isOpen d} {w = w₀} h last s room) = holds-step d w₀ _ (reported last s room d) (carried (isOpen d) w₀ h)
@@ -281,16 +283,16 @@ module _ (b : Option Bytes) (I : Doc → List Triple → Type 0) (start : I (fre
   carried t w (and-step {t = unlawful} {w = w₀} h last s room) = absurd (carried unlawful w₀ h)
 
 -- the lines of accepted events lead to the document
-abbrev pub Written : Option Bytes → State → Bytes → Type 0
-Written b t w = Holds (After (fresh b)) t w
+abbrev pub Written : Mode → Option Bytes → State → Bytes → Type 0
+Written m b t w = Holds (After (fresh m b)) t w
 
 -- all bytes that a document's steps wrote are the lines of its accepted events
-pub written : (b : Option Bytes) (t : State) (w : Bytes) → Steps b t w → Written b t w
-written b t w h = carried b (After (fresh b)) here (λ d d′ ts us bytes e c p q k. event k e d′ us q) t w h
+pub written : (m : Mode) (b : Option Bytes) (t : State) (w : Bytes) → Steps m b t w → Written m b t w
+written m b t w h = carried m b (After (fresh m b)) here (λ d d′ ts us bytes e c p q k. event k e d′ us q) t w h
 
 -- no state that a document's steps reach is against the rules
-pub always-lawful : (b : Option Bytes) (w : Bytes) → Steps b unlawful w → ⊥
-always-lawful b w h = written b unlawful w h
+pub always-lawful : (m : Mode) (b : Option Bytes) (w : Bytes) → Steps m b unlawful w → ⊥
+always-lawful m b w h = written m b unlawful w h
 
 -- ---- later bytes
 

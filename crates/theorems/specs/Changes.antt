@@ -10,18 +10,21 @@ use Rattle.spec.specs.Numbers.{Answer, refuse, good}
 use Rattle.spec.specs.Pyx.{Attribute, Event, opening, closing, text, instruction}
 use Rattle.spec.specs.Namespaces.{declared}
 use Rattle.spec.specs.NTriples.{Subject, Triple}
-use Rattle.spec.specs.Document.{Value, default, collection, literal, other, Property, Kind, rdfRDF, nodeElement, propertyElement, xmlElement, Frame, Doc, withFrames, withLabels, Place, outside, nodes, nodesOrText, xml, properties, placeIn, changeValue, fits}
+use Rattle.spec.specs.Document.{Value, default, collection, literal, other, Property, Kind, rdfRDF, wrapper, nodeElement, propertyElement, xmlElement, ordinary, Frame, Doc, withFrames, withLabels, Place, outside, nodes, nodesOrText, xml, properties, placeIn, changeValue, fits}
 use Rattle.spec.specs.StartTag.{Tag, readTag, isShort}
 use Rattle.spec.specs.Productions.{Opened, openNode, openProperty, openRoot}
 use Rattle.spec.specs.XmlLiteral.{startTagXml, endTagXml, textXml, takesXml, addXml}
+use Rattle.spec.specs.Xmp.{openWrapper, wrapped, keeps}
 use Rattle.spec.specs.Opening.{Step, countsFit, opened}
+use Rattle.spec.specs.declared.Profile.the-variants.{XmpProfile}
 use Rattle.spec.specs.Opening as G
 use Rattle.spec.specs.EndTag.{takesNode, endValue}
 use Rattle.spec.specs.EndTag as C
 use Rattle.spec.specs.RdfXml.{takesText, next}
 use Rattle.spec.specs.RdfXml as X
 use Rattle.spec.specs.Lists.{After, here, event}
-use Rattle.theorems.specs.Always.{Always, always-bind, always-after, always-require, always-self}
+use Rattle.theorems.specs.Always.{Always, always-bind, always-after, always-require, always-if, always-self}
+use Rattle.theorems.specs.Rules.{rules-kept, Wrapping, wrapping}
 
 -- the production for a start tag outside Literal content, by what it stands in
 abbrev pub Produces : Place → Tag → ℕ → Opened → Type 0
@@ -33,7 +36,7 @@ Produces xml t n o = ⊥
 
 -- an element in Literal content
 abbrev pub copy : Bytes → List Attribute → Frame
-copy n as′ = record { name = n; bindings = declared as′; ownBase = none; ownTag = none; kind = xmlElement }
+copy n as′ = record { name = n; bindings = declared as′; ownBase = none; ownTag = none; kind = xmlElement; part = ordinary }
 
 -- the lines of an accepted event, and the document behind it
 pub data Change (d : Doc) : List Triple → Doc → Type 0 where
@@ -48,9 +51,13 @@ pub data Change (d : Doc) : List Triple → Doc → Type 0 where
       → Change d [] (withFrames (copy n as′ ∷ changeValue (takesXml x) (d .frames)) d)
   -- a start tag outside Literal content
   opens : (n : Bytes) (as′ : List Attribute) (t : Tag) (o : Opened) → countsFit as′ (d .frames) ≡ true → readTag n as′ d ≡ good t
-      → Produces (placeIn (d .frames)) t (d .labels) o → isShort t ≡ true → Change d (opened t d o .0) (opened t d o .1)
+      → keeps (d .mode .profile) (d .frames) t ≡ true → Produces (placeIn (d .frames)) t (d .labels) o → isShort t ≡ true → Change d (opened t d o .0) (opened t d o .1)
+  -- the wrapper's start tag
+  wraps : (n : Bytes) (as′ : List Attribute) → d .mode .profile ≡ XmpProfile → d .frames ≡ [] → countsFit as′ (d .frames) ≡ true
+      → Change d [] (wrapped n as′ d)
   -- end tags
   ends-root : (f : Frame) (fs : List Frame) → d .frames ≡ f ∷ fs → f .kind ≡ rdfRDF → Change d [] (withFrames fs d)
+  ends-wrapper : (f : Frame) (fs : List Frame) (b : Bool) → d .frames ≡ f ∷ fs → f .kind ≡ wrapper b → Change d [] (withFrames fs d)
   ends-node : (f : Frame) (fs : List Frame) (s : Subject) (li : ℕ) → d .frames ≡ f ∷ fs → f .kind ≡ nodeElement s li
       → Change d [] (withFrames (changeValue (takesNode s) fs) d)
   ends-property : (f : Frame) (fs : List Frame) (p : Property) (v : Value) (l : Option Bytes) (us : List Triple) (n : ℕ)
@@ -69,12 +76,14 @@ open-element : (production : Tag → ℕ → Answer Opened) (n : Bytes) (as′ :
 unfolding G.openElement
 open-element production n as′ d c k =
     always-bind (λ t. readTag n as′ d ≡ good t) (Changes d) _ _ (always-self (readTag n as′ d)) λ t r.
-    always-bind (λ o. production t (d .labels) ≡ good o) (Changes d) _ _ (always-self (production t (d .labels))) λ o q.
-    always-require (Changes d) _ _ _ λ s. opens n as′ t o c r (k t o q) s
+    always-bind (λ o. (production t (d .labels) ≡ good o) × (keeps (d .mode .profile) (d .frames) t ≡ true)) (Changes d) _ _ (rules-kept (d .mode) (d .frames) t (production t (d .labels))) λ o q.
+    always-require (Changes d) _ _ _ λ s. opens n as′ t o c r (q .1) (k t o (q .0)) s
 
 open-in : (p : Place) (n : Bytes) (as′ : List Attribute) (d : Doc) → placeIn (d .frames) ≡ p → countsFit as′ (d .frames) ≡ true → Always (Changes d) (G.openIn p n as′ d)
-unfolding G.openIn G.copyElement withFrames addXml
-open-in outside n as′ d e c = open-element openRoot n as′ d c λ t o q. rw e q
+unfolding G.openIn G.copyElement openWrapper withFrames addXml
+open-in outside n as′ d e c =
+    always-if (Changes d) _ _ _ (λ w. always-after (Changes d) _ _ (always-after (Changes d) _ _ (let u : Wrapping (d .mode .profile) n as′ (d .frames) = wrapping (d .mode .profile) n as′ (d .frames) w in wraps n as′ (u .profile) (u .outermost) c)))
+    λ w. open-element openRoot n as′ d c λ t o q. rw e q
 open-in nodes n as′ d e c = open-element openNode n as′ d c λ t o q. rw e q
 open-in nodesOrText n as′ d e c = open-element openNode n as′ d c λ t o q. rw e q
 open-in (properties s li) n as′ d e c = open-element (λ t. openProperty t s li) n as′ d c λ t o q. rw e q
@@ -106,6 +115,7 @@ module _ (d : Doc) (f : Frame) (fs : List Frame) (is : d .frames ≡ f ∷ fs) w
   end-kind : (k : Kind) (n : Bytes) (l : Option Bytes) → f .kind ≡ k → Always (Changes d) (C.endKind k n l (withFrames fs d))
   unfolding C.endKind addXml withFrames
   end-kind rdfRDF n l k = ends-root f fs is k
+  end-kind (wrapper b) n l k = always-after (Changes d) _ _ (ends-wrapper f fs b is k)
   end-kind (nodeElement s li) n l k = ends-node f fs s li is k
   end-kind (propertyElement p v) n l k = end-property p v l k
   end-kind xmlElement n l k = ends-xml f fs (endTagXml n) is k

@@ -10,6 +10,7 @@ use Rattle.spec.specs.Numbers.{good}
 use Rattle.spec.specs.NTriples.{Subject, named, node, Triple}
 use Rattle.spec.specs.Rdf.{rdf}
 use Rattle.spec.specs.Pyx.{opening, closing}
+use Rattle.spec.specs.declared.Mode.{Mode}
 use Rattle.spec.specs.Document.{collection, Property, Kind, propertyElement, Frame, Doc, fresh, withFrames}
 use Rattle.spec.specs.Productions.{statement}
 use Rattle.spec.specs.EndTag.{cells}
@@ -41,17 +42,17 @@ with-frames d e = ap (λ (l : List Frame). withFrames l d) e
 abbrev List-of : Doc → Doc → Property → List Triple → List Triple → List Subject → Type 0
 List-of d d′ p us ts cs = (x : Subject) × (ws : List Triple) × (us ≡ ws ++ statement p (node x)) × Reads (d .labels) (d′ .labels) ts x cs
 
-closed-list : (b₀ : Option Bytes) (f : Frame) (p : Property) (cs : List Subject) (fs : List Frame) (d d′ d″ : Doc) (ts us vs : List Triple) (m : Bytes)
+closed-list : (m₀ : Mode) (b₀ : Option Bytes) (f : Frame) (p : Property) (cs : List Subject) (fs : List Frame) (d d′ d″ : Doc) (ts us vs : List Triple) (m : Bytes)
     → f .kind ≡ propertyElement p (collection cs) → d .frames ≡ f ∷ fs
-    → After (fresh b₀) d ts → next (closing m) d ≡ good (us, d′) → After d′ d″ vs → List-of d d′ p us (ts ++ (us ++ vs)) (reverse cs)
+    → After (fresh m₀ b₀) d ts → next (closing m) d ≡ good (us, d′) → After d′ d″ vs → List-of d d′ p us (ts ++ (us ++ vs)) (reverse cs)
 unfolding withFrames
-closed-list b₀ f p cs fs d d′ d″ ts us vs m is e before q after =
+closed-list m₀ b₀ f p cs fs d d′ d″ ts us vs m is e before q after =
     let n : ℕ = d .labels in
-    let D : Doc = inCollection f p cs is fs (d .startBase) (d .rooted) n (d .ids) in
+    let D : Doc = inCollection f p cs is fs (d .mode) (d .startBase) (d .rooted) n (d .ids) in
     let same : d ≡ D = with-frames d e in
     let q′ : next (closing m) D ≡ good (us, d′) = subst (λ (d : Doc). next (closing m) d ≡ good (us, d′)) same q in
-    let r = lists-read-back f p cs is fs (d .startBase) (d .rooted) n (d .ids) b₀ ts us vs m d′ d″ (subst (λ (d : Doc). After (fresh b₀) d ts) same before) q′ after in
-    let c = always-good (Closed f p cs is fs (d .startBase) (d .rooted) n (d .ids)) (closes f p cs is fs (d .startBase) (d .rooted) n (d .ids) m) q′ in
+    let r = lists-read-back f p cs is fs (d .mode) (d .startBase) (d .rooted) n (d .ids) m₀ b₀ ts us vs m d′ d″ (subst (λ (d : Doc). After (fresh m₀ b₀) d ts) same before) q′ after in
+    let c = always-good (Closed f p cs is fs (d .mode) (d .startBase) (d .rooted) n (d .ids)) (closes f p cs is fs (d .mode) (d .startBase) (d .rooted) n (d .ids) m) q′ in
     let up : d′ .labels ≡ n + length cs = ap (λ (d : Doc). d .labels) (c .1) in
     (r .0, cells n (named (rdf "nil")) cs, r .1, subst (λ (h : ℕ). Reads n h (ts ++ (us ++ vs)) (r .0) (reverse cs)) (sym up) (r .2))
 
@@ -72,12 +73,12 @@ last-frames {d} {d′} {p} {cs} c is = go (holds (c .begun) a-collection is)
 -- A Collection between any events of a document, before, inside and after it: its end tag ends in its statement, whose object
 -- is a list; and in all lines of the document that list has exactly the children, the subjects of the node elements that closed
 -- directly inside the Collection, in order. Its cells are the labels that its end tag generated.
-pub collections-read-back : (b₀ : Option Bytes) (d d′ d″ : Doc) (ts vs : List Triple) (p : Property) (cs : List Subject) (c : Element d d′)
-    → After (fresh b₀) d ts → innermost (c .begun .first .frames) ≡ some (propertyElement p (collection cs)) → After d′ d″ vs
+pub collections-read-back : (m₀ : Mode) (b₀ : Option Bytes) (d d′ d″ : Doc) (ts vs : List Triple) (p : Property) (cs : List Subject) (c : Element d d′)
+    → After (fresh m₀ b₀) d ts → innermost (c .begun .first .frames) ≡ some (propertyElement p (collection cs)) → After d′ d″ vs
     → (x : Subject) × (us : List Triple) × (c .endLines ≡ us ++ statement p (node x))
     × Reads (c .last .labels) (d′ .labels) (ts ++ (linesIn c ++ vs)) x (children (c .begun))
 unfolding linesIn
-collections-read-back b₀ d d′ d″ ts vs p cs c before is after = go (last-frames c is)
+collections-read-back m₀ b₀ d d′ d″ ts vs p cs c before is after = go (last-frames c is)
   where
     b : Begun d (c .last)
     b = c .begun
@@ -88,17 +89,17 @@ collections-read-back b₀ d d′ d″ ts vs p cs c before is after = go (last-f
     go : (f : Frame) × (fs : List Frame) × (c .last .frames ≡ f ∷ fs) × (f .kind ≡ propertyElement p (collection (reverse (children b))))
         → List-of (c .last) d′ p (c .endLines) (ts ++ (linesIn c ++ vs)) (children b)
     go (f, fs, e, k) =
-        rw (← lines, ← reverse-reverse (children b)) (closed-list b₀ f p (reverse (children b)) fs (c .last) d′ d″ ((ts ++ b .startLines) ++ b .innerLines) (c .endLines) vs (c .name) k e
+        rw (← lines, ← reverse-reverse (children b)) (closed-list m₀ b₀ f p (reverse (children b)) fs (c .last) d′ d″ ((ts ++ b .startLines) ++ b .innerLines) (c .endLines) vs (c .name) k e
         (after-append (event before (opening (b .name) (b .attributes)) (b .first) (b .startLines) (b .starts)) (b .inside)) (c .ends) after)
 
 -- No cell is in the lists of two Collections, here one that closes before the other.
-pub no-cell-in-two-collections : (b₀ : Option Bytes) (d₁ d₁′ d₂ d₂′ : Doc) (ts vs : List Triple) (c₁ : Element d₁ d₁′) (c₂ : Element d₂ d₂′) (x : Subject)
-    → After (fresh b₀) d₁ ts → After d₁′ (c₂ .last) vs
+pub no-cell-in-two-collections : (m₀ : Mode) (b₀ : Option Bytes) (d₁ d₁′ d₂ d₂′ : Doc) (ts vs : List Triple) (c₁ : Element d₁ d₁′) (c₂ : Element d₂ d₂′) (x : Subject)
+    → After (fresh m₀ b₀) d₁ ts → After d₁′ (c₂ .last) vs
     → Cell (c₁ .last .labels) (d₁′ .labels) x → Cell (c₂ .last .labels) (d₂′ .labels) x → ⊥
 unfolding fresh
-no-cell-in-two-collections b₀ d₁ d₁′ d₂ d₂′ ts vs c₁ c₂ x before between i j =
+no-cell-in-two-collections m₀ b₀ d₁ d₁′ d₂ d₂′ ts vs c₁ c₂ x before between i j =
     let last : After (c₂ .last) d₂′ ([] ++ c₂ .endLines) = event here (closing (c₂ .name)) d₂′ (c₂ .endLines) (c₂ .ends) in
-    let one : d₁′ .labels < 100_000_000 = bound-after (fresh b₀) d₁′ _ (omega arith) (after-element c₁ before) in
+    let one : d₁′ .labels < 100_000_000 = bound-after (fresh m₀ b₀) d₁′ _ (omega arith) (after-element c₁ before) in
     let two : c₂ .last .labels < 100_000_000 = bound-after d₁′ (c₂ .last) vs one between in
     let end : d₂′ .labels < 100_000_000 = bound-after (c₂ .last) d₂′ _ two last in
     let up : c₂ .last .labels ≤ d₂′ .labels = grows-after (c₂ .last) d₂′ _ two last in

@@ -16,6 +16,8 @@ use Rattle.spec.specs.PyxCut.{cut}
 use Rattle.spec.specs.Feeding.{Run, ending, inFront, onward, atMost, run, hostStep, Feeds, gets, again, does, ends, printed}
 use Rattle.spec.specs.Limits.{programRoom}
 use Rattle.spec.specs.Pyx2nt.{lastLine, print, pyx2nt}
+use Rattle.spec.specs.declared.Mode.{Mode}
+use Rattle.spec.specs.Modes.{baseMode}
 use Rattle.spec.specs.Document.{Doc, fresh}
 use Rattle.theorems.specs.Refusals.{no-event, given-when, only-empty, more-room}
 use Rattle.theorems.specs.Calls.{Reported, did, gave, reported, number-positive, step-by-table, same-state, Takes, zero-counts, step-takes, step-room, step-final, Steps, at-start, and-step, Written, written}
@@ -206,21 +208,21 @@ every-division-runs room k rest ps q =
 
 -- ---- a run is steps of a document
 
-feeds-steps : (b : Option Bytes) {room : ℕ → ℕ} {k : ℕ} {rest : Bytes} {ps : List Bytes} {q : State} {n : Run} (w : Bytes) → Feeds room k rest ps q n → Steps b q w → Steps b (n .behind) (w ++ n .output)
+feeds-steps : (m : Mode) (b : Option Bytes) {room : ℕ → ℕ} {k : ℕ} {rest : Bytes} {ps : List Bytes} {q : State} {n : Run} (w : Bytes) → Feeds room k rest ps q n → Steps m b q w → Steps m b (n .behind) (w ++ n .output)
 unfolding inFront ending
-feeds-steps b w (gets h) s = feeds-steps b w h s
-feeds-steps b {rest = rest} {ps = ps} {q = q} w (again free a h) s = feeds-steps b w h (subst (λ (x : State). Steps b x w) (sym (same-state (isEmpty ps) rest free q a)) s)
-feeds-steps b {rest = rest} {ps = ps} {q = q} w (does {n = n} free le a h) s =
+feeds-steps m b w (gets h) s = feeds-steps m b w h s
+feeds-steps m b {rest = rest} {ps = ps} {q = q} w (again free a h) s = feeds-steps m b w h (subst (λ (x : State). Steps m b x w) (sym (same-state (isEmpty ps) rest free q a)) s)
+feeds-steps m b {rest = rest} {ps = ps} {q = q} w (does {n = n} free le a h) s =
     let r : Report = hostStep ps rest free q in
-    subst (λ (x : Bytes). Steps b (n .behind) x) (append-assoc w (r .output) (n .output)) (feeds-steps b (w ++ r .output) h (and-step s (isEmpty ps) rest free))
-feeds-steps b {rest = rest} {ps = ps} {q = q} w (ends free le a c g) s =
+    subst (λ (x : Bytes). Steps m b (n .behind) x) (append-assoc w (r .output) (n .output)) (feeds-steps m b (w ++ r .output) h (and-step s (isEmpty ps) rest free))
+feeds-steps m b {rest = rest} {ps = ps} {q = q} w (ends free le a c g) s =
     let r : Report = hostStep ps rest free q in
     let e : r .output ≡ [] = zero-counts q r (step-by-table (isEmpty ps) rest free q) a .1 in
-    subst (λ (x : Bytes). Steps b (r .behind) (w ++ x)) e (and-step s (isEmpty ps) rest free)
+    subst (λ (x : Bytes). Steps m b (r .behind) (w ++ x)) e (and-step s (isEmpty ps) rest free)
 
 -- What a host's run from a fresh document writes is the lines of its accepted events, which lead to the document behind it.
-pub run-writes : (b : Option Bytes) (room : ℕ → ℕ) (k : ℕ) (ps : List Bytes) (n : Run) → Feeds room k [] ps (isOpen (fresh b)) n → Written b (n .behind) (n .output)
-run-writes b room k ps n h = written b (n .behind) (n .output) (feeds-steps b [] h at-start)
+pub run-writes : (m : Mode) (b : Option Bytes) (room : ℕ → ℕ) (k : ℕ) (ps : List Bytes) (n : Run) → Feeds room k [] ps (isOpen (fresh m b)) n → Written m b (n .behind) (n .output)
+run-writes m b room k ps n h = written m b (n .behind) (n .output) (feeds-steps m b [] h at-start)
 
 -- ---- the program pyx2nt
 
@@ -292,9 +294,9 @@ print-run (suc f) k [] d h = print-empty f k d
 print-run (suc f) k (b ∷ rest) d h = print-step f k b rest d h λ s d′. print-run f (suc k) s d′
 
 -- what pyx2nt prints is the output of the run over all of its input, then the refusal if any
-pub pyx2nt-run : (s : Bytes) → pyx2nt s ≡ printed 1 (programRun 1 s (isOpen (fresh none)))
+pub pyx2nt-run : (s : Bytes) → pyx2nt s ≡ printed 1 (programRun 1 s (isOpen (fresh baseMode none)))
 unfolding pyx2nt callStart started mayStart require_or_
-pyx2nt-run s = print-run (suc (length s)) 1 s (fresh none) (omega arith)
+pyx2nt-run s = print-run (suc (length s)) 1 s (fresh baseMode none) (omega arith)
 
 -- ---- the theorems
 
@@ -313,5 +315,5 @@ room-does-not-matter room room′ k ps ps′ q n n′ e h g a b =
     u ∙ (same-rooms (length (concat ps)) room room′ k (concat ps) q (λ z. a (ap (λ (x : Run). x .answer) u ∙ z)) (λ z. b (ap (λ (x : Run). x .answer) v ∙ z)) ∙ sym v)
 
 -- So pyx2nt may print as it reads: in whatever pieces its input comes, it is to print what its steps give, then the refusal if any.
-pub pyx2nt-in-pieces : (ps : List Bytes) (n : Run) → Feeds (λ i. programRoom) 1 [] ps (isOpen (fresh none)) n → pyx2nt (concat ps) ≡ printed 1 n
+pub pyx2nt-in-pieces : (ps : List Bytes) (n : Run) → Feeds (λ i. programRoom) 1 [] ps (isOpen (fresh baseMode none)) n → pyx2nt (concat ps) ≡ printed 1 n
 pyx2nt-in-pieces ps n h = pyx2nt-run (concat ps) ∙ ap (printed 1) (sym (as-one-piece h))

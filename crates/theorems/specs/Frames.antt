@@ -6,17 +6,19 @@ use mathlib.Core.Bool.{Bool, true, false}
 use mathlib.Core.Option.{Option}
 use mathlib.Core.List.{List, [], _∷_, _++_}
 use Prim.Native.Nat.{ℕ, suc}
+use native.Mathlib.Omega.{arith}
 use lib.ListN.{length}
 use Rattle.spec.specs.Bytes.{Bytes, each, if_then_else_, orElse}
 use Rattle.spec.specs.Numbers.{Answer, good}
 use Rattle.spec.specs.Pyx.{Attribute, Event, opening, closing, text, instruction}
 use Rattle.spec.specs.Namespaces.{Binding, declared, expandElement}
 use Rattle.spec.specs.NTriples.{Subject}
-use Rattle.spec.specs.Document.{Value, default, collection, literal, other, Property, Kind, rdfRDF, nodeElement, propertyElement, xmlElement, Frame, Doc, withFrames, withLabels, inScope, languageInForce, Place, outside, nodes, nodesOrText, xml, properties, placeIn, changeValue, isXmlElement, onValue, withKind}
+use Rattle.spec.specs.Document.{Value, default, collection, literal, other, Property, Kind, rdfRDF, wrapper, nodeElement, propertyElement, xmlElement, Part, Frame, Doc, withFrames, withLabels, inScope, languageInForce, Place, outside, nodes, nodesOrText, xml, properties, placeIn, changeValue, isXmlElement, onValue, withKind}
 use Rattle.spec.specs.StartTag.{Meaning, xml-lang, meaning, first, lowercased, Tag, readTag}
 use Rattle.spec.specs.Productions as O
 use Rattle.spec.specs.Productions.{Opened, openNode, openProperty, openRoot, ParseType, noParseType, asCollection, asResource, asLiteral, asOther}
 use Rattle.spec.specs.XmlLiteral.{takesXml, addXml, endTagXml}
+use Rattle.spec.specs.Xmp.{openWrapper, wrapped}
 use Rattle.spec.specs.Opening.{Step, isXml, countLi}
 use Rattle.spec.specs.Opening as G
 use Rattle.spec.specs.EndTag.{takesNode}
@@ -24,6 +26,7 @@ use Rattle.spec.specs.EndTag as C
 use Rattle.spec.specs.RdfXml.{takesText, next}
 use Rattle.spec.specs.RdfXml as X
 use Rattle.theorems.specs.Always.{Always, always-bind, always-any, always-after, always-require, always-if, always-self, always-map}
+use Rattle.theorems.specs.Rules.{always-rules, Wrapping, wrapping}
 
 -- what text does to what a property holds
 pub data Gentle : (Value → Value) → Type 0 where
@@ -33,6 +36,7 @@ pub data Gentle : (Value → Value) → Type 0 where
 -- what is left open behind the end tag of an element of this kind and name
 abbrev pub left : Kind → Bytes → List Frame → List Frame
 left rdfRDF n fs = fs
+left (wrapper b) n fs = fs
 left (nodeElement s li) n fs = changeValue (takesNode s) fs
 left (propertyElement p v) n fs = fs
 left xmlElement n fs = changeValue (takesXml (endTagXml n)) fs
@@ -46,18 +50,19 @@ value-length h (f ∷ fs) = go (isXmlElement (f .kind)) (value-length h fs)
     go true e = ap suc e
     go false e = refl
 
-count-length : (i : Bytes) (fs : List Frame) → length (countLi i fs) ≡ length fs
+count-length : (i : Bytes) (h : Part → Part) (fs : List Frame) → length (countLi i h fs) ≡ length fs
 unfolding countLi
-count-length i [] = refl
-count-length i (f ∷ fs) = refl
+count-length i h [] = refl
+count-length i h (f ∷ fs) = refl
 
 pub left-length : (k : Kind) (n : Bytes) (fs : List Frame) → length (left k n fs) ≡ length fs
 left-length rdfRDF n fs = refl
+left-length (wrapper b) n fs = refl
 left-length (nodeElement s li) n fs = value-length _ fs
 left-length (propertyElement p v) n fs = refl
 left-length xmlElement n fs = value-length _ fs
 
--- what a start tag outside Literal content opens: it has had no rdf:li, no child, no text
+-- what a start tag outside Literal content opens: it has had no rdf:li, no child, no text, no rdf:RDF
 abbrev NewValue : Value → Type 0
 NewValue (default d o) = Unit {0}
 NewValue (collection cs) = cs ≡ []
@@ -66,6 +71,7 @@ NewValue other = Unit {0}
 
 abbrev pub New : Kind → Type 0
 New rdfRDF = Unit {0}
+New (wrapper b) = b ≡ false
 New (nodeElement s li) = li ≡ 0
 New (propertyElement p v) = NewValue v
 New xmlElement = ⊥
@@ -73,6 +79,7 @@ New xmlElement = ⊥
 pub new-outside : (k : Kind) → New k → isXmlElement k ≡ false
 unfolding isXmlElement
 new-outside rdfRDF h = refl
+new-outside (wrapper b) h = refl
 new-outside (nodeElement s li) h = refl
 new-outside (propertyElement p v) h = refl
 new-outside xmlElement h = absurd h
@@ -82,8 +89,8 @@ pub data Move : Event → List Frame → List Frame → Type 0 where
   instructs : {fs : List Frame} → Move instruction fs fs
   leaves : {s : Bytes} {fs : List Frame} → Move (text s) fs fs
   adds : {s : Bytes} {g : Value → Value} {fs : List Frame} → Gentle g → Move (text s) fs (changeValue g fs)
-  opens : {n : Bytes} {as′ : List Attribute} {f : Frame} {fs : List Frame} (i : Bytes)
-      → expandElement (declared as′ ++ inScope fs) n ≡ good i → New (f .kind) → Move (opening n as′) fs (f ∷ countLi i fs)
+  opens : {n : Bytes} {as′ : List Attribute} {f : Frame} {fs : List Frame} (i : Bytes) (h : Part → Part)
+      → expandElement (declared as′ ++ inScope fs) n ≡ good i → New (f .kind) → Move (opening n as′) fs (f ∷ countLi i h fs)
   copies : {n : Bytes} {as′ : List Attribute} {f : Frame} {fs : List Frame} (x : Bytes)
       → isXml (placeIn fs) ≡ true → f .kind ≡ xmlElement → Move (opening n as′) fs (f ∷ changeValue (takesXml x) fs)
   closes : {n : Bytes} {f : Frame} {fs : List Frame} → Move (closing n) (f ∷ fs) (left (f .kind) n fs)
@@ -93,7 +100,7 @@ abbrev pub OnTop : List Frame → List Frame → Type 0
 OnTop fs frames = (f : Frame) × (gs : List Frame) × (frames ≡ f ∷ gs) × (length gs ≡ length fs) × (New (f .kind) ⊎ (f .kind ≡ xmlElement))
 
 pub on-top : {n : Bytes} {as′ : List Attribute} {fs frames : List Frame} → Move (opening n as′) fs frames → OnTop fs frames
-on-top (opens {f = f} {fs = fs} i e c) = (f, countLi i fs, refl, count-length i fs, inl c)
+on-top (opens {f = f} {fs = fs} i h e c) = (f, countLi i h fs, refl, count-length i h fs, inl c)
 on-top (copies {f = f} {fs = fs} x c k) = (f, changeValue (takesXml x) fs, refl, value-length _ fs, inr k)
 
 -- an event's step is such a move, and leaves the start base
@@ -149,6 +156,13 @@ root-begins : (t : Tag) (n : ℕ) → Always Begins (openRoot t n)
 unfolding openRoot
 root-begins t n = always-if Begins _ _ _ (λ e. tt) λ e. node-begins t n
 
+-- with no element open, one on top is all
+on-bottom : {n : Bytes} {as′ : List Attribute} {f : Frame} (fs : List Frame) (i : Bytes) → fs ≡ [] → expandElement (declared as′ ++ inScope fs) n ≡ good i → New (f .kind)
+    → Move (opening n as′) fs (f ∷ fs)
+unfolding countLi
+on-bottom {n} {as′} {f} [] i e x k = opens i (λ p. p) x k
+on-bottom {n} {as′} {f} (g ∷ fs) i e x k = let z : _≡_ {A = ℕ} 0 1 = cc in absurd (omega arith)
+
 module _ (n : Bytes) (as′ : List Attribute) (d : Doc) where
   abbrev Opens : Step → Type 0
   Opens = Moved d (opening n as′)
@@ -157,12 +171,16 @@ module _ (n : Bytes) (as′ : List Attribute) (d : Doc) where
   unfolding G.openElement G.opened
   open-element production h =
       always-bind (Read n as′ d) Opens _ _ (tag-read n as′ d) λ t r.
-      always-bind Begins Opens _ _ (h t) λ o k.
-      always-require Opens _ _ _ λ e. (opens (t .iri) (r .0) k, refl)
+      always-bind Begins Opens _ _ (always-rules Begins _ _ (h t)) λ o k.
+      always-require Opens _ _ _ λ e. (opens (t .iri) _ (r .0) k, refl)
 
   open-in : (p : Place) → placeIn (d .frames) ≡ p → Always Opens (G.openIn p n as′ d)
-  unfolding G.openIn G.copyElement addXml withFrames isXml
-  open-in outside e = open-element openRoot λ t. root-begins t (d .labels)
+  unfolding G.openIn G.copyElement openWrapper wrapped addXml withFrames isXml
+  open-in outside e =
+      always-if Opens _ _ _
+      (λ w. let u : Wrapping (d .mode .profile) n as′ (d .frames) = wrapping (d .mode .profile) n as′ (d .frames) w in
+      always-after Opens _ _ (always-after Opens _ _ (on-bottom (d .frames) (u .iri) (u .outermost) (u .expands) refl, refl)))
+      λ w. open-element openRoot λ t. root-begins t (d .labels)
   open-in nodes e = open-element openNode λ t. node-begins t (d .labels)
   open-in nodesOrText e = open-element openNode λ t. node-begins t (d .labels)
   open-in (properties s li) e = open-element (λ t. openProperty t s li) λ t. property-begins t s li (d .labels)
@@ -184,6 +202,7 @@ end-value p other n l d = (refl, refl)
 end-kind : (k : Kind) (n : Bytes) (l : Option Bytes) (d : Doc) → Always (Leaves k n d) (C.endKind k n l d)
 unfolding C.endKind withFrames addXml
 end-kind rdfRDF n l d = (refl, refl)
+end-kind (wrapper b) n l d = always-after (Leaves (wrapper b) n d) _ _ (refl, refl)
 end-kind (nodeElement s li) n l d = (refl, refl)
 end-kind (propertyElement p v) n l d = end-value p v n l d
 end-kind xmlElement n l d = (refl, refl)

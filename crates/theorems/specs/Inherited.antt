@@ -12,7 +12,7 @@ use Rattle.spec.specs.Numbers.{good}
 use Rattle.spec.specs.Namespaces.{Binding}
 use Rattle.spec.specs.Pyx.{Event, opening, closing, text, instruction}
 use Rattle.spec.specs.NTriples.{Triple}
-use Rattle.spec.specs.Document.{Value, Kind, rdfRDF, nodeElement, propertyElement, xmlElement, Frame, Doc, withKind, isXmlElement, onValue, changeValue, inScope, languageInForce, baseInForce}
+use Rattle.spec.specs.Document.{Value, Kind, rdfRDF, wrapper, nodeElement, propertyElement, xmlElement, Part, Frame, Doc, withKind, withPart, isXmlElement, onValue, changeValue, inScope, languageInForce, baseInForce}
 use Rattle.spec.specs.Opening.{countLi}
 use Rattle.spec.specs.RdfXml.{next}
 use Rattle.spec.specs.Lists.{After, here, event}
@@ -31,13 +31,14 @@ said-value h (f ∷ fs) = go (isXmlElement (f .kind)) (said-value h fs)
     go true e = rw e refl
     go false e = refl
 
-pub said-count : (i : Bytes) (fs : List Frame) → said (countLi i fs) ≡ said fs
-unfolding said countLi withKind
-said-count i [] = refl
-said-count i (f ∷ fs) = refl
+pub said-count : (i : Bytes) (h : Part → Part) (fs : List Frame) → said (countLi i h fs) ≡ said fs
+unfolding said countLi withKind withPart
+said-count i h [] = refl
+said-count i h (f ∷ fs) = refl
 
 said-left : (k : Kind) (n : Bytes) (fs : List Frame) → said (left k n fs) ≡ said fs
 said-left rdfRDF n fs = refl
+said-left (wrapper b) n fs = refl
 said-left (nodeElement s li) n fs = said-value _ fs
 said-left (propertyElement p v) n fs = refl
 said-left xmlElement n fs = said-value _ fs
@@ -59,7 +60,7 @@ unfolding said
 turns instructs = refl
 turns leaves = refl
 turns (adds {fs = fs} m) = said-value _ fs
-turns (opens {f = f} {fs = fs} i e c) = (saidOf f, ap (saidOf f ∷_) (said-count i fs))
+turns (opens {f = f} {fs = fs} i h e c) = (saidOf f, ap (saidOf f ∷_) (said-count i h fs))
 turns (copies {f = f} {fs = fs} x c k) = (saidOf f, ap (saidOf f ∷_) (said-value _ fs))
 turns (closes {n = n} {f = f} {fs = fs}) = (saidOf f, ap (saidOf f ∷_) (sym (said-left (f .kind) n fs)))
 
@@ -137,11 +138,11 @@ base-said start [] = refl
 base-said start (f ∷ fs) = rw (base-said start fs) refl
 
 -- an rdf:li that is counted changes neither
-pub base-count : (i : Bytes) (b : Option Bytes) (fs : List Frame) → baseInForce b (countLi i fs) ≡ baseInForce b fs
-base-count i b fs = base-said b (countLi i fs) ∙ (ap (baseSaid b) (said-count i fs) ∙ sym (base-said b fs))
+pub base-count : (i : Bytes) (h : Part → Part) (b : Option Bytes) (fs : List Frame) → baseInForce b (countLi i h fs) ≡ baseInForce b fs
+base-count i h b fs = base-said b (countLi i h fs) ∙ (ap (baseSaid b) (said-count i h fs) ∙ sym (base-said b fs))
 
-pub language-count : (i : Bytes) (fs : List Frame) → languageInForce (countLi i fs) ≡ languageInForce fs
-language-count i fs = same-language (countLi i fs) fs (said-count i fs)
+pub language-count : (i : Bytes) (h : Part → Part) (fs : List Frame) → languageInForce (countLi i h fs) ≡ languageInForce fs
+language-count i h fs = same-language (countLi i h fs) fs (said-count i h fs)
 
 scopeSaid : List Said → List Binding
 scopeSaid [] = []

@@ -15,7 +15,7 @@ use Rattle.spec.specs.Numbers.{good}
 use Rattle.spec.specs.Namespaces.{declared, expandElement}
 use Rattle.spec.specs.Pyx.{Attribute, Event, opening, closing, text, instruction}
 use Rattle.spec.specs.NTriples.{Subject, Triple}
-use Rattle.spec.specs.Document.{Value, default, collection, literal, other, Property, Kind, rdfRDF, nodeElement, propertyElement, xmlElement, Frame, Doc, withKind, onValue, isXmlElement, changeValue, inScope, inValue, inKind, placeIn}
+use Rattle.spec.specs.Document.{Value, default, collection, literal, other, Property, Kind, rdfRDF, wrapper, nodeElement, propertyElement, xmlElement, Part, Frame, Doc, withKind, withPart, onValue, isXmlElement, changeValue, inScope, inValue, inKind, placeIn}
 use Rattle.spec.specs.Productions.{isLi}
 use Rattle.spec.specs.XmlLiteral.{takesXml}
 use Rattle.spec.specs.Opening.{isXml, counted, countLi}
@@ -35,6 +35,7 @@ pub data Holder : Kind → Type 0 where
 -- with more children, in order, and more rdf:li
 abbrev pub grown : Kind → List Subject → ℕ → Kind
 grown rdfRDF ss n = rdfRDF
+grown (wrapper b) ss n = wrapper b
 grown (nodeElement s li) ss n = nodeElement s (li + n)
 grown (propertyElement p (default d o)) ss n = propertyElement p (default d o)
 grown (propertyElement p (collection cs)) ss n = propertyElement p (collection (reverseAux ss cs))
@@ -96,6 +97,7 @@ Based (f ∷ g ∷ gs) = Based (g ∷ gs)
 pub value-xml : (h : Value → Value) (k : Kind) → isXmlElement (onValue h k) ≡ isXmlElement k
 unfolding isXmlElement onValue
 value-xml h rdfRDF = refl
+value-xml h (wrapper b) = refl
 value-xml h (nodeElement s li) = refl
 value-xml h (propertyElement p v) = refl
 value-xml h xmlElement = refl
@@ -103,6 +105,7 @@ value-xml h xmlElement = refl
 counted-xml : (i : Bytes) (k : Kind) → isXmlElement (counted i k) ≡ isXmlElement k
 unfolding isXmlElement counted
 counted-xml i rdfRDF = refl
+counted-xml i (wrapper b) = refl
 counted-xml i (nodeElement s li) = refl
 counted-xml i (propertyElement p v) = refl
 counted-xml i xmlElement = refl
@@ -122,10 +125,10 @@ value-above h x (z ∷ gs) rest b = go (isXmlElement (x .kind)) (value-above h z
     go true (y, ys, c, e) = (x, y ∷ ys, c, ap (x ∷_) e)
     go false k = (withKind (onValue h (x .kind)) x, z ∷ gs, b, refl)
 
-count-above : (i : Bytes) (x : Frame) (gs rest : List Frame) → Based (x ∷ gs) → Above rest (countLi i (x ∷ gs ++ rest))
-unfolding countLi withKind
-count-above i x [] rest b = (withKind (counted i (x .kind)) x, [], counted-xml i (x .kind) ∙ b, refl)
-count-above i x (z ∷ gs) rest b = (withKind (counted i (x .kind)) x, z ∷ gs, b, refl)
+count-above : (i : Bytes) (h : Part → Part) (x : Frame) (gs rest : List Frame) → Based (x ∷ gs) → Above rest (countLi i h (x ∷ gs ++ rest))
+unfolding countLi withKind withPart
+count-above i h x [] rest b = (withPart (h (x .part)) (withKind (counted i (x .kind)) x), [], counted-xml i (x .kind) ∙ b, refl)
+count-above i h x (z ∷ gs) rest b = (withPart (h (x .part)) (withKind (counted i (x .kind)) x), z ∷ gs, b, refl)
 
 -- ---- one event
 
@@ -172,12 +175,12 @@ li-deeper n as′ x g gs fs = rw (deeper x g gs fs) refl
 
 on-start : {n : Bytes} {as′ : List Attribute} {fs frames : List Frame} {K : Kind} (gs : List Frame) (g : Frame) → Holder K → g .kind ≡ K → Based gs
     → Move (opening n as′) (gs ++ (g ∷ fs)) frames → Open fs (grown K [] (liOf (length fs) (opening n as′) (gs ++ (g ∷ fs)))) frames
-unfolding countLi withKind placeIn
-on-start {n} {as′} {fs} {frames} {K} [] g h is b (opens {f = f} i e c) =
-    rw (li-direct n i as′ g fs e) (open-at (f ∷ []) (withKind (counted i (g .kind)) g) (ap (counted i) is ∙ li-counted i h) (new-outside (f .kind) c))
+unfolding countLi withKind withPart placeIn
+on-start {n} {as′} {fs} {frames} {K} [] g h is b (opens {f = f} i n′ e c) =
+    rw (li-direct n i as′ g fs e) (open-at (f ∷ []) (withPart (n′ (g .part)) (withKind (counted i (g .kind)) g)) (ap (counted i) is ∙ li-counted i h) (new-outside (f .kind) c))
 on-start {n} {as′} {fs} {frames} {K} [] g h is b (copies x c k) = absurd (false≢true (sym (ap (λ (k : Kind). isXml (inKind k)) is ∙ no-xml-inside h) ∙ c))
-on-start {n} {as′} {fs} {frames} {K} (z ∷ gs) g h is b (opens {f = f} i e c) =
-    rw (li-deeper n as′ z g gs fs) (open-above f (is ∙ sym (grown-none h)) (count-above i z gs (g ∷ fs) b))
+on-start {n} {as′} {fs} {frames} {K} (z ∷ gs) g h is b (opens {f = f} i n′ e c) =
+    rw (li-deeper n as′ z g gs fs) (open-above f (is ∙ sym (grown-none h)) (count-above i n′ z gs (g ∷ fs) b))
 on-start {n} {as′} {fs} {frames} {K} (z ∷ gs) g h is b (copies {f = f} x c k) =
     rw (li-deeper n as′ z g gs fs) (open-above f (is ∙ sym (grown-none h)) (value-above (takesXml x) z gs (g ∷ fs) b))
 
@@ -189,6 +192,7 @@ on-end n {fs} {K} f g [] h is b = rw (eq-eqb (suc (length fs)) (suc (length fs))
   where
     go : (k : Kind) → isXmlElement k ≡ false → Open fs (grown K (nodeSubject k) 0) (left k n (g ∷ fs))
     go rdfRDF b = open-at [] g (is ∙ sym (grown-none h)) tt
+    go (wrapper w) b = open-at [] g (is ∙ sym (grown-none h)) tt
     go (nodeElement s li) b = change-innermost (takesNode s) g fs h is (node-child s h)
     go (propertyElement p v) b = open-at [] g (is ∙ sym (grown-none h)) tt
     go xmlElement b = absurd (true≢false b)
@@ -196,6 +200,7 @@ on-end n {fs} {K} f g (x ∷ gs) h is b = rw (deeper x g gs fs) (go (f .kind))
   where
     go : (k : Kind) → Open fs (grown K [] 0) (left k n (x ∷ gs ++ (g ∷ fs)))
     go rdfRDF = open-at (x ∷ gs) g (is ∙ sym (grown-none h)) b
+    go (wrapper w) = open-at (x ∷ gs) g (is ∙ sym (grown-none h)) b
     go (nodeElement s li) = open-below (is ∙ sym (grown-none h)) (value-above (takesNode s) x gs (g ∷ fs) b)
     go (propertyElement p v) = open-at (x ∷ gs) g (is ∙ sym (grown-none h)) b
     go xmlElement = open-below (is ∙ sym (grown-none h)) (value-above _ x gs (g ∷ fs) b)

@@ -10,25 +10,27 @@ use Rattle.spec.specs.Bytes.{Bytes, ascii, if_then_else_, same, begins, each, o
 use Rattle.spec.specs.Numbers.{Answer, good}
 use Rattle.spec.specs.Pyx.{Attribute, attribute, Event, opening, closing, text, instruction}
 use Rattle.spec.specs.NTriples.{Subject, Term, node, Triple, triple}
-use Rattle.spec.specs.Document.{Object, noObject, nodeObject, textObject, Value, default, collection, literal, other, Property, Kind, rdfRDF, nodeElement, propertyElement, xmlElement, Frame, Doc, withFrames, Place, outside, nodes, nodesOrText, xml, properties, placeIn, languageInForce}
+use Rattle.spec.specs.Document.{Object, noObject, nodeObject, textObject, Value, default, collection, literal, other, Property, Kind, rdfRDF, wrapper, nodeElement, propertyElement, xmlElement, Frame, Doc, withFrames, Place, outside, nodes, nodesOrText, xml, properties, placeIn, languageInForce}
 use Rattle.spec.specs.StartTag.{Role, nothing, xml-lang, xml-base, sameRole, roleNumber, rdfRoles, roleAmong, roleOf, Meaning, means, meaning, first, lowercased, Tag}
 use Rattle.spec.specs.Namespaces.{Binding, isDeclaration}
 use Rattle.spec.specs.Namespaces as N
 use Rattle.spec.specs.Rdf.{rdf}
 use Rattle.spec.specs.Productions as O
 use Rattle.spec.specs.Productions.{Opened, literalOf, statement, typeLine, attributeLines, tagLines, openNode, openProperty, openRoot, ParseType, noParseType, asCollection, asResource, asLiteral, asOther}
-use Rattle.spec.specs.Opening.{Step, isXml, countLi}
+use Rattle.spec.specs.Opening.{Step, countLi}
 use Rattle.spec.specs.Opening as G
 use Rattle.spec.specs.EndTag.{cells, objectTerm}
 use Rattle.spec.specs.EndTag as C
 use Rattle.spec.specs.RdfXml.{next}
 use Rattle.spec.specs.RdfXml as X
-use Rattle.spec.specs.Languages.{InLanguage, AllInLanguage, openAt, valueNamed, languageBehind}
+use Rattle.spec.specs.Languages.{InLanguage, AllInLanguage, openAt, valueNamed, isMute, languageBehind}
 use Rattle.spec.specs.Inside.{Element}
 use Rattle.spec.specs.XmlLiteral.{addXml}
 use Rattle.spec.proofs.Booleans.{and-left, and-right}
 use borrow.Author.Tests.{not-true}
 use Rattle.spec.proofs.Bytes.{same-true}
+use Rattle.spec.specs.Xmp.{startsWrapper, openWrapper, wrapped, noted}
+use Rattle.theorems.specs.Rules.{always-rules}
 use Rattle.theorems.specs.Always.{Always, always-bind, always-any, always-after, always-require, always-if, always-map, always-good}
 use Rattle.theorems.specs.Frames.{scopeOf, Read, tag-read, always-next}
 use Rattle.theorems.specs.Inherited.{said-count, said-value, same-language, last-language}
@@ -178,24 +180,28 @@ open-element : (production : Tag → ℕ → Answer Opened) (n : Bytes) (as′ :
 unfolding G.openElement G.opened languageInForce
 open-element production n as′ d h =
     always-bind (Read n as′ d) (Started false as′ d) _ _ (tag-read n as′ d) λ t r.
-    always-bind (Fits t) (Started false as′ d) _ _ (h t) λ o k.
+    always-bind (Fits t) (Started false as′ d) _ _ (always-rules (Fits t) _ _ (h t)) λ o k.
     always-require (Started false as′ d) _ _ _ λ e.
-    (let l = tag-language n as′ d t r in (rw (l .0, same-language (countLi (t .iri) (d .frames)) (d .frames) (said-count (t .iri) (d .frames))) refl, rw (l .1) at k))
+    (let l = tag-language n as′ d t r in
+    let same : languageInForce (countLi (t .iri) (noted (d .mode .profile) t) (d .frames)) ≡ languageInForce (d .frames) = same-language _ (d .frames) (said-count (t .iri) _ (d .frames)) in
+    (ap (orElse (t .ownTag)) same ∙ ap (λ (x : Option Bytes). orElse x (languageInForce (d .frames))) (l .0), rw (l .1) at k))
 
-open-in : (p : Place) (n : Bytes) (as′ : List Attribute) (d : Doc) → Always (Started (isXml p) as′ d) (G.openIn p n as′ d)
-unfolding G.openIn G.copyElement isXml withFrames addXml languageInForce orElse
-open-in outside n as′ d = open-element openRoot n as′ d λ t. root-fits t (d .labels)
+open-in : (p : Place) (n : Bytes) (as′ : List Attribute) (d : Doc) → Always (Started (isMute p n as′ d) as′ d) (G.openIn p n as′ d)
+unfolding G.openIn G.copyElement openWrapper wrapped isMute withFrames addXml languageInForce orElse
+open-in outside n as′ d =
+    let Q : Step → Type 0 = Started (startsWrapper (d .mode .profile) n as′ (d .frames)) as′ d in
+    always-if Q _ _ _ (λ w. always-after Q _ _ (always-after Q _ _ (rw w (refl, tt)))) λ w. rw w (open-element openRoot n as′ d λ t. root-fits t (d .labels))
 open-in nodes n as′ d = open-element openNode n as′ d λ t. node-fits t (d .labels)
 open-in nodesOrText n as′ d = open-element openNode n as′ d λ t. node-fits t (d .labels)
 open-in (properties s li) n as′ d = open-element (λ t. openProperty t s li) n as′ d λ t. property-fits t s li (d .labels)
 open-in xml n as′ d =
     always-require (Started true as′ d) _ _ _ λ e. always-after (Started true as′ d) _ _ (same-language _ (d .frames) (said-value _ (d .frames)), tt)
 
-on-opening : (n : Bytes) (as′ : List Attribute) (d : Doc) → Always (Started (isXml (placeIn (d .frames))) as′ d) (G.onOpening n as′ d)
+on-opening : (n : Bytes) (as′ : List Attribute) (d : Doc) → Always (Started (isMute (placeIn (d .frames)) n as′ d) as′ d) (G.onOpening n as′ d)
 unfolding G.onOpening
 on-opening n as′ d =
-    always-require (Started (isXml (placeIn (d .frames))) as′ d) _ _ _ λ e₁.
-    always-require (Started (isXml (placeIn (d .frames))) as′ d) _ _ _ λ e₂. open-in (placeIn (d .frames)) n as′ d
+    always-require (Started (isMute (placeIn (d .frames)) n as′ d) as′ d) _ _ _ λ e₁.
+    always-require (Started (isMute (placeIn (d .frames)) n as′ d) as′ d) _ _ _ λ e₂. open-in (placeIn (d .frames)) n as′ d
 
 -- ---- end tags
 
@@ -219,6 +225,7 @@ end-value p other l d = tt
 end-kind : (k : Kind) (n : Bytes) (l : Option Bytes) (d : Doc) → Always (Ended l) (C.endKind k n l d)
 unfolding C.endKind
 end-kind rdfRDF n l d = tt
+end-kind (wrapper b) n l d = always-after (Ended l) _ _ tt
 end-kind (nodeElement s li) n l d = tt
 end-kind (propertyElement p v) n l d = end-value p v l d
 end-kind xmlElement n l d = tt
@@ -244,20 +251,20 @@ Written e d s = AllInLanguage (languageInForce (openAt e d (s .1))) (s .0)
 on-event : (e : Event) (d : Doc) → Always (Written e d) (X.onEvent e d)
 unfolding X.onEvent
 on-event (opening n as′) d =
-    always-map (Started (isXml (placeIn (d .frames))) as′ d) (Written (opening n as′) d) (G.onOpening n as′ d) (on-opening n as′ d) λ s h. rw (h .0) (h .1)
+    always-map (Started (isMute (placeIn (d .frames)) n as′ d) as′ d) (Written (opening n as′) d) (G.onOpening n as′ d) (on-opening n as′ d) λ s h. rw (h .0) (h .1)
 on-event (closing n) d = close-element n (d .frames) d
 on-event (text s) d = on-text (languageInForce (d .frames)) (placeIn (d .frames)) s d
 on-event instruction d = tt
 
 -- Behind an accepted start tag the language in force is that of its own xml:lang, lowercased, or where it has none the one around.
 pub start-language : (n : Bytes) (as′ : List Attribute) (d d′ : Doc) (us : List Triple) → next (opening n as′) d ≡ good (us, d′)
-    → languageInForce (d′ .frames) ≡ languageBehind (isXml (placeIn (d .frames))) as′ (d .frames)
+    → languageInForce (d′ .frames) ≡ languageBehind (isMute (placeIn (d .frames)) n as′ d) as′ (d .frames)
 unfolding X.onEvent
 start-language n as′ d d′ us q =
     always-good (Started x as′ d) (always-next (Started x as′ d) (opening n as′) d (on-opening n as′ d)) q .0
   where
     x : Bool
-    x = isXml (placeIn (d .frames))
+    x = isMute (placeIn (d .frames)) n as′ d
 
 -- Every literal without datatype among the lines of an accepted event has the language in force in the element that the event
 -- opens or closes: property attributes at a start tag, the object at an end tag. Where none is in force it has none.
@@ -267,7 +274,7 @@ literals-in-language e d d′ us q = always-good (Written e d) (always-next (Wri
 -- So the literals that an element's own two tags write have the language of its own xml:lang, lowercased, or where it has none the
 -- one in force before it; what stands inside it or before it, and has closed, has no part in that.
 pub element-language : {d d′ : Doc} (c : Element d d′)
-    → AllInLanguage (languageBehind (isXml (placeIn (d .frames))) (c .begun .attributes) (d .frames)) (c .begun .startLines ++ c .endLines)
+    → AllInLanguage (languageBehind (isMute (placeIn (d .frames)) (c .begun .name) (c .begun .attributes) d) (c .begun .attributes) (d .frames)) (c .begun .startLines ++ c .endLines)
 element-language {d} {d′} c =
     let b = c .begun in
     let first = start-language (b .name) (b .attributes) d (b .first) (b .startLines) (b .starts) in

@@ -3,6 +3,7 @@
 pub mod AtLimits
 -- ---- a tool
 pub mod Always
+pub mod Rules
 -- ---- grammars
 pub mod Grammar
 -- ---- characters
@@ -39,6 +40,8 @@ pub mod Languages
 pub mod Changes
 pub mod Limits
 pub mod Nesting
+pub mod Packets
+pub mod Parts
 -- ---- lines
 pub mod NodeLabels
 -- ---- all that is written is N-Triples

@@ -8,7 +8,7 @@ use native.Mathlib.Omega.{arith}
 use lib.Dec.{leb}
 use lib.ListN.{length, length-append}
 use borrow.Author.Tests.{ltb-true, leb-true}
-use Rattle.spec.specs.Bytes.{Bytes, if_then_else_, orElse, present, total, All}
+use Rattle.spec.specs.Bytes.{Bytes, if_then_else_, same, isSome, orElse, present, total, All}
 use Rattle.spec.specs.Bytes as B
 use Rattle.spec.specs.Numbers.{Answer, refuse, good}
 use Rattle.spec.specs.Limits.{mostOpenElements, mostAttributes, mostBindings, mostNameBytes, mostIds, mostIdBytes, mostHeldBytes, mostLabels}
@@ -16,24 +16,28 @@ use Rattle.spec.specs.Pyx.{Attribute}
 use Rattle.spec.specs.Namespaces.{declared}
 use Rattle.spec.specs.NTriples.{Subject, Triple, decimal}
 use Rattle.spec.specs.Rdf.{rdf}
-use Rattle.spec.specs.Document.{Value, default, collection, literal, other, Property, Kind, rdfRDF, nodeElement, propertyElement, xmlElement, Frame, Doc, fresh, withFrames, withLabels, withKind, inScope, Place, outside, nodes, nodesOrText, xml, properties, inValue, inKind, placeIn, changeValue, onValue, isXmlElement, valueBytes, frameBytes, heldBytes, fits}
+use Rattle.spec.specs.declared.Mode.{Mode}
+use Rattle.spec.specs.declared.Profile.{Profile}
+use Rattle.spec.specs.declared.Profile.the-variants.{NoProfile, XmpProfile}
+use Rattle.spec.specs.Document.{Value, default, collection, literal, other, Property, Kind, rdfRDF, wrapper, nodeElement, propertyElement, xmlElement, Part, ordinary, topLevel, alternatives, Frame, Doc, fresh, withFrames, withLabels, withKind, withPart, inScope, Place, outside, nodes, nodesOrText, xml, properties, inValue, inKind, placeIn, changeValue, onValue, isXmlElement, valueBytes, frameBytes, heldBytes, fits}
 use Rattle.spec.specs.Document as D
 use Rattle.spec.specs.StartTag.{Tag, readTag, isShort, allShort}
 use Rattle.spec.specs.Productions.{Opened, openNode, openProperty, openRoot, isLi, propertyIri, ParseType, noParseType, asCollection, asResource, asLiteral, asOther}
 use Rattle.spec.specs.Productions as O
 use Rattle.spec.specs.XmlLiteral.{takesXml}
+use Rattle.spec.specs.Xmp.{wrapped, newPart, withChild, noted}
 use Rattle.spec.specs.Opening as G
 use Rattle.spec.specs.EndTag as C
 use Rattle.spec.specs.RdfXml as X
 use Rattle.spec.specs.Calls.{State, isOpen, isClosed, unlawful, mayStart, started, callStart, refused}
 use Rattle.spec.specs.Lists.{After}
-use Rattle.spec.specs.Within.{Short, Short?, ShortSubject, ShortValue, ShortKind, ShortFrame, Within}
+use Rattle.spec.specs.Within.{Short, Short?, ShortSubject, ShortValue, ShortKind, ShortPart, ShortFrame, Within}
 use Rattle.spec.proofs.Booleans.{and-left, and-right}
 use Rattle.theorems.specs.Always.{Always, always-bind, always-any, always-then, always-after, always-test, always-require, always-if, always-map, always-good}
 use Rattle.theorems.specs.Calls.{number-positive, Steps, written, always-lawful}
 use Rattle.theorems.specs.Decimal.{decimal-length}
 use Rattle.theorems.specs.Lists.{bound-after}
-use Rattle.theorems.specs.Changes.{Produces, copy, Change, stays, takes-text, takes-xml, copies, opens, ends-root, ends-node, ends-property, ends-xml, always-holds}
+use Rattle.theorems.specs.Changes.{Produces, copy, Change, stays, takes-text, takes-xml, copies, opens, wraps, ends-root, ends-wrapper, ends-node, ends-property, ends-xml, always-holds}
 
 -- ---- a start tag whose names are short
 
@@ -181,19 +185,20 @@ record Frames (fs : List Frame) : Type 0 where
   every : All ShortFrame fs
 
 -- an rdf:li is counted
-count-length : (i : Bytes) (fs : List Frame) → length (G.countLi i fs) ≡ length fs
+count-length : (i : Bytes) (h : Part → Part) (fs : List Frame) → length (G.countLi i h fs) ≡ length fs
 unfolding G.countLi
-count-length i [] = refl
-count-length i (f ∷ fs) = refl
+count-length i h [] = refl
+count-length i h (f ∷ fs) = refl
 
-count-scope : (i : Bytes) (fs : List Frame) → inScope (G.countLi i fs) ≡ inScope fs
-unfolding G.countLi inScope withKind
-count-scope i [] = refl
-count-scope i (f ∷ fs) = refl
+count-scope : (i : Bytes) (h : Part → Part) (fs : List Frame) → inScope (G.countLi i h fs) ≡ inScope fs
+unfolding G.countLi inScope withKind withPart
+count-scope i h [] = refl
+count-scope i h (f ∷ fs) = refl
 
 count-kind : (i : Bytes) (k : Kind) → MayCount (inKind k) i → ShortKind k → ShortKind (G.counted i k)
 unfolding G.counted inKind if_then_else_
 count-kind i rdfRDF c h = h
+count-kind i (wrapper b) c h = h
 count-kind i (nodeElement s li) c h = (h .0, go (isLi i) refl)
   where
     go : (b : Bool) → isLi i ≡ b → (if b then suc li else li) ≤ mostLabels
@@ -202,10 +207,38 @@ count-kind i (nodeElement s li) c h = (h .0, go (isLi i) refl)
 count-kind i (propertyElement p v) c h = h
 count-kind i xmlElement c h = h
 
-count-every : (i : Bytes) (fs : List Frame) → MayCount (placeIn fs) i → All ShortFrame fs → All ShortFrame (G.countLi i fs)
-unfolding G.countLi placeIn withKind
-count-every i [] c h = tt
-count-every i (f ∷ fs) c h = ((h .0 .0, count-kind i (f .kind) c (h .0 .1)), h .1)
+-- what the profile remembers of a start tag that is short
+noted-short : (p : Profile) (t : Tag) → Short? (t .about) → (q : Part) → ShortPart q → ShortPart (noted p t q)
+unfolding noted withChild if_then_else_
+noted-short NoProfile t a q h = h
+noted-short XmpProfile t a ordinary h = tt
+noted-short XmpProfile t a (topLevel none) h = a
+noted-short XmpProfile t a (topLevel (some b)) h = h
+noted-short XmpProfile t a (alternatives none) h = go (same (t .iri) (rdf "li"))
+  where
+    go : (b : Bool) → ShortPart (if b then alternatives (some (isSome (t .ownTag))) else alternatives none)
+    go true = tt
+    go false = tt
+noted-short XmpProfile t a (alternatives (some b)) h = tt
+
+alt-short : (b : Bool) → ShortPart (if b then alternatives none else ordinary)
+unfolding if_then_else_
+alt-short true = tt
+alt-short false = tt
+
+new-short : (p : Profile) (q : Place) (i : Bytes) → ShortPart (newPart p q i)
+unfolding newPart if_then_else_
+new-short NoProfile q i = tt
+new-short XmpProfile outside i = tt
+new-short XmpProfile nodes i = alt-short (same i (rdf "Alt"))
+new-short XmpProfile nodesOrText i = alt-short (same i (rdf "Alt"))
+new-short XmpProfile (properties s li) i = tt
+new-short XmpProfile xml i = tt
+
+count-every : (i : Bytes) (g : Part → Part) (fs : List Frame) → ((p : Part) → ShortPart p → ShortPart (g p)) → MayCount (placeIn fs) i → All ShortFrame fs → All ShortFrame (G.countLi i g fs)
+unfolding G.countLi placeIn withKind withPart
+count-every i g [] k c h = tt
+count-every i g (f ∷ fs) k c h = ((h .0 .0, count-kind i (f .kind) c (h .0 .1), k (f .part) (h .0 .2)), h .1)
 
 -- a value is changed
 change-length : (g : Value → Value) (fs : List Frame) → length (changeValue g fs) ≡ length fs
@@ -233,6 +266,7 @@ Safe g = (v : Value) → ShortValue v → ShortValue (g v)
 change-kind : (g : Value → Value) (k : Kind) → Safe g → ShortKind k → ShortKind (onValue g k)
 unfolding onValue
 change-kind g rdfRDF s h = h
+change-kind g (wrapper b) s h = h
 change-kind g (nodeElement u li) s h = h
 change-kind g (propertyElement p v) s h = (h .0, h .1, h .2, s v (h .3))
 change-kind g xmlElement s h = h
@@ -244,7 +278,7 @@ change-every g (f ∷ fs) s h = go (isXmlElement (f .kind)) (change-every g fs s
   where
     go : (b : Bool) → All ShortFrame (changeValue g fs) → All ShortFrame (if b then f ∷ changeValue g fs else withKind (onValue g (f .kind)) f ∷ fs)
     go true k = (h .0, k)
-    go false k = ((h .0 .0, change-kind g (f .kind) s (h .0 .1)), h .1)
+    go false k = ((h .0 .0, change-kind g (f .kind) s (h .0 .1), h .0 .2), h .1)
 
 change-frames : (g : Value → Value) (fs : List Frame) → Safe g → Frames fs → Frames (changeValue g fs)
 change-frames g fs s h = record { elements = rw change-length (h .elements); bindings = rw change-scope (h .bindings); every = change-every g fs s (h .every) }
@@ -320,6 +354,7 @@ in-value other = tt
 in-kind : (k : Kind) → ShortKind k → ShortPlace (inKind k)
 unfolding inKind
 in-kind rdfRDF h = tt
+in-kind (wrapper b) h = tt
 in-kind (nodeElement s li) h = h .0
 in-kind (propertyElement p v) h = in-value v
 in-kind xmlElement h = tt
@@ -348,7 +383,7 @@ open-kept m as′ d t o h c r q s =
       open-frames = record {
         elements = rw count-length (c .elements);
         bindings = rw (e, count-scope) (c .bindings);
-        every = ((s .ownBase, p .1), count-every (t .iri) (d .frames) (p .0) (h .open-frames .every));
+        every = ((s .ownBase, p .1, new-short (d .mode .profile) (placeIn (d .frames)) (t .iri)), count-every (t .iri) _ (d .frames) (noted-short (d .mode .profile) t (s .about)) (p .0) (h .open-frames .every));
       };
     }
 
@@ -357,8 +392,13 @@ unfolding inScope
 copy-frames m as′ x fs c h = record {
   elements = rw change-length (c .elements);
   bindings = rw change-scope (c .bindings);
-  every = ((tt, tt), change-every (takesXml x) fs (xml-safe x) (h .every));
+  every = ((tt, tt, tt), change-every (takesXml x) fs (xml-safe x) (h .every));
 }
+
+wrap-kept : (m : Bytes) (as′ : List Attribute) (d : Doc) → Counts as′ (d .frames) → Kept d → Kept (wrapped m as′ d)
+unfolding wrapped inScope
+wrap-kept m as′ d c h =
+    record { base = h .base; ids = h .ids; open-frames = record { elements = c .elements; bindings = c .bindings; every = ((tt, tt, tt), h .open-frames .every) } }
 
 -- an element that closes leaves fewer
 fewer : (f : Frame) (fs : List Frame) → Frames (f ∷ fs) → Frames fs
@@ -382,8 +422,10 @@ kept stays h = h
 kept {d} (takes-text v e) h = with-frames d _ h (change-frames (X.takesText v) (d .frames) (text-safe v) (h .open-frames))
 kept {d} (takes-xml x e) h = with-frames d _ h (change-frames (takesXml x) (d .frames) (xml-safe x) (h .open-frames))
 kept {d} (copies m as′ x e c) h = with-frames d _ h (copy-frames m as′ x (d .frames) (counts-fit as′ (d .frames) c) (h .open-frames))
-kept {d} (opens m as′ t o c r q s) h = open-kept m as′ d t o h (counts-fit as′ (d .frames) c) r q (short-tag t s)
+kept {d} (opens m as′ t o c r g q s) h = open-kept m as′ d t o h (counts-fit as′ (d .frames) c) r q (short-tag t s)
+kept {d} (wraps m as′ p e c) h = wrap-kept m as′ d (counts-fit as′ (d .frames) c) h
 kept {d} (ends-root f fs is k) h = with-frames d fs h (without d f fs is h .0)
+kept {d} (ends-wrapper f fs b is k) h = with-frames d fs h (without d f fs is h .0)
 kept {d} (ends-node f fs s li is k) h =
     let w = without d f fs is h in
     let short : ShortKind (nodeElement s li) = rw k at (w .1) in
@@ -413,21 +455,21 @@ fits-true d h =
       held = leb-true (heldBytes d) mostHeldBytes (and-right b c (and-right a (b && c) h));
     }
 
-start-fits : (b : Option Bytes) → Short? b → Fits (fresh b)
+start-fits : (m : Mode) (b : Option Bytes) → Short? b → Fits (fresh m b)
 unfolding fresh D.all
-start-fits none h = record { idCount = omega arith; idBytes = omega arith; held = omega arith }
-start-fits (some b) h = let le : length b ≤ 1_024 = h in record { idCount = omega arith; idBytes = omega arith; held = omega arith }
+start-fits m none h = record { idCount = omega arith; idBytes = omega arith; held = omega arith }
+start-fits m (some b) h = let le : length b ≤ 1_024 = h in record { idCount = omega arith; idBytes = omega arith; held = omega arith }
 
-start-kept : (b : Option Bytes) → Short? b → Kept (fresh b)
+start-kept : (m : Mode) (b : Option Bytes) → Short? b → Kept (fresh m b)
 unfolding fresh mostOpenElements mostBindings inScope
-start-kept b s = record { base = s; ids = tt; open-frames = record { elements = omega arith; bindings = omega arith; every = tt } }
+start-kept m b s = record { base = s; ids = tt; open-frames = record { elements = omega arith; bindings = omega arith; every = tt } }
 
 -- From a start with no base or a short one, all limits hold of what is kept behind every accepted event.
-pub always-within : (b : Option Bytes) (d : Doc) (ts : List Triple) → Short? b → After (fresh b) d ts → Within d
+pub always-within : (m : Mode) (b : Option Bytes) (d : Doc) (ts : List Triple) → Short? b → After (fresh m b) d ts → Within d
 unfolding fresh mostLabels
-always-within b d ts s h =
-    let k : Kept d × Fits d = always-holds (λ d. Kept d × Fits d) (λ d d′ us c f k. (kept c (k .0), fits-true d′ f)) (start-kept b s, start-fits b s) h in
-    let le : d .labels < 100_000_000 = bound-after (fresh b) d ts (omega arith) h in
+always-within m b d ts s h =
+    let k : Kept d × Fits d = always-holds (λ d. Kept d × Fits d) (λ d d′ us c f k. (kept c (k .0), fits-true d′ f)) (start-kept m b s, start-fits m b s) h in
+    let le : d .labels < 100_000_000 = bound-after (fresh m b) d ts (omega arith) h in
     record {
       elements = k .0 .open-frames .elements;
       bindings = k .0 .open-frames .bindings;
@@ -469,11 +511,11 @@ may-start-short lengths (some b) =
     always-test _ _ _ λ e₃. leb-true (length b) mostNameBytes e₃
 
 -- an accepted start had no base or a short one
-pub start-short : (lengths : Bool) (b : Option Bytes) (t : State) → callStart lengths b t .answer ≡ 0 → Short? b
+pub start-short : (lengths : Bool) (m : Mode) (b : Option Bytes) (t : State) → callStart lengths m b t .answer ≡ 0 → Short? b
 unfolding callStart started refused
-start-short lengths b t h = go (mayStart lengths b) (may-start-short lengths b) h
+start-short lengths m b t h = go (mayStart lengths b) (may-start-short lengths b) h
   where
-    go : (a : Answer (Unit {0})) → Always (λ u. Short? b) a → started b t a .answer ≡ 0 → Short? b
+    go : (a : Answer (Unit {0})) → Always (λ u. Short? b) a → started m b t a .answer ≡ 0 → Short? b
     go (refuse r) s h = absurd (number-positive r h)
     go (good u) s h = s
 
@@ -484,7 +526,7 @@ WithinState (isClosed d) = Within d
 WithinState unlawful = ⊥
 
 -- From an accepted start, all limits hold of what is kept behind every step, whatever bytes and room the steps are given.
-pub steps-within : (lengths : Bool) (b : Option Bytes) (t₀ t : State) (w : Bytes) → callStart lengths b t₀ .answer ≡ 0 → Steps b t w → WithinState t
-steps-within lengths b t₀ (isOpen d) w h k = let r = written b (isOpen d) w k in always-within b d (r .0) (start-short lengths b t₀ h) (r .1)
-steps-within lengths b t₀ (isClosed d) w h k = let r = written b (isClosed d) w k in always-within b d (r .0) (start-short lengths b t₀ h) (r .1)
-steps-within lengths b t₀ unlawful w h k = always-lawful b w k
+pub steps-within : (lengths : Bool) (m : Mode) (b : Option Bytes) (t₀ t : State) (w : Bytes) → callStart lengths m b t₀ .answer ≡ 0 → Steps m b t w → WithinState t
+steps-within lengths m b t₀ (isOpen d) w h k = let r = written m b (isOpen d) w k in always-within m b d (r .0) (start-short lengths m b t₀ h) (r .1)
+steps-within lengths m b t₀ (isClosed d) w h k = let r = written m b (isClosed d) w k in always-within m b d (r .0) (start-short lengths m b t₀ h) (r .1)
+steps-within lengths m b t₀ unlawful w h k = always-lawful m b w k

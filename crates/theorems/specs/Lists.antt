@@ -14,7 +14,8 @@ use Rattle.spec.specs.Pyx.{Event, closing}
 use Rattle.spec.specs.NTriples.{Subject, named, blank, Term, node, Triple, triple, label}
 use Rattle.spec.specs.Rdf.{rdf}
 use Rattle.spec.specs.Limits.{mostLabels}
-use Rattle.spec.specs.Document.{Object, noObject, nodeObject, textObject, Value, default, collection, literal, other, Property, Kind, rdfRDF, nodeElement, propertyElement, xmlElement, Frame, Doc, fresh, withFrames, withLabels}
+use Rattle.spec.specs.declared.Mode.{Mode}
+use Rattle.spec.specs.Document.{Object, noObject, nodeObject, textObject, Value, default, collection, literal, other, Property, Kind, rdfRDF, wrapper, nodeElement, propertyElement, xmlElement, Frame, Doc, fresh, withFrames, withLabels}
 use Rattle.spec.specs.StartTag.{isGenerated}
 use Rattle.spec.specs.Productions.{statement}
 use Rattle.spec.specs.Opening.{Step}
@@ -112,6 +113,7 @@ module _ (R S : Rule) (f : (s : Subject) → R .subj s → S .subj s) (g : (o : 
 
   kind-map : (k : Kind) → OfKind R k → OfKind S k
   kind-map rdfRDF c = tt
+  kind-map (wrapper b) c = tt
   kind-map (nodeElement s li) c = f s c
   kind-map (propertyElement p v) c = (f (p .subject) (c .0), value-map v (c .1))
   kind-map xmlElement c = tt
@@ -147,6 +149,7 @@ trivial-value other = tt
 
 trivial-kind : (k : Kind) → OfKind AnyRule k
 trivial-kind rdfRDF = tt
+trivial-kind (wrapper b) = tt
 trivial-kind (nodeElement s li) = tt
 trivial-kind (propertyElement p v) = (tt, trivial-value v)
 trivial-kind xmlElement = tt
@@ -277,12 +280,12 @@ reads-cells lo hi n rest (c ∷ cs) rs A B low high le a b h =
 
 -- a document whose innermost open element f is a Collection with these children
 module _ (f : Frame) (p : Property) (cs : List Subject) (is : f .kind ≡ propertyElement p (collection cs))
-    (fs : List Frame) (b : Option Bytes) (r : Bool) (n : ℕ) (ids : List Bytes) where
+    (fs : List Frame) (m : Mode) (b : Option Bytes) (r : Bool) (n : ℕ) (ids : List Bytes) where
   abbrev pub inCollection : Doc
-  inCollection = record { startBase = b; frames = f ∷ fs; rooted = r; labels = n; ids = ids }
+  inCollection = record { mode = m; startBase = b; frames = f ∷ fs; rooted = r; labels = n; ids = ids }
 
   abbrev pub behind : Doc
-  behind = record { startBase = b; frames = fs; rooted = r; labels = n + length cs; ids = ids }
+  behind = record { mode = m; startBase = b; frames = fs; rooted = r; labels = n + length cs; ids = ids }
 
   abbrev nil : Subject
   nil = named (rdf "nil")
@@ -290,28 +293,28 @@ module _ (f : Frame) (p : Property) (cs : List Subject) (is : f .kind ≡ proper
   abbrev pub Closed : Step → Type 0
   Closed o = (o .0 ≡ cells n nil cs ++ statement p (node (headCell n nil cs))) × (o .1 ≡ behind) × (n + length cs < 100_000_000)
 
-  ends : (k : Kind) (m : Bytes) (l : Option Bytes) → k ≡ propertyElement p (collection cs) → Always Closed (C.endKind k m l (withFrames fs inCollection))
+  ends : (k : Kind) (w : Bytes) (l : Option Bytes) → k ≡ propertyElement p (collection cs) → Always Closed (C.endKind k w l (withFrames fs inCollection))
   unfolding C.endKind C.endValue withLabels withFrames mostLabels
-  ends k m l e = rw e (always-require Closed _ _ _ λ g.
+  ends k w l e = rw e (always-require Closed _ _ _ λ g.
       (refl, refl, (let le : n + length cs ≤ 99_999_999 = leb-true (n + length cs) 99_999_999 g in omega arith)))
 
-  pub closes : (m : Bytes) → Always Closed (next (closing m) inCollection)
+  pub closes : (w : Bytes) → Always Closed (next (closing w) inCollection)
   unfolding next X.onEvent C.closeElement X.within
-  closes m =
-      always-bind Closed Closed _ _ (always-require Closed _ _ _ λ e. ends (f .kind) m _ is) λ s k. always-require Closed _ _ _ λ g. k
+  closes w =
+      always-bind Closed Closed _ _ (always-require Closed _ _ _ λ e. ends (f .kind) w _ is) λ s k. always-require Closed _ _ _ λ g. k
 
-  pub lists-read-back : (b₀ : Option Bytes) (ts us vs : List Triple) (m : Bytes) (d₂ d₃ : Doc)
-      → After (fresh b₀) inCollection ts
-      → next (closing m) inCollection ≡ good (us, d₂)
+  pub lists-read-back : (m₀ : Mode) (b₀ : Option Bytes) (ts us vs : List Triple) (w : Bytes) (d₂ d₃ : Doc)
+      → After (fresh m₀ b₀) inCollection ts
+      → next (closing w) inCollection ≡ good (us, d₂)
       → After d₂ d₃ vs
       → (x : Subject) × (us ≡ cells n nil cs ++ statement p (node x)) × Reads n (n + length cs) (ts ++ (us ++ vs)) x (reverse cs)
   unfolding fresh known never
-  lists-read-back b₀ ts us vs m d₂ d₃ before q after =
-      let c : Closed (us, d₂) = subst (λ (a : Answer Step). Always Closed a) q (closes m) in
+  lists-read-back m₀ b₀ ts us vs w d₂ d₃ before q after =
+      let c : Closed (us, d₂) = subst (λ (a : Answer Step). Always Closed a) q (closes w) in
       let x : Subject = headCell n nil cs in
       let st : List Triple = statement p (node x) in
       let le : n + length cs < 100_000_000 = c .2 in
-      let h : Kept known (fresh b₀) inCollection ts = kept known (fresh b₀) inCollection ts (omega arith) (omega arith) tt before in
+      let h : Kept known (fresh m₀ b₀) inCollection ts = kept known (fresh m₀ b₀) inCollection ts (omega arith) (omega arith) tt before in
       let open-frames : OfFrames (KnownRule n) (f ∷ fs) = h .frames in
       let kind : OfKind (KnownRule n) (propertyElement p (collection cs)) = rw is at (open-frames .0) in
       let known-lines : OfLines (KnownRule n) ts = h .lines in

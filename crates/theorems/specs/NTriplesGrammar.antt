@@ -11,6 +11,7 @@ use Rattle.spec.specs.Rfc3987.{IRI, isIri}
 use Rattle.spec.specs.Pyx.{Event, readEvent}
 use Rattle.spec.specs.NTriples.{Subject, named, blank, Term, node, plain, tagged, typed, Triple, triple}
 use Rattle.spec.specs.NTriplesGrammar.{BLANK_NODE_LABEL, LANGTAG, isNTriples}
+use Rattle.spec.specs.declared.Mode.{Mode}
 use Rattle.spec.specs.Document.{Doc, fresh}
 use Rattle.spec.specs.RdfXml.{next}
 use Rattle.spec.specs.Lists.{After, here, event}
@@ -74,9 +75,9 @@ labelled no-line = tt
 labelled (with-line h g t) = ((h, g), labelled t)
 
 -- so of all lines of accepted events
-pub labels-after : (b : Option Bytes) (d : Doc) (ts : List Triple) → After (fresh b) d ts → All LabelTriple ts
+pub labels-after : (m : Mode) (b : Option Bytes) (d : Doc) (ts : List Triple) → After (fresh m b) d ts → All LabelTriple ts
 unfolding labels fresh
-labels-after b d ts h = labelled (kept labels (fresh b) d ts (omega arith) (omega arith) tt h .lines)
+labels-after m b d ts h = labelled (kept labels (fresh m b) d ts (omega arith) (omega arith) tt h .lines)
 
 -- ---- together with texts
 
@@ -113,35 +114,35 @@ base-text none h = tt
 base-text (some b) h = decoded-text (accepts IRI) b h
 
 -- the lines of accepted events, of texts, and a document of texts
-abbrev Good : Option Bytes → Doc → List Triple → Type 0
-Good b d ts = After (fresh b) d ts × All TextTriple ts × TextDoc d
+abbrev Good : Mode → Option Bytes → Doc → List Triple → Type 0
+Good m b d ts = After (fresh m b) d ts × All TextTriple ts × TextDoc d
 
-start : (b : Option Bytes) → GoodBase b → Good b (fresh b) []
+start : (m : Mode) (b : Option Bytes) → GoodBase b → Good m b (fresh m b) []
 unfolding fresh
-start b h = (here, tt, (base-text b h, tt))
+start m b h = (here, tt, (base-text b h, tt))
 
-onward : (b : Option Bytes) (d d′ : Doc) (ts us : List Triple) (bytes : Bytes) (e : Event) → AtFront bytes → readEvent bytes ≡ good e → next e d ≡ good (us, d′)
-    → Good b d ts → Good b d′ (ts ++ us)
-onward b d d′ ts us bytes e (last, s, c) p q h =
+onward : (m : Mode) (b : Option Bytes) (d d′ : Doc) (ts us : List Triple) (bytes : Bytes) (e : Event) → AtFront bytes → readEvent bytes ≡ good e → next e d ≡ good (us, d′)
+    → Good m b d ts → Good m b d′ (ts ++ us)
+onward m b d d′ ts us bytes e (last, s, c) p q h =
     let t : TextEvent e = always-good TextEvent (event-text last s bytes c) p in
     let r : TextStep (us, d′) = always-good TextStep (step-text e d t (h .2)) q in
     (event (h .0) e d′ us q, all-append TextTriple ts us (h .1) (r .0), r .1)
 
 -- Whatever bytes the steps of a document are given, in whatever pieces and with whatever output room, and whether or not one of them
 -- is refused: all that they have written are the lines of its accepted events, and those can be written.
-pub all-spelled : (b : Option Bytes) (t : State) (w : Bytes) → GoodBase b → Steps b t w → Holds (λ d ts. After (fresh b) d ts × SpelledLines ts) t w
-all-spelled b t w g h = go t (carried b (Good b) (start b g) (onward b) t w h)
+pub all-spelled : (m : Mode) (b : Option Bytes) (t : State) (w : Bytes) → GoodBase b → Steps m b t w → Holds (λ d ts. After (fresh m b) d ts × SpelledLines ts) t w
+all-spelled m b t w g h = go t (carried m b (Good m b) (start m b g) (onward m b) t w h)
   where
-    go : (t : State) → Holds (Good b) t w → Holds (λ d ts. After (fresh b) d ts × SpelledLines ts) t w
-    go (isOpen d) (ts, k, e) = (ts, (k .0, spelled ts (labels-after b d ts (k .0)) (k .1)), e)
-    go (isClosed d) (ts, k, e) = (ts, (k .0, spelled ts (labels-after b d ts (k .0)) (k .1)), e)
+    go : (t : State) → Holds (Good m b) t w → Holds (λ d ts. After (fresh m b) d ts × SpelledLines ts) t w
+    go (isOpen d) (ts, k, e) = (ts, (k .0, spelled ts (labels-after m b d ts (k .0)) (k .1)), e)
+    go (isClosed d) (ts, k, e) = (ts, (k .0, spelled ts (labels-after m b d ts (k .0)) (k .1)), e)
     go unlawful k = absurd k
 
 -- So all that they have written is a document of the N-Triples 1.1 grammar, in UTF-8.
-pub all-n-triples : (b : Option Bytes) (t : State) (w : Bytes) → GoodBase b → Steps b t w → isNTriples w ≡ true
-all-n-triples b t w g h = go t (all-spelled b t w g h)
+pub all-n-triples : (m : Mode) (b : Option Bytes) (t : State) (w : Bytes) → GoodBase b → Steps m b t w → isNTriples w ≡ true
+all-n-triples m b t w g h = go t (all-spelled m b t w g h)
   where
-    go : (t : State) → Holds (λ d ts. After (fresh b) d ts × SpelledLines ts) t w → isNTriples w ≡ true
+    go : (t : State) → Holds (λ d ts. After (fresh m b) d ts × SpelledLines ts) t w → isNTriples w ≡ true
     go (isOpen d) (ts, k, e) = rw e (lines-in-grammar ts (k .1))
     go (isClosed d) (ts, k, e) = rw e (lines-in-grammar ts (k .1))
     go unlawful k = absurd k

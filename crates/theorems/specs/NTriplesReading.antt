@@ -16,6 +16,7 @@ use Rattle.spec.specs.Utf8.{isScalar, holdsOf, asCharacters}
 use Rattle.spec.specs.NTriples.{Subject, named, blank, Term, node, plain, tagged, typed, Triple, triple, coded, literalByte, hexDigit, forbidden, iriByte, writeIri, writeSubject, quoted, writeTerm, line, write}
 use Rattle.spec.specs.NTriplesGrammar.{isNTriples}
 use Rattle.spec.specs.NTriplesGrammar as G
+use Rattle.spec.specs.declared.Mode.{Mode}
 use Rattle.spec.specs.Document.{fresh}
 use Rattle.spec.specs.Lists.{After}
 use Rattle.spec.specs.Calls.{State, isOpen, isClosed, unlawful}
@@ -345,10 +346,10 @@ lines-read-back ts h =
 
 -- Whatever bytes the steps of a document are given, in whatever pieces and with whatever output room, and whether or not one of them
 -- is refused: reading all that they have written gives back the triples of its accepted events.
-pub all-reads-back : (b : Option Bytes) (t : State) (w : Bytes) → GoodBase b → Steps b t w → Holds (λ d ts. After (fresh b) d ts × (ntriplesDoc w ≡ some ts)) t w
-all-reads-back b t w g h = go t (all-spelled b t w g h)
+pub all-reads-back : (m : Mode) (b : Option Bytes) (t : State) (w : Bytes) → GoodBase b → Steps m b t w → Holds (λ d ts. After (fresh m b) d ts × (ntriplesDoc w ≡ some ts)) t w
+all-reads-back m b t w g h = go t (all-spelled m b t w g h)
   where
-    go : (t : State) → Holds (λ d ts. After (fresh b) d ts × SpelledLines ts) t w → Holds (λ d ts. After (fresh b) d ts × (ntriplesDoc w ≡ some ts)) t w
+    go : (t : State) → Holds (λ d ts. After (fresh m b) d ts × SpelledLines ts) t w → Holds (λ d ts. After (fresh m b) d ts × (ntriplesDoc w ≡ some ts)) t w
     go (isOpen d) (ts, k, e) = (ts, (k .0, ap ntriplesDoc e ∙ lines-read-back ts (k .1)), e)
     go (isClosed d) (ts, k, e) = (ts, (k .0, ap ntriplesDoc e ∙ lines-read-back ts (k .1)), e)
     go unlawful k = absurd k

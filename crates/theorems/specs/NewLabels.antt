@@ -10,6 +10,7 @@ use Rattle.spec.specs.Bytes.{Bytes}
 use Rattle.spec.specs.Numbers.{good}
 use Rattle.spec.specs.Pyx.{Event}
 use Rattle.spec.specs.NTriples.{Subject, blank, Term, node, plain, tagged, typed, Triple, label}
+use Rattle.spec.specs.declared.Mode.{Mode}
 use Rattle.spec.specs.Document.{Doc, fresh}
 use Rattle.spec.specs.StartTag.{rdf-nodeID, means, sameRole, roleNumber, judge, isGenerated}
 use Rattle.spec.specs.RdfXml.{next}
@@ -82,13 +83,13 @@ written-not-generated l k q e =
 
 -- The labels that an accepted event generates are new: none may be written as rdf:nodeID, each has its own number, and no line
 -- before the event names one, as subject or as object.
-pub labels-new : (b₀ : Option Bytes) (d d′ : Doc) (ts us : List Triple) (e : Event) → After (fresh b₀) d ts → next e d ≡ good (us, d′)
+pub labels-new : (m : Mode) (b₀ : Option Bytes) (d d′ : Doc) (ts us : List Triple) (e : Event) → After (fresh m b₀) d ts → next e d ≡ good (us, d′)
     → (k : ℕ) → d .labels < k → k ≤ d′ .labels
     → ((l : Bytes) → judge rdf-nodeID l ≡ good tt → l ≡ label k → ⊥)
     × ((j : ℕ) → j ≤ d′ .labels → label j ≡ label k → j ≡ k)
     × Unnamed (blank (label k)) ts
 unfolding fresh all-known
-labels-new b₀ d d′ ts us e before q k lo hi =
-    let h : Kept all-known (fresh b₀) d ts = kept all-known (fresh b₀) d ts (omega arith) (omega arith) tt before in
-    let h′ : d′ .labels < 100_000_000 = kept all-known (fresh b₀) d′ _ (omega arith) (omega arith) tt (event before e d′ us q) .bound in
+labels-new m b₀ d d′ ts us e before q k lo hi =
+    let h : Kept all-known (fresh m b₀) d ts = kept all-known (fresh m b₀) d ts (omega arith) (omega arith) tt before in
+    let h′ : d′ .labels < 100_000_000 = kept all-known (fresh m b₀) d′ _ (omega arith) (omega arith) tt (event before e d′ us q) .bound in
     ((λ l g. written-not-generated l k g), (λ j le g. label-inj j k (omega arith) (omega arith) g), unnamed (d .labels) k lo (omega arith) (h .lines))

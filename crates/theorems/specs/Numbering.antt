@@ -20,6 +20,7 @@ use Rattle.spec.specs.Opening as G
 use Rattle.spec.specs.RdfXml.{next}
 use Rattle.spec.specs.RdfXml as X
 use Rattle.spec.specs.Inside.{Begun, Element, innermost, isLiTag, namesLi, lis, Begins, is-open, is-written, Writes}
+use Rattle.theorems.specs.Rules.{always-rules}
 use Rattle.theorems.specs.Always.{Always, always-bind, always-any, always-after, always-require, always-if, always-map, always-good}
 use Rattle.theorems.specs.Frames.{Read, tag-read, always-next}
 use Rattle.theorems.specs.Statements.{property-written}
@@ -70,7 +71,7 @@ next-li n as′ d s li place is =
     always-next (Numbered s li) (opening n as′) d
     (always-require (Numbered s li) _ _ _ λ e₁. always-require (Numbered s li) _ _ _ λ e₂. rw place
     (always-bind (Read n as′ d) (Numbered s li) _ _ (tag-read n as′ d) λ t r.
-    always-bind (Counts s li) (Numbered s li) _ _ (counts t s li (d .labels) (rw (r .0) at is)) λ o k.
+    always-bind (Counts s li) (Numbered s li) _ _ (always-rules (Counts s li) _ _ (counts t s li (d .labels) (rw (r .0) at is))) λ o k.
     always-require (Numbered s li) _ _ _ λ e. (k .0, k .1, k .2, begins t d o (k .3))))
 
 -- The start tag of an rdf:li directly inside a node element begins a property of that node, which stands for rdf:_n; n is one more

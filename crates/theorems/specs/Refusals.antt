@@ -1,4 +1,4 @@
--- What an event itself is refused for: 6 by its first test only, else 7 to 18. It closes the document; so answers 1 to 4 are given
+-- What an event itself is refused for: 6 by its first test only, else 7 to 19. It closes the document; so answers 1 to 4 are given
 -- exactly when document 01's table says.
 use mathlib.Core.Path.{_≡_, refl, sym, _∙_, ap, subst}
 use mathlib.Core.Bool.{Bool, true, false, _&&_, not, true≢false}
@@ -10,22 +10,27 @@ use native.Mathlib.Omega.{arith}
 use lib.Dec.{eqb, leb}
 use lib.ListN.{length}
 use borrow.Author.Tests.{leb-false, lt-leb}
-use Rattle.spec.specs.Bytes.{Bytes, byte, same, if_then_else_, each, _>>=_, _>>_, require_or_}
+use Rattle.spec.specs.Bytes.{Bytes, byte, same, member, if_then_else_, each, _>>=_, _>>_, require_or_}
 use Rattle.spec.specs.Numbers.{number, closes, Answer, refuse, good}
 use Rattle.spec.specs.declared.Refusal.{Refusal}
-use Rattle.spec.specs.declared.Refusal.the-variants.{Incomplete, NoRoom, BadState, Closed, NotPyx, NotWellFormed, OverLimit, NoNamespace, NotNcName, BadLanguage, BadIri, RepeatedId, BadLabel, Reserved, TwoNames, StrayText, EmptyLiteral, LabelsSpent}
+use Rattle.spec.specs.declared.Refusal.the-variants.{Incomplete, NoRoom, BadState, Closed, NotPyx, NotWellFormed, OverLimit, NoNamespace, NotNcName, BadLanguage, BadIri, RepeatedId, BadLabel, Reserved, TwoNames, StrayText, EmptyLiteral, LabelsSpent, ProfileBroken}
 use Rattle.spec.specs.Pyx.{Attribute, attribute, Event, opening, closing, text, instruction, readEvent}
 use Rattle.spec.specs.Pyx as P
 use Rattle.spec.specs.Namespaces.{Binding}
 use Rattle.spec.specs.Namespaces as N
 use Rattle.spec.specs.NTriples.{Subject, Triple, write}
-use Rattle.spec.specs.Document.{Value, default, collection, literal, other, Property, Kind, rdfRDF, nodeElement, propertyElement, xmlElement, Frame, Doc, Place, outside, nodes, nodesOrText, xml, properties, placeIn}
+use Rattle.spec.specs.declared.Mode.{Mode}
+use Rattle.spec.specs.Modes.{baseMode}
+use Rattle.spec.specs.Document.{Value, default, collection, literal, other, Property, Kind, rdfRDF, wrapper, nodeElement, propertyElement, xmlElement, Frame, Doc, Place, outside, nodes, nodesOrText, xml, properties, placeIn}
 use Rattle.spec.specs.StartTag.{Role, nothing, xml-lang, xml-base, rdf-ID, rdf-bagID, rdf-nodeID, rdf-about, rdf-resource, rdf-datatype, rdf-parseType, rdf-type, forbidden, property, Tag, readTag}
 use Rattle.spec.specs.StartTag as S
 use Rattle.spec.specs.Productions.{Opened, openNode, openProperty, openRoot, ParseType, noParseType, asCollection, asResource, asLiteral, asOther}
 use Rattle.spec.specs.Productions as O
+use Rattle.spec.specs.Xmp.{openWrapper, keeps}
 use Rattle.spec.specs.Opening as G
 use Rattle.spec.specs.EndTag as C
+use Rattle.spec.specs.Inside.{innermost}
+use Rattle.spec.specs.Nesting.{Stands, Nested}
 use Rattle.spec.specs.RdfXml.{next}
 use Rattle.spec.specs.RdfXml as X
 use Rattle.spec.specs.PyxCut.{Cut, wait, unended, tooLong, whole, cut}
@@ -61,15 +66,18 @@ module _ (Q : Refusal → Type 0) where
   on-if true m k h g = h
   on-if false m k h g = g
 
+  -- a test that is looked at where it fails
+  on-failing-test : (b : Bool) (r : Refusal) → (b ≡ false → Q r) → Given Q (require b or r)
+  unfolding require_or_
+  on-failing-test true r h = tt
+  on-failing-test false r h = h refl
+
   on-require : {A : Type 0} (b : Bool) (r : Refusal) (m : Answer A) → Q r → Given Q m → Given Q ((require b or r) >> m)
   on-require b r m h k = on-then (require b or r) m (on-test b r h) k
 
-  -- a test that is looked at where it fails
   on-failing : {A : Type 0} (b : Bool) (r : Refusal) (m : Answer A) → (b ≡ false → Q r) → Given Q m
       → Given Q ((require b or r) >> m)
-  unfolding _>>_ require_or_
-  on-failing true r m h k = k
-  on-failing false r m h k = h refl
+  on-failing b r m h k = on-then (require b or r) m (on-failing-test b r h) k
 
   on-each : {A B : Type 0} (f : A → Answer B) (l : List A) → ((a : A) → Given Q (f a)) → Given Q (each f l)
   unfolding each
@@ -135,22 +143,51 @@ wellFormed (closing n) d = matches n (d .frames)
 wellFormed (text s) d = true
 wellFormed instruction d = true
 
--- what holds of 7 to 18, by which an event is refused behind that test
-pub record Behind (Q : Refusal → Type 0) : Type 0 where
+-- what 12 needs: an rdf:ID of an accepted event
+abbrev pub HasIds : Doc → Type 0
+HasIds d = d .ids ≡ [] → ⊥
+
+-- what 17 needs: the innermost open element is a property with parseType Literal
+abbrev pub InLiteral : Doc → Type 0
+InLiteral d = (p : Property) × (x : Bytes) × (innermost (d .frames) ≡ some (propertyElement p (literal x)))
+
+-- what 19 needs: another mode than the base
+abbrev pub HasRules : Doc → Type 0
+HasRules d = d .mode ≡ baseMode → Nested (d .mode) (d .frames) → ⊥
+
+-- what holds of 7 to 19, by which an event is refused behind that test
+pub record Behind (Q : Refusal → Type 0) (d : Doc) : Type 0 where
   pub seven : Q OverLimit
   pub eight : Q NoNamespace
   pub nine : Q NotNcName
   pub ten : Q BadLanguage
   pub eleven : Q BadIri
-  pub twelve : Q RepeatedId
+  pub twelve : HasIds d → Q RepeatedId
   pub thirteen : Q BadLabel
   pub fourteen : Q Reserved
   pub fifteen : Q TwoNames
   pub sixteen : Q StrayText
-  pub seventeen : Q EmptyLiteral
+  pub seventeen : InLiteral d → Q EmptyLiteral
   pub eighteen : Q LabelsSpent
+  pub nineteen : HasRules d → Q ProfileBroken
 
-module _ (Q : Refusal → Type 0) (j : Behind Q) where
+-- without an rdf:ID entered all are unused
+used-ids : (i : Option Bytes) (ids : List Bytes) → S.isUnused i ids ≡ false → ids ≡ [] → ⊥
+unfolding S.isUnused member
+used-ids none ids h e = true≢false h
+used-ids (some i) ids h e = true≢false (subst (λ (x : List Bytes). not (member i x) ≡ false) e h)
+
+-- the base has no rules to break, and no wrapper
+rules-in : (m : Mode) (fs : List Frame) (t : Tag) → keeps (m .profile) fs t ≡ false → m ≡ baseMode → ⊥
+unfolding keeps
+rules-in m fs t h e = true≢false (subst (λ (x : Mode). keeps (x .profile) fs t ≡ false) e h)
+
+wrapper-in : (m : Mode) (f : Frame) (fs gs : List Frame) (b : Bool) → gs ≡ f ∷ fs → f .kind ≡ wrapper b → m ≡ baseMode → Nested m gs → ⊥
+wrapper-in m f fs gs b is k e n =
+    let h : Nested baseMode (f ∷ fs) = subst (λ (x : Mode). Nested x (f ∷ fs)) e (subst (Nested m) is n) in
+    subst (λ (x : Kind). Stands baseMode x (placeIn fs)) k (h .0)
+
+module _ (Q : Refusal → Type 0) (d : Doc) (j : Behind Q d) where
   -- ---- start tags
 
   in-namespace : (o : Option Bytes) (l : Bytes) → Given Q (N.inNamespace o l)
@@ -193,13 +230,13 @@ module _ (Q : Refusal → Type 0) (j : Behind Q) where
   resolved none (some r) = on-require Q _ _ _ (j .eleven) tt
   resolved (some b) (some r) = on-require Q _ _ _ (j .eleven) tt
 
-  read-tag : (n : Bytes) (as′ : List Attribute) (d : Doc) → Given Q (readTag n as′ d)
+  read-tag : (n : Bytes) (as′ : List Attribute) → Given Q (readTag n as′ d)
   unfolding readTag
-  read-tag n as′ d =
+  read-tag n as′ =
       on-bind Q _ _ (expand _ n) λ i.
       on-bind Q _ _ (on-each Q _ as′ (meaning _)) λ ms.
       on-bind Q _ _ (resolved _ _) λ id′.
-      on-require Q _ _ _ (j .twelve)
+      on-failing Q _ _ _ (λ h. j .twelve (used-ids id′ (d .ids) h))
       (on-bind Q _ _ (resolved _ _) λ about′.
       on-bind Q _ _ (resolved _ _) λ resource′.
       on-bind Q _ _ (resolved _ _) λ datatype′.
@@ -233,87 +270,110 @@ module _ (Q : Refusal → Type 0) (j : Behind Q) where
   unfolding openRoot
   open-root t n = on-if Q _ _ _ tt (open-node t n)
 
-  open-element : (production : Tag → ℕ → Answer Opened) (m : Bytes) (as′ : List Attribute) (d : Doc) → ((t : Tag) (n : ℕ) → Given Q (production t n)) → Given Q (G.openElement production m as′ d)
+  on-rules : (r : Answer (Unit {0})) (a : Answer Opened) → Given Q r → Given Q a → Given Q (G.underRules r a)
+  unfolding G.underRules
+  on-rules (good u) a h k = k
+  on-rules (refuse r) (refuse q) h k = on-if Q _ _ _ k h
+  on-rules (refuse r) (good o) h k = h
+
+  mode-rules : (t : Tag) → Given Q (G.modeRules (d .mode) (d .frames) t)
+  unfolding G.modeRules
+  mode-rules t = on-failing-test Q _ _ λ h. j .nineteen λ e n. rules-in (d .mode) (d .frames) t h e
+
+  open-element : (production : Tag → ℕ → Answer Opened) (m : Bytes) (as′ : List Attribute) → ((t : Tag) (n : ℕ) → Given Q (production t n)) → Given Q (G.openElement production m as′ d)
   unfolding G.openElement
-  open-element production m as′ d h = on-bind Q _ _ (read-tag m as′ d) λ t. on-bind Q _ _ (h t (d .labels)) λ o. on-require Q _ _ _ (j .seven) tt
+  open-element production m as′ h =
+      on-bind Q _ _ (read-tag m as′) λ t. on-bind Q _ _ (on-rules _ _ (mode-rules t) (h t (d .labels))) λ o. on-require Q _ _ _ (j .seven) tt
 
-  copy-element : (m : Bytes) (as′ : List Attribute) (d : Doc) → Given Q (G.copyElement m as′ d)
-  unfolding G.copyElement G.knownAttribute
-  copy-element m as′ d = on-require Q _ _ _ (j .eight) (on-then Q _ _ (on-each Q _ as′ λ a. on-test Q _ _ (j .eight)) tt)
+  known-attributes : (bs : List Binding) (as′ : List Attribute) → Given Q (each (N.knownAttribute bs) as′)
+  unfolding N.knownAttribute
+  known-attributes bs as′ = on-each Q _ as′ λ a. on-test Q _ _ (j .eight)
 
-  open-in : (p : Place) (m : Bytes) (as′ : List Attribute) (d : Doc) → Given Q (G.openIn p m as′ d)
+  copy-element : (m : Bytes) (as′ : List Attribute) → Given Q (G.copyElement m as′ d)
+  unfolding G.copyElement
+  copy-element m as′ = on-require Q _ _ _ (j .eight) (on-then Q _ _ (known-attributes _ as′) tt)
+
+  open-wrapper : (m : Bytes) (as′ : List Attribute) → Given Q (openWrapper m as′ d)
+  unfolding openWrapper
+  open-wrapper m as′ = on-then Q _ _ (known-attributes _ as′) (on-require Q _ _ _ (j .seven) tt)
+
+  open-in : (p : Place) (m : Bytes) (as′ : List Attribute) → Given Q (G.openIn p m as′ d)
   unfolding G.openIn
-  open-in outside m as′ d = open-element openRoot m as′ d open-root
-  open-in nodes m as′ d = open-element openNode m as′ d open-node
-  open-in nodesOrText m as′ d = open-element openNode m as′ d open-node
-  open-in (properties s li) m as′ d = open-element (λ t. openProperty t s li) m as′ d λ t. open-property t s li
-  open-in xml m as′ d = copy-element m as′ d
+  open-in outside m as′ = on-if Q _ _ _ (open-wrapper m as′) (open-element openRoot m as′ open-root)
+  open-in nodes m as′ = open-element openNode m as′ open-node
+  open-in nodesOrText m as′ = open-element openNode m as′ open-node
+  open-in (properties s li) m as′ = open-element (λ t. openProperty t s li) m as′ λ t. open-property t s li
+  open-in xml m as′ = copy-element m as′
 
-  on-opening : (m : Bytes) (as′ : List Attribute) (d : Doc) → (wellFormed (opening m as′) d ≡ false → Q NotWellFormed)
-      → Given Q (G.onOpening m as′ d)
+  on-opening : (m : Bytes) (as′ : List Attribute) → (wellFormed (opening m as′) d ≡ false → Q NotWellFormed) → Given Q (G.onOpening m as′ d)
   unfolding G.onOpening
-  on-opening m as′ d six = on-failing Q _ _ _ six (on-require Q _ _ _ (j .seven) (open-in _ m as′ d))
+  on-opening m as′ six = on-failing Q _ _ _ six (on-require Q _ _ _ (j .seven) (open-in _ m as′))
 
   -- ---- end tags and text
 
-  end-value : (p : Property) (v : Value) (l : Option Bytes) (d : Doc) → Given Q (C.endValue p v l d)
+  end-value : (p : Property) (v : Value) (l : Option Bytes) (d′ : Doc) → ((x : Bytes) → v ≡ literal x → Q EmptyLiteral)
+      → Given Q (C.endValue p v l d′)
   unfolding C.endValue
-  end-value p (default t o) l d = tt
-  end-value p (collection cs) l d = on-require Q _ _ _ (j .eighteen) tt
-  end-value p (literal x) l d = on-require Q _ _ _ (j .seventeen) tt
-  end-value p other l d = tt
+  end-value p (default t o) l d′ h = tt
+  end-value p (collection cs) l d′ h = on-require Q _ _ _ (j .eighteen) tt
+  end-value p (literal x) l d′ h = on-require Q _ _ _ (h x refl) tt
+  end-value p other l d′ h = tt
 
-  end-kind : (k : Kind) (m : Bytes) (l : Option Bytes) (d : Doc) → Given Q (C.endKind k m l d)
+  end-kind : (k : Kind) (m : Bytes) (l : Option Bytes) (d′ : Doc) → ((p : Property) (x : Bytes) → k ≡ propertyElement p (literal x) → Q EmptyLiteral)
+      → ((b : Bool) → k ≡ wrapper b → Q ProfileBroken) → Given Q (C.endKind k m l d′)
   unfolding C.endKind
-  end-kind rdfRDF m l d = tt
-  end-kind (nodeElement s li) m l d = tt
-  end-kind (propertyElement p v) m l d = end-value p v l d
-  end-kind xmlElement m l d = tt
+  end-kind rdfRDF m l d′ h g = tt
+  end-kind (wrapper b) m l d′ h g = on-require Q _ _ _ (g b refl) tt
+  end-kind (nodeElement s li) m l d′ h g = tt
+  end-kind (propertyElement p v) m l d′ h g = end-value p v l d′ λ x e. h p x (ap (propertyElement p) e)
+  end-kind xmlElement m l d′ h g = tt
 
-  close-element : (m : Bytes) (fs : List Frame) (d : Doc) → (matches m fs ≡ false → Q NotWellFormed)
-      → Given Q (C.closeElement m fs d)
-  unfolding C.closeElement matches
-  close-element m [] d six = six refl
-  close-element m (f ∷ fs) d six = on-failing Q _ _ _ six (end-kind (f .kind) m _ _)
+  close-element : (m : Bytes) (fs : List Frame) → d .frames ≡ fs → (matches m fs ≡ false → Q NotWellFormed) → Given Q (C.closeElement m fs d)
+  unfolding C.closeElement matches innermost
+  close-element m [] is six = six refl
+  close-element m (f ∷ fs) is six =
+      on-failing Q _ _ _ six
+      (end-kind (f .kind) m _ _ (λ p x k. j .seventeen (p, x, ap innermost is ∙ ap some k)) λ b k. j .nineteen (wrapper-in (d .mode) f fs (d .frames) b is k))
 
-  on-text : (p : Place) (v : Bytes) (d : Doc) → Given Q (X.onText p v d)
+  on-text : (p : Place) (v : Bytes) → Given Q (X.onText p v d)
   unfolding X.onText
-  on-text outside v d = on-require Q _ _ _ (j .sixteen) tt
-  on-text nodes v d = on-require Q _ _ _ (j .sixteen) tt
-  on-text (properties s li) v d = on-require Q _ _ _ (j .sixteen) tt
-  on-text nodesOrText v d = tt
-  on-text xml v d = tt
+  on-text outside v = on-require Q _ _ _ (j .sixteen) tt
+  on-text nodes v = on-require Q _ _ _ (j .sixteen) tt
+  on-text (properties s li) v = on-require Q _ _ _ (j .sixteen) tt
+  on-text nodesOrText v = tt
+  on-text xml v = tt
 
-  on-event : (e : Event) (d : Doc) → (wellFormed e d ≡ false → Q NotWellFormed) → Given Q (X.onEvent e d)
+  on-event : (e : Event) → (wellFormed e d ≡ false → Q NotWellFormed) → Given Q (X.onEvent e d)
   unfolding X.onEvent
-  on-event (opening m as′) d six = on-opening m as′ d six
-  on-event (closing m) d six = close-element m (d .frames) d six
-  on-event (text v) d six = on-text (placeIn (d .frames)) v d
-  on-event instruction d six = tt
+  on-event (opening m as′) six = on-opening m as′ six
+  on-event (closing m) six = close-element m (d .frames) refl six
+  on-event (text v) six = on-text (placeIn (d .frames)) v
+  on-event instruction six = tt
 
-  -- an event itself is refused by 7 to 18, or by 6 where that test fails
-  pub next-given : (e : Event) (d : Doc) → (wellFormed e d ≡ false → Q NotWellFormed) → Given Q (next e d)
+  -- an event itself is refused by 7 to 19, or by 6 where that test fails
+  pub next-given : (e : Event) → (wellFormed e d ≡ false → Q NotWellFormed) → Given Q (next e d)
   unfolding next X.within
-  next-given e d six = on-bind Q _ _ (on-event e d six) λ s. on-require Q _ _ _ (j .seven) tt
+  next-given e six = on-bind Q _ _ (on-event e six) λ s. on-require Q _ _ _ (j .seven) tt
 
 -- whatever an event itself is refused for closes the document
 pub next-closing : (e : Event) (d : Doc) → Closing (next e d)
-next-closing e d = next-given Closes all-close e d λ h. refl
+next-closing e d = next-given Closes d all-close e λ h. refl
   where
-    all-close : Behind Closes
+    all-close : Behind Closes d
     all-close = record {
       seven = refl;
       eight = refl;
       nine = refl;
       ten = refl;
       eleven = refl;
-      twelve = refl;
+      twelve = λ h. refl;
       thirteen = refl;
       fourteen = refl;
       fifteen = refl;
       sixteen = refl;
-      seventeen = refl;
+      seventeen = λ h. refl;
       eighteen = refl;
+      nineteen = λ h. refl;
     }
 
 -- by 1 to 5 never, and by 6 only where it is not well-formed
@@ -321,22 +381,23 @@ abbrev AboveSix : Event → Doc → Refusal → Type 0
 AboveSix e d r = (leb (number r) 6 ≡ false) ⊎ ((r ≡ NotWellFormed) × (wellFormed e d ≡ false))
 
 next-above : (e : Event) (d : Doc) → Given (AboveSix e d) (next e d)
-next-above e d = next-given (AboveSix e d) above e d λ h. inr (refl, h)
+next-above e d = next-given (AboveSix e d) d above e λ h. inr (refl, h)
   where
-    above : Behind (AboveSix e d)
+    above : Behind (AboveSix e d) d
     above = record {
       seven = inl refl;
       eight = inl refl;
       nine = inl refl;
       ten = inl refl;
       eleven = inl refl;
-      twelve = inl refl;
+      twelve = λ h. inl refl;
       thirteen = inl refl;
       fourteen = inl refl;
       fifteen = inl refl;
       sixteen = inl refl;
-      seventeen = inl refl;
+      seventeen = λ h. inl refl;
       eighteen = inl refl;
+      nineteen = λ h. inl refl;
     }
 
 pub refused-above : (e : Event) (d : Doc) (r : Refusal) → next e d ≡ refuse r → AboveSix e d r

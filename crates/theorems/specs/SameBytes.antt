@@ -8,6 +8,7 @@ use lib.ListN.{length}
 use Rattle.spec.specs.Bytes.{Bytes, All}
 use Rattle.spec.specs.NTriples.{Triple, write}
 use Rattle.spec.specs.NTriplesReading.{lines}
+use Rattle.spec.specs.declared.Mode.{Mode}
 use Rattle.spec.specs.Document.{Doc, fresh}
 use Rattle.spec.specs.Lists.{After, here, event}
 use Rattle.spec.specs.ReadingBack.{Given, none-given, by-event, and-then}
@@ -24,7 +25,7 @@ behind P (t ∷ ts) us h = behind P ts us (h .1)
 
 given-labels : {ts : List Triple} → Given ts → All LabelTriple ts
 given-labels none-given = tt
-given-labels (by-event b {ts = ts} a e d′ us q) = behind LabelTriple ts us (labels-after b d′ (ts ++ us) (event a e d′ us q))
+given-labels (by-event m b {ts = ts} a e d′ us q) = behind LabelTriple ts us (labels-after m b d′ (ts ++ us) (event a e d′ us q))
 given-labels (and-then {ts = ts} {us = us} g h) = all-append LabelTriple ts us (given-labels g) (given-labels h)
 
 -- ---- the theorem
@@ -38,11 +39,11 @@ same-bytes-same-triples ts us g h e =
 -- ---- what is given
 
 -- by a part of a document
-pub part-given : (b : Option Bytes) (d d′ : Doc) (ts us : List Triple) → After (fresh b) d ts → After d d′ us → Given us
-part-given b d d′ ts us before here = none-given
-part-given b d d″ ts us before (event {d = d₁} {ts = vs} a e d′ ws q) =
-    and-then (part-given b d d₁ ts vs before a) (by-event b (after-append before a) e d′ ws q)
+pub part-given : (m : Mode) (b : Option Bytes) (d d′ : Doc) (ts us : List Triple) → After (fresh m b) d ts → After d d′ us → Given us
+part-given m b d d′ ts us before here = none-given
+part-given m b d d″ ts us before (event {d = d₁} {ts = vs} a e d′ ws q) =
+    and-then (part-given m b d d₁ ts vs before a) (by-event m b (after-append before a) e d′ ws q)
 
 -- by a document from its start
-pub whole-given : (b : Option Bytes) (d : Doc) (ts : List Triple) → After (fresh b) d ts → Given ts
-whole-given b d ts a = part-given b (fresh b) d [] ts here a
+pub whole-given : (m : Mode) (b : Option Bytes) (d : Doc) (ts : List Triple) → After (fresh m b) d ts → Given ts
+whole-given m b d ts a = part-given m b (fresh m b) d [] ts here a

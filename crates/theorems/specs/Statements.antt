@@ -10,7 +10,7 @@ use Rattle.spec.specs.Bytes.{Bytes, if_then_else_}
 use Rattle.spec.specs.Pyx.{Event, opening, closing, text, instruction}
 use Rattle.spec.specs.NTriples.{Subject, named, Term, Triple}
 use Rattle.spec.specs.Rdf.{rdf}
-use Rattle.spec.specs.Document.{Value, default, collection, literal, other, Property, Kind, rdfRDF, nodeElement, propertyElement, xmlElement, Frame, Doc, withKind, onValue, isXmlElement, changeValue}
+use Rattle.spec.specs.Document.{Value, default, collection, literal, other, Property, Kind, rdfRDF, wrapper, nodeElement, propertyElement, xmlElement, Part, Frame, Doc, withKind, withPart, onValue, isXmlElement, changeValue}
 use Rattle.spec.specs.Productions.{statement}
 use Rattle.spec.specs.XmlLiteral.{takesXml}
 use Rattle.spec.specs.Opening.{counted, countLi}
@@ -75,13 +75,14 @@ module _ (p : Property) (b : Bool) (fs : List Frame) where
       go true r = under x r
       go false r = held-at (withKind (onValue h (x .kind)) x ∷ gs) g v is o
 
-  count-held : (i : Bytes) (gs : List Frame) (g : Frame) (v : Value) → g .kind ≡ propertyElement p v → isOther v ≡ b → Held (countLi i (gs ++ (g ∷ fs)))
-  unfolding countLi withKind counted
-  count-held i [] g v is o = held-at [] (withKind (counted i (g .kind)) g) v (ap (counted i) is) o
-  count-held i (x ∷ gs) g v is o = held-at (withKind (counted i (x .kind)) x ∷ gs) g v is o
+  count-held : (i : Bytes) (h : Part → Part) (gs : List Frame) (g : Frame) (v : Value) → g .kind ≡ propertyElement p v → isOther v ≡ b → Held (countLi i h (gs ++ (g ∷ fs)))
+  unfolding countLi withKind withPart counted
+  count-held i h [] g v is o = held-at [] (withPart (h (g .part)) (withKind (counted i (g .kind)) g)) v (ap (counted i) is) o
+  count-held i h (x ∷ gs) g v is o = held-at (withPart (h (x .part)) (withKind (counted i (x .kind)) x) ∷ gs) g v is o
 
   left-held : (k : Kind) (n : Bytes) (gs : List Frame) (g : Frame) (v : Value) → g .kind ≡ propertyElement p v → isOther v ≡ b → Held (left k n (gs ++ (g ∷ fs)))
   left-held rdfRDF n gs g v is o = held-at gs g v is o
+  left-held (wrapper w) n gs g v is o = held-at gs g v is o
   left-held (nodeElement s li) n gs g v is o = value-held (takesNode s) (node-keeps s) gs g v is o
   left-held (propertyElement q w) n gs g v is o = held-at gs g v is o
   left-held xmlElement n gs g v is o = value-held _ (text-keeps (by-xml _)) gs g v is o
@@ -92,7 +93,7 @@ module _ (p : Property) (b : Bool) (fs : List Frame) where
   closed-held {n} (x ∷ gs) g v is o closes more = left-held (x .kind) n gs g v is o
 
   step-held : {e : Event} {frames frames′ : List Frame} → Held frames → Move e frames frames′ → length fs < length frames′ → Held frames′
-  step-held {e = opening n as′} (held-at gs g v is o) (opens {f = f} i e c) more = under f (count-held i gs g v is o)
+  step-held {e = opening n as′} (held-at gs g v is o) (opens {f = f} i h e c) more = under f (count-held i h gs g v is o)
   step-held {e = opening n as′} (held-at gs g v is o) (copies {f = f} x c k) more = under f (value-held _ (text-keeps (by-xml x)) gs g v is o)
   step-held {e = closing n} (held-at gs g v is o) m more = closed-held gs g v is o m more
   step-held {e = text s} (held-at gs g v is o) leaves more = held-at gs g v is o

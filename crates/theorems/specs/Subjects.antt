@@ -19,19 +19,21 @@ use Rattle.spec.specs.Namespaces.{Binding}
 use Rattle.spec.specs.NTriples.{Subject, named, blank, Term, node, plain, tagged, typed, Triple, triple, label}
 use Rattle.spec.specs.Abnf.{lower}
 use Rattle.spec.specs.Rfc5646.{isLanguageTag}
-use Rattle.spec.specs.Document.{Object, noObject, nodeObject, textObject, Value, default, collection, literal, other, Property, Kind, rdfRDF, nodeElement, propertyElement, xmlElement, Frame, Doc, withFrames, withLabels, withKind, languageInForce, Place, outside, nodes, nodesOrText, xml, properties, inValue, inKind, placeIn, changeValue, onValue, isXmlElement}
+use Rattle.spec.specs.Document.{Object, noObject, nodeObject, textObject, Value, default, collection, literal, other, Property, Kind, rdfRDF, wrapper, nodeElement, propertyElement, xmlElement, Part, Frame, Doc, withFrames, withLabels, withKind, withPart, languageInForce, Place, outside, nodes, nodesOrText, xml, properties, inValue, inKind, placeIn, changeValue, onValue, isXmlElement}
 use Rattle.spec.specs.StartTag as S
 use Rattle.spec.specs.StartTag.{Role, Meaning, means, sameRole, roleNumber, judge, isGenerated, endsInStop, Tag, readTag, nothing, xml-lang, xml-base, rdf-ID, rdf-bagID, rdf-nodeID, rdf-about, rdf-resource, rdf-datatype, rdf-parseType, rdf-type, forbidden, property}
 use Rattle.spec.specs.Productions as O
 use Rattle.spec.specs.Productions.{Opened, openNode, openProperty, openRoot, statement, typeLine, attributeLines, tagLines, ParseType, noParseType, asCollection, asResource, asLiteral, asOther}
 use Rattle.spec.specs.RdfXml as X
 use Rattle.spec.specs.XmlLiteral.{takesXml, addXml}
+use Rattle.spec.specs.Xmp.{openWrapper, wrapped}
 use Rattle.spec.specs.Opening.{Step}
 use Rattle.spec.specs.Opening as G
 use Rattle.spec.specs.EndTag.{cells, headCell}
 use Rattle.spec.specs.EndTag as C
 use Rattle.spec.specs.RdfXml.{next}
 use Rattle.theorems.specs.Always.{Always, always-bind, always-any, always-then, always-after, always-test, always-require, always-if}
+use Rattle.theorems.specs.Rules.{always-rules}
 
 -- ---- rules for subjects and objects
 
@@ -69,6 +71,7 @@ module _ (R : Rule) where
 
   abbrev pub OfKind : Kind → Type 0
   OfKind rdfRDF = Unit {0}
+  OfKind (wrapper b) = Unit {0}
   OfKind (nodeElement s li) = R .subj s
   OfKind (propertyElement p v) = R .subj (p .subject) × OfValue v
   OfKind xmlElement = Unit {0}
@@ -318,27 +321,29 @@ module _ (R : Rule) where
   counted-kind : (i : Bytes) (k : Kind) → OfKind R k → OfKind R (G.counted i k)
   unfolding G.counted
   counted-kind i rdfRDF h = h
+  counted-kind i (wrapper b) h = h
   counted-kind i (nodeElement s li) h = h
   counted-kind i (propertyElement p v) h = h
   counted-kind i xmlElement h = h
 
-  counted-frames : (i : Bytes) (fs : List Frame) → OfFrames R fs → OfFrames R (G.countLi i fs)
-  unfolding G.countLi withKind
-  counted-frames i [] h = tt
-  counted-frames i (f ∷ fs) h = (counted-kind i (f .kind) (h .0), h .1, h .2)
+  counted-frames : (i : Bytes) (n : Part → Part) (fs : List Frame) → OfFrames R fs → OfFrames R (G.countLi i n fs)
+  unfolding G.countLi withKind withPart
+  counted-frames i n [] h = tt
+  counted-frames i n (f ∷ fs) h = (counted-kind i (f .kind) (h .0), h .1, h .2)
 
   open-element : (production : Tag → ℕ → Answer Opened) (m : Bytes) (as′ : List Attribute) (d : Doc) → OfFrames R (d .frames)
       → ((t : Tag) → FairTag t → Always (Produced R (d .labels)) (production t (d .labels))) → Always (Outcome R (d .labels)) (G.openElement production m as′ d)
   unfolding G.openElement G.opened
   open-element production m as′ d h k =
       always-bind FairTag (Outcome R (d .labels)) _ _ (tag-fair m as′ d h) λ t fair.
-      always-bind (Produced R (d .labels)) (Outcome R (d .labels)) _ _ (k t fair) λ o g.
+      always-bind (Produced R (d .labels)) (Outcome R (d .labels)) _ _ (always-rules (Produced R (d .labels)) _ _ (k t fair)) λ o g.
       always-require (Outcome R (d .labels)) _ _ _ λ e.
-      (g .0, g .1, λ new. (let r = g .2 new in ((r .0, fair .1, counted-frames (t .iri) (d .frames) h), r .1)))
+      (g .0, g .1, λ new. (let r = g .2 new in ((r .0, fair .1, counted-frames (t .iri) _ (d .frames) h), r .1)))
 
   on-value : (g : Value → Value) (k : Kind) → ((v : Value) → OfValue R v → OfValue R (g v)) → OfKind R k → OfKind R (onValue g k)
   unfolding onValue
   on-value g rdfRDF f h = h
+  on-value g (wrapper b) f h = h
   on-value g (nodeElement s li) f h = h
   on-value g (propertyElement p v) f h = (h .0, f v (h .1))
   on-value g xmlElement f h = h
@@ -383,6 +388,7 @@ module _ (R : Rule) where
   in-kind : (k : Kind) → OfKind R k → OfPlace (inKind k)
   unfolding inKind
   in-kind rdfRDF h = tt
+  in-kind (wrapper b) h = tt
   in-kind (nodeElement s li) h = h
   in-kind (propertyElement p v) h = in-value v
   in-kind xmlElement h = tt
@@ -394,8 +400,11 @@ module _ (R : Rule) where
 
   open-in : (p : Place) (m : Bytes) (as′ : List Attribute) (d : Doc) → OfPlace p → OfFrames R (d .frames) → d .labels < 100_000_000
       → Always (Outcome R (d .labels)) (G.openIn p m as′ d)
-  unfolding G.openIn
-  open-in outside m as′ d k h le = open-element openRoot m as′ d h λ t. open-root t (d .labels) le
+  unfolding G.openIn openWrapper wrapped
+  open-in outside m as′ d k h le =
+      always-if (Outcome R (d .labels)) _ _ _
+      (λ w. always-after (Outcome R (d .labels)) _ _ (always-after (Outcome R (d .labels)) _ _ (omega arith, le, λ new. ((tt, tt, h), no-line))))
+      λ w. open-element openRoot m as′ d h λ t. open-root t (d .labels) le
   open-in nodes m as′ d k h le = open-element openNode m as′ d h λ t. open-node t (d .labels)
   open-in nodesOrText m as′ d k h le = open-element openNode m as′ d h λ t. open-node t (d .labels)
   open-in xml m as′ d k h le = copy-element m as′ d h le
@@ -443,6 +452,7 @@ module _ (R : Rule) where
       → Always (Outcome R (d .labels)) (C.endKind k m l d)
   unfolding C.endKind withFrames addXml
   end-kind rdfRDF m l d g f h le = (omega arith, le, λ new. (h, no-line))
+  end-kind (wrapper b) m l d g f h le = always-after (Outcome R (d .labels)) _ _ (omega arith, le, λ new. (h, no-line))
   end-kind (nodeElement s li) m l d g f h le = (omega arith, le, λ new. (change-value _ (d .frames) (takes-node s g) h, no-line))
   end-kind (propertyElement p v) m l d g f h le = end-value p v l d (g .0) (g .1) f h le
   end-kind xmlElement m l d g f h le = (omega arith, le, λ new. (change-value _ (d .frames) (takes-xml _) h, no-line))

@@ -18,12 +18,13 @@ use Rattle.spec.specs.Pyx.{Attribute, attribute, Event, opening, closing, text,
 use Rattle.spec.specs.Namespaces.{Binding, xmlName, isDeclaration, declares, declared, lookUp, namespace, expandAttribute, inNamespace, expandElement}
 use Rattle.spec.specs.Namespaces as M
 use Rattle.spec.specs.NTriples.{Subject, named, blank, Term, node, plain, tagged, typed, Triple, triple, label, digits, dropZeros, decimal}
-use Rattle.spec.specs.Document.{Object, noObject, nodeObject, textObject, Value, default, collection, literal, other, Property, Kind, rdfRDF, nodeElement, propertyElement, xmlElement, Frame, Doc, withFrames, withLabels, withKind, inScope, baseInForce, Place, outside, nodes, nodesOrText, xml, properties, inValue, inKind, placeIn, changeValue, onValue, isXmlElement}
+use Rattle.spec.specs.Document.{Object, noObject, nodeObject, textObject, Value, default, collection, literal, other, Property, Kind, rdfRDF, wrapper, nodeElement, propertyElement, xmlElement, Part, Frame, Doc, withFrames, withLabels, withKind, withPart, inScope, baseInForce, Place, outside, nodes, nodesOrText, xml, properties, inValue, inKind, placeIn, changeValue, onValue, isXmlElement}
 use Rattle.spec.specs.StartTag as S
 use Rattle.spec.specs.StartTag.{Role, sameRole, Meaning, means, meaning, resolved, Tag, readTag, xml-base, rdf-ID, rdf-about, rdf-resource, rdf-datatype, rdf-type, property}
 use Rattle.spec.specs.Productions as O
 use Rattle.spec.specs.Productions.{Opened, openNode, openProperty, openRoot, statement, typeLine, attributeLines, tagLines, ParseType, noParseType, asCollection, asResource, asLiteral, asOther}
 use Rattle.spec.specs.XmlLiteral.{textByte, valueByte, textXml, attributeXml, attributesXml, startTagXml, endTagXml, takesXml, addXml}
+use Rattle.spec.specs.Xmp.{openWrapper, wrapped}
 use Rattle.spec.specs.Opening.{Step}
 use Rattle.spec.specs.Opening as G
 use Rattle.spec.specs.EndTag.{cells, headCell}
@@ -31,6 +32,7 @@ use Rattle.spec.specs.EndTag as C
 use Rattle.spec.specs.RdfXml.{next}
 use Rattle.spec.specs.RdfXml as X
 use Rattle.spec.proofs.Booleans.{and-right}
+use Rattle.theorems.specs.Rules.{always-rules}
 use Rattle.theorems.specs.Always.{Always, always-bind, always-after, always-require, always-if, always-each, all-append}
 use Rattle.theorems.specs.Utf8.{isAscii, Text, join, ascii-text, empty-text}
 use Rattle.theorems.specs.Cuts.{Text?, past-text}
@@ -70,6 +72,7 @@ TextProperty p = TextSubject (p .subject) × Text (p .iri) × Text? (p .id)
 
 abbrev TextKind : Kind → Type 0
 TextKind rdfRDF = Unit {0}
+TextKind (wrapper b) = Unit {0}
 TextKind (nodeElement s li) = TextSubject s
 TextKind (propertyElement p v) = TextProperty p × TextValue v
 TextKind xmlElement = Unit {0}
@@ -376,22 +379,23 @@ open-root t n h = always-if TextOpened _ _ _ (λ e. (tt, tt)) (λ e. open-node t
 counted-kind : (i : Bytes) (k : Kind) → TextKind k → TextKind (G.counted i k)
 unfolding G.counted
 counted-kind i rdfRDF h = h
+counted-kind i (wrapper b) h = h
 counted-kind i (nodeElement s li) h = h
 counted-kind i (propertyElement p v) h = h
 counted-kind i xmlElement h = h
 
-counted-frames : (i : Bytes) (fs : List Frame) → All TextFrame fs → All TextFrame (G.countLi i fs)
-unfolding G.countLi withKind
-counted-frames i [] h = tt
-counted-frames i (f ∷ fs) h = ((h .0 .0, h .0 .1, counted-kind i (f .kind) (h .0 .2)), h .1)
+counted-frames : (i : Bytes) (n : Part → Part) (fs : List Frame) → All TextFrame fs → All TextFrame (G.countLi i n fs)
+unfolding G.countLi withKind withPart
+counted-frames i n [] h = tt
+counted-frames i n (f ∷ fs) h = ((h .0 .0, h .0 .1, counted-kind i (f .kind) (h .0 .2)), h .1)
 
 open-element : (production : Tag → ℕ → Answer Opened) (m : Bytes) (as′ : List Attribute) (d : Doc) → Text m → All TextAttribute as′ → TextDoc d
     → ((t : Tag) → TextTag t → Always TextOpened (production t (d .labels))) → Always TextStep (G.openElement production m as′ d)
 unfolding G.openElement G.opened
 open-element production m as′ d t h k f =
     always-bind TextTag TextStep _ _ (tag-text m as′ d t h k) λ tag g.
-    always-bind TextOpened TextStep _ _ (f tag g) λ o r.
-    always-require TextStep _ _ _ λ e. (r .0, (k .0, ((g .bindings, g .ownBase, r .1), counted-frames (tag .iri) (d .frames) (k .1))))
+    always-bind TextOpened TextStep _ _ (always-rules TextOpened _ _ (f tag g)) λ o r.
+    always-require TextStep _ _ _ λ e. (r .0, (k .0, ((g .bindings, g .ownBase, r .1), counted-frames (tag .iri) _ (d .frames) (k .1))))
 
 -- ---- XML text
 
@@ -454,6 +458,7 @@ end-xml n t = join (ascii-text (ascii "</") refl) (join t (ascii-text (ascii ">"
 on-value : (g : Value → Value) (k : Kind) → ((v : Value) → TextValue v → TextValue (g v)) → TextKind k → TextKind (onValue g k)
 unfolding onValue
 on-value g rdfRDF f h = h
+on-value g (wrapper b) f h = h
 on-value g (nodeElement s li) f h = h
 on-value g (propertyElement p v) f h = (h .0, f v (h .1))
 on-value g xmlElement f h = h
@@ -499,6 +504,7 @@ in-value other = tt
 in-kind : (k : Kind) → TextKind k → TextPlace (inKind k)
 unfolding inKind
 in-kind rdfRDF h = tt
+in-kind (wrapper b) h = tt
 in-kind (nodeElement s li) h = h
 in-kind (propertyElement p v) h = in-value v
 in-kind xmlElement h = tt
@@ -509,8 +515,10 @@ place-in [] h = tt
 place-in (f ∷ fs) h = in-kind (f .kind) (h .0 .2)
 
 open-in : (p : Place) (m : Bytes) (as′ : List Attribute) (d : Doc) → TextPlace p → Text m → All TextAttribute as′ → TextDoc d → Always TextStep (G.openIn p m as′ d)
-unfolding G.openIn
-open-in outside m as′ d s t h k = open-element openRoot m as′ d t h k λ tag. open-root tag (d .labels)
+unfolding G.openIn openWrapper wrapped
+open-in outside m as′ d s t h k =
+    always-if TextStep _ _ _ (λ w. always-after TextStep _ _ (always-after TextStep _ _ (tt, (k .0, ((declared-text as′ h, tt, tt), k .1)))))
+    λ w. open-element openRoot m as′ d t h k λ tag. open-root tag (d .labels)
 open-in nodes m as′ d s t h k = open-element openNode m as′ d t h k λ tag. open-node tag (d .labels)
 open-in nodesOrText m as′ d s t h k = open-element openNode m as′ d t h k λ tag. open-node tag (d .labels)
 open-in xml m as′ d s t h k = copy-element m as′ d t h k
@@ -550,6 +558,7 @@ end-value p other l d h g k = (tt, k)
 end-kind : (k : Kind) (m : Bytes) (l : Option Bytes) (d : Doc) → TextKind k → Text m → TextDoc d → Always TextStep (C.endKind k m l d)
 unfolding C.endKind withFrames addXml
 end-kind rdfRDF m l d g t h = (tt, h)
+end-kind (wrapper b) m l d g t h = always-after TextStep _ _ (tt, h)
 end-kind (nodeElement s li) m l d g t h = (tt, (h .0, change-value _ (d .frames) (takes-node s g) (h .1)))
 end-kind (propertyElement p v) m l d g t h = end-value p v l d (g .0) (g .1) h
 end-kind xmlElement m l d g t h = (tt, (h .0, change-value _ (d .frames) (takes-xml _ (end-xml m t)) (h .1)))

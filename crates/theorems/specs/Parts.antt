@@ -1,0 +1,204 @@
+-- Document 02, request 1: what the profile remembers of the open elements, behind each accepted event; and that at most one rdf:RDF is open.
+use mathlib.Core.Path.{_≡_, refl, sym, _∙_, subst}
+use mathlib.Core.Logic.{_⊎_, inl, inr}
+use mathlib.Core.Bool.{Bool, true, false, not, true≢false}
+use mathlib.Core.Option.{Option, none, some}
+use mathlib.Core.List.{List, [], _∷_}
+use Prim.Native.Nat.{ℕ}
+use native.Mathlib.Omega.{arith}
+use Rattle.spec.specs.Bytes.{Bytes, if_then_else_, same, isSome, All}
+use Rattle.spec.specs.Rdf.{rdf}
+use Rattle.spec.specs.declared.Mode.{Mode}
+use Rattle.spec.specs.declared.Profile.{Profile}
+use Rattle.spec.specs.declared.Profile.the-variants.{NoProfile, XmpProfile}
+use Rattle.spec.specs.NTriples.{Subject, Triple}
+use Rattle.spec.specs.Document.{Value, default, collection, literal, other, Property, Kind, rdfRDF, wrapper, nodeElement, propertyElement, xmlElement, Part, ordinary, topLevel, alternatives, Frame, Doc, fresh, withFrames, withLabels, withKind, withPart, Place, outside, nodes, nodesOrText, xml, properties, inValue, inKind, placeIn, changeValue, onValue, isXmlElement}
+use Rattle.spec.specs.StartTag.{Tag}
+use Rattle.spec.specs.Productions.{Opened, openNode, openProperty, openRoot, ParseType, noParseType, asCollection, asResource, asLiteral, asOther}
+use Rattle.spec.specs.Productions as O
+use Rattle.spec.specs.Xmp.{wrapped, isItsRdf, hasNoneOut, keepsKind, keepsAround, keeps, newPart, withChild, noted}
+use Rattle.spec.specs.Opening.{counted, countLi, opened}
+use Rattle.spec.specs.Lists.{After}
+use Rattle.spec.specs.Nesting.{Wraps, Stands, Nested}
+use Rattle.spec.specs.Packets.{Remembers, Parts}
+use Rattle.spec.proofs.Booleans.{and-left}
+use Rattle.theorems.specs.Always.{Always, always-any, always-after, always-require, always-if, always-good}
+use Rattle.theorems.specs.Changes.{Produces, Change, stays, takes-text, takes-xml, copies, opens, wraps, ends-root, ends-wrapper, ends-node, ends-property, ends-xml, always-holds}
+
+-- ---- changes to an open element
+
+counted-remembers : (p : Profile) (i : Bytes) (k : Kind) (q : Part) → Remembers p k q → Remembers p (counted i k) q
+unfolding counted
+counted-remembers NoProfile i k q h = h
+counted-remembers XmpProfile i rdfRDF q h = h
+counted-remembers XmpProfile i (wrapper b) q h = h
+counted-remembers XmpProfile i (nodeElement s li) q h = h
+counted-remembers XmpProfile i (propertyElement o v) q h = h
+counted-remembers XmpProfile i xmlElement q h = h
+
+value-remembers : (p : Profile) (g : Value → Value) (k : Kind) (q : Part) → Remembers p k q → Remembers p (onValue g k) q
+unfolding onValue
+value-remembers NoProfile g k q h = h
+value-remembers XmpProfile g rdfRDF q h = h
+value-remembers XmpProfile g (wrapper b) q h = h
+value-remembers XmpProfile g (nodeElement s li) q h = h
+value-remembers XmpProfile g (propertyElement o v) q h = h
+value-remembers XmpProfile g xmlElement q h = h
+
+noted-top : (t : Tag) (a : Option Bytes) → (b : Option Bytes) × (withChild t (topLevel a) ≡ topLevel b)
+unfolding withChild
+noted-top t none = (t .about, refl)
+noted-top t (some a) = (some a, refl)
+
+noted-alt : (t : Tag) (l : Option Bool) → (m : Option Bool) × (withChild t (alternatives l) ≡ alternatives m)
+unfolding withChild if_then_else_
+noted-alt t (some b) = (some b, refl)
+noted-alt t none = go (same (t .iri) (rdf "li"))
+  where
+    go : (b : Bool) → (m : Option Bool) × ((if b then alternatives (some (isSome (t .ownTag))) else alternatives none) ≡ alternatives m)
+    go true = (some (isSome (t .ownTag)), refl)
+    go false = (none, refl)
+
+noted-ordinary : (t : Tag) (q : Part) → q ≡ ordinary → withChild t q ≡ ordinary
+unfolding withChild
+noted-ordinary t q e = rw e
+
+noted-remembers : (p : Profile) (t : Tag) (k : Kind) (q : Part) → Remembers p k q → Remembers p k (noted p t q)
+unfolding noted
+noted-remembers NoProfile t k q h = h
+noted-remembers XmpProfile t rdfRDF q (a, e) = rw e (noted-top t a)
+noted-remembers XmpProfile t (wrapper b) q h = noted-ordinary t q h
+noted-remembers XmpProfile t (nodeElement s li) q (inl e) = inl (noted-ordinary t q e)
+noted-remembers XmpProfile t (nodeElement s li) q (inr (l, e)) = inr (rw e (noted-alt t l))
+noted-remembers XmpProfile t (propertyElement o v) q h = noted-ordinary t q h
+noted-remembers XmpProfile t xmlElement q h = noted-ordinary t q h
+
+count-parts : (p : Profile) (i : Bytes) (t : Tag) (fs : List Frame) → Parts p fs → Parts p (countLi i (noted p t) fs)
+unfolding countLi withKind withPart
+count-parts p i t [] h = tt
+count-parts p i t (f ∷ fs) h = (noted-remembers p t (counted i (f .kind)) (f .part) (counted-remembers p i (f .kind) (f .part) (h .0)), h .1)
+
+change-parts : (p : Profile) (g : Value → Value) (fs : List Frame) → Parts p fs → Parts p (changeValue g fs)
+unfolding changeValue withKind if_then_else_
+change-parts p g [] h = tt
+change-parts p g (f ∷ fs) h = go (isXmlElement (f .kind)) (change-parts p g fs (h .1))
+  where
+    go : (b : Bool) → Parts p (changeValue g fs) → Parts p (if b then f ∷ changeValue g fs else withKind (onValue g (f .kind)) f ∷ fs)
+    go true k = (h .0, k)
+    go false k = (value-remembers p g (f .kind) (f .part) (h .0), h .1)
+
+-- ---- a new element
+
+-- where rdf:RDF may stand, only it opens in the profile
+only-rdf : (fs : List Frame) (t : Tag) → placeIn fs ≡ outside → keeps XmpProfile fs t ≡ true → same (t .iri) (rdf "RDF") ≡ true
+unfolding placeIn inKind inValue keeps keepsAround keepsKind isItsRdf
+only-rdf [] t e h = and-left (same (t .iri) (rdf "RDF")) _ (and-left _ (hasNoneOut t) h)
+only-rdf (f ∷ fs) t e h = go (f .kind) e (and-left _ (hasNoneOut t) h)
+  where
+    go : (k : Kind) → inKind k ≡ outside → keepsKind k (f .part) t ≡ true → same (t .iri) (rdf "RDF") ≡ true
+    go rdfRDF e h = absurd (let z : _≡_ {A = ℕ} 0 1 = cc in omega arith)
+    go (wrapper had) e h = and-left (same (t .iri) (rdf "RDF")) (not had) h
+    go (nodeElement s li) e h = absurd (let z : _≡_ {A = ℕ} 0 1 = cc in omega arith)
+    go (propertyElement p (default d o)) e h = absurd (let z : _≡_ {A = ℕ} 0 1 = cc in omega arith)
+    go (propertyElement p (collection cs)) e h = absurd (let z : _≡_ {A = ℕ} 0 1 = cc in omega arith)
+    go (propertyElement p (literal x)) e h = absurd (let z : _≡_ {A = ℕ} 0 1 = cc in omega arith)
+    go (propertyElement p other) e h = absurd (let z : _≡_ {A = ℕ} 0 1 = cc in omega arith)
+    go xmlElement e h = absurd (let z : _≡_ {A = ℕ} 0 1 = cc in omega arith)
+
+abbrev New : Part → Opened → Type 0
+New q o = Remembers XmpProfile (o .kind) q
+
+new-root : (t : Tag) (n : ℕ) → same (t .iri) (rdf "RDF") ≡ true → Always (New (topLevel none)) (openRoot t n)
+unfolding openRoot
+new-root t n h = always-if (New (topLevel none)) _ _ _ (λ e. (none, refl)) λ e. absurd (true≢false (sym h ∙ e))
+
+new-node : (t : Tag) (n : ℕ) (b : Bool) → Always (New (if b then alternatives none else ordinary)) (openNode t n)
+unfolding openNode if_then_else_
+new-node t n true = always-require (New (alternatives none)) _ _ _ λ e₁. always-require (New (alternatives none)) _ _ _ λ e₂. always-after (New (alternatives none)) _ _ (inr (none, refl))
+new-node t n false = always-require (New ordinary) _ _ _ λ e₁. always-require (New ordinary) _ _ _ λ e₂. always-after (New ordinary) _ _ (inl refl)
+
+new-as : (a : ParseType) (t : Tag) (p : Property) (n : ℕ) → Always (New ordinary) (O.openAs a t p n)
+unfolding O.openAs O.openWith O.openDefault O.openWithNode O.openResource
+new-as noParseType t p n = always-if (New ordinary) _ _ _ (λ e. always-any (New ordinary) _ _ λ o. refl) λ e. refl
+new-as asCollection t p n = refl
+new-as asResource t p n = always-after (New ordinary) _ _ (inl refl)
+new-as asLiteral t p n = refl
+new-as asOther t p n = refl
+
+new-property : (t : Tag) (s : Subject) (li n : ℕ) → Always (New ordinary) (openProperty t s li n)
+unfolding openProperty
+new-property t s li n = always-require (New ordinary) _ _ _ λ e₁. always-require (New ordinary) _ _ _ λ e₂. always-after (New ordinary) _ _ (new-as _ t _ n)
+
+new-remembers : (p : Profile) (q : Place) (t : Tag) (n : ℕ) (o : Opened) (fs : List Frame) → placeIn fs ≡ q → keeps p fs t ≡ true → Produces q t n o → Remembers p (o .kind) (newPart p q (t .iri))
+unfolding newPart
+new-remembers NoProfile q t n o fs e h k = refl
+new-remembers XmpProfile outside t n o fs e h k = always-good (New (topLevel none)) (new-root t n (only-rdf fs t e h)) k
+new-remembers XmpProfile nodes t n o fs e h k = always-good (New _) (new-node t n (same (t .iri) (rdf "Alt"))) k
+new-remembers XmpProfile nodesOrText t n o fs e h k = always-good (New _) (new-node t n (same (t .iri) (rdf "Alt"))) k
+new-remembers XmpProfile (properties s li) t n o fs e h k = always-good (New ordinary) (new-property t s li n) k
+new-remembers XmpProfile xml t n o fs e h k = absurd k
+
+-- ---- every change
+
+always-ordinary : (p : Profile) → Remembers p xmlElement ordinary
+always-ordinary NoProfile = refl
+always-ordinary XmpProfile = refl
+
+wrapper-ordinary : (p : Profile) (b : Bool) → Remembers p (wrapper b) ordinary
+wrapper-ordinary NoProfile b = refl
+wrapper-ordinary XmpProfile b = refl
+
+without : (p : Profile) (f : Frame) (fs gs : List Frame) → gs ≡ f ∷ fs → Parts p gs → Parts p fs
+without p f fs gs is h = let k : Parts p (f ∷ fs) = rw is at h in k .1
+
+parts : {d d′ : Doc} {us : List Triple} → Change d us d′ → Parts (d .mode .profile) (d .frames) → Parts (d′ .mode .profile) (d′ .frames)
+unfolding withFrames withLabels opened wrapped
+parts stays h = h
+parts {d} (takes-text v e) h = change-parts (d .mode .profile) _ (d .frames) h
+parts {d} (takes-xml x e) h = change-parts (d .mode .profile) _ (d .frames) h
+parts {d} (copies m as′ x e c) h = (always-ordinary (d .mode .profile), change-parts (d .mode .profile) _ (d .frames) h)
+parts {d} (opens m as′ t o c r g q s) h =
+    (new-remembers (d .mode .profile) (placeIn (d .frames)) t (d .labels) o (d .frames) refl g q, count-parts (d .mode .profile) (t .iri) t (d .frames) h)
+parts {d} (wraps m as′ p e c) h = (wrapper-ordinary (d .mode .profile) false, h)
+parts {d} (ends-root f fs is k) h = without (d .mode .profile) f fs (d .frames) is h
+parts {d} (ends-wrapper f fs b is k) h = without (d .mode .profile) f fs (d .frames) is h
+parts {d} (ends-node f fs s li is k) h = change-parts (d .mode .profile) _ fs (without (d .mode .profile) f fs (d .frames) is h)
+parts {d} (ends-property f fs p v l ws n is k q) h = without (d .mode .profile) f fs (d .frames) is h
+parts {d} (ends-xml f fs x is k) h = change-parts (d .mode .profile) _ fs (without (d .mode .profile) f fs (d .frames) is h)
+
+-- Behind every accepted event what is remembered for the profile goes by the kind of the element; in the base mode it is nothing.
+pub always-parts : (m : Mode) (b : Option Bytes) (d : Doc) (ts : List Triple) → After (fresh m b) d ts → Parts (d .mode .profile) (d .frames)
+unfolding fresh
+always-parts m b d ts h = always-holds (λ d. Parts (d .mode .profile) (d .frames)) (λ d d′ us c f k. parts c k) tt h
+
+-- ---- one rdf:RDF
+
+abbrev pub NoRdf : Kind → Type 0
+NoRdf rdfRDF = ⊥
+NoRdf (wrapper b) = Unit {0}
+NoRdf (nodeElement s li) = Unit {0}
+NoRdf (propertyElement p v) = Unit {0}
+NoRdf xmlElement = Unit {0}
+
+wrapper-place : (p : Profile) (q : Place) → Wraps p q → q ≡ outside
+wrapper-place NoProfile q h = absurd h
+wrapper-place XmpProfile q h = h
+
+no-rdf : (m : Mode) (fs : List Frame) → Nested m fs → placeIn fs ≡ outside → All (λ f. NoRdf (f .kind)) fs
+unfolding placeIn inKind inValue
+no-rdf m [] h e = tt
+no-rdf m (f ∷ fs) h e = go (f .kind) e (h .0) (no-rdf m fs (h .1))
+  where
+    go : (k : Kind) → inKind k ≡ outside → Stands m k (placeIn fs) → (placeIn fs ≡ outside → All (λ f. NoRdf (f .kind)) fs) → NoRdf k × All (λ f. NoRdf (f .kind)) fs
+    go rdfRDF e s r = absurd (let z : _≡_ {A = ℕ} 0 1 = cc in omega arith)
+    go (wrapper b) e s r = (tt, r (wrapper-place (m .profile) (placeIn fs) s))
+    go (nodeElement u li) e s r = absurd (let z : _≡_ {A = ℕ} 0 1 = cc in omega arith)
+    go (propertyElement p (default d o)) e s r = absurd (let z : _≡_ {A = ℕ} 0 1 = cc in omega arith)
+    go (propertyElement p (collection cs)) e s r = absurd (let z : _≡_ {A = ℕ} 0 1 = cc in omega arith)
+    go (propertyElement p (literal x)) e s r = absurd (let z : _≡_ {A = ℕ} 0 1 = cc in omega arith)
+    go (propertyElement p other) e s r = absurd (let z : _≡_ {A = ℕ} 0 1 = cc in omega arith)
+    go xmlElement e s r = absurd (let z : _≡_ {A = ℕ} 0 1 = cc in omega arith)
+
+-- Below an open rdf:RDF no other is open: one place for the rdf:about is enough.
+pub one-rdf : (m : Mode) (f : Frame) (fs : List Frame) → Nested m (f ∷ fs) → f .kind ≡ rdfRDF → All (λ g. NoRdf (g .kind)) fs
+one-rdf m f fs h e = no-rdf m fs (h .1) (subst (λ (k : Kind). Stands m k (placeIn fs)) e (h .0))
