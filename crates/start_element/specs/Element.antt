@@ -9,7 +9,7 @@ use Rattle.spec.specs.Bytes.{Bytes}
 use Rattle.spec.specs.NTriples.{Subject, named, blank}
 use Rattle.spec.specs.Namespaces.{declared}
 use Rattle.spec.specs.Document.{default, collection, literal, other, Property}
-use Rattle.spec.specs.Document.{Kind as What, rdfRDF, nodeElement, propertyElement, Frame as Element}
+use Rattle.spec.specs.Document.{Kind as What, rdfRDF, nodeElement, propertyElement, ordinary, Frame as Element}
 use Rattle.copy.specs.Copy.{part}
 use Rattle.state_words.specs.declared.Kind.{Kind}
 use Rattle.state_words.specs.declared.Kind.the-variants.{Rdf, NodeElt, PropertyElt, ParseTypeCollectionPropertyElt, ParseTypeLiteralPropertyElt, ParseTypeOtherPropertyElt}
@@ -58,6 +58,7 @@ newElement e w m k a p s =
       ownBase = maybe (p .base) e a;
       ownTag = maybe (p .tag) e a;
       kind = kindIs (p .kind) p e a s;
+      part = ordinary;
     }
 
 -- what a kind does not have is missing

@@ -2,25 +2,26 @@
 use mathlib.Core.Path.{_≡_, refl, sym, ap, _∙_}
 use mathlib.Core.Bool.{Bool, true, false, false≢true}
 use mathlib.Core.List.{List, [], _∷_}
-use Prim.Native.Nat.{ℕ, suc, _+_, _-_, _*_, _<_, _≤_}
+use Prim.Native.Nat.{ℕ, zero, suc, _+_, _-_, _*_, _<_, _≤_}
 use native.Mathlib.Omega.{arith}
 use lib.ListN.{length, take, getD}
 use borrow.Author.Tests.{eq-eqb, ne-eqb, le-leb, lt-ltb}
 use Rattle.spec.specs.Bytes.{Bytes, if_then_else_, sizeOf, total}
 use Rattle.spec.specs.Limits as L
-use Rattle.spec.specs.Namespaces.{declared}
+use Rattle.spec.specs.Namespaces.{Binding, declared}
 use Rattle.spec.specs.NTriples.{Subject, named}
-use Rattle.spec.specs.Document.{Kind as What, rdfRDF, nodeElement, propertyElement, xmlElement, Frame as Element, withKind, kindBytes, bindingBytes, frameBytes, heldBytes}
+use Rattle.spec.specs.Document.{Kind as What, rdfRDF, wrapper, nodeElement, propertyElement, xmlElement, Part, ordinary, Frame as Element, withKind, withPart, kindBytes, bindingBytes, frameBytes, heldBytes}
 use Rattle.spec.specs.Productions.{isLi}
 use Rattle.spec.specs.Opening.{counted, countLi}
 use Rattle.copy.specs.Copy.{part, Put, Wrote, put-fits, wrote-part}
 use Rattle.state_words.specs.Parts.{NAME, BINDINGS, BASE, END, FRAME, TABLE}
 use Rattle.state_words.specs.declared.Kind.{Kind}
 use Rattle.state_words.specs.declared.Kind.the-variants.{Rdf, NodeElt, PropertyElt, ParseTypeCollectionPropertyElt, ParseTypeLiteralPropertyElt, ParseTypeOtherPropertyElt}
+use Rattle.state_words.specs.declared.Frame.{Frame}
 use Rattle.state_words.specs.Words.{frameAt, load-frame}
 use Rattle.state_words.specs.Kept.{Kept, kept-all, kept-then, kept-less, kept-before}
 use Rattle.state.specs.declared.Registers.{Registers}
-use Rattle.state.specs.Meaning.{at, span, elementOf, subjectBelow, startOf, elementsOf, docOf}
+use Rattle.state.specs.Meaning.{at, first, span, bindingsOf, whatOf, elementOf, subjectBelow, framesOf, innersOf, startOf, elementsOf, docOf}
 use Rattle.state.specs.Valid.{isNode, nodeBelow, stands, Rising, Valid}
 use Rattle.state.specs.Held.{held}
 use Rattle.state.specs.Stay.{bindings-kept}
@@ -237,20 +238,21 @@ stands-in r fs h d l = go
 counted-bytes : (i : Bytes) (q : What) → kindBytes (counted i q) ≡ kindBytes q
 unfolding counted kindBytes
 counted-bytes i rdfRDF = refl
+counted-bytes i (wrapper b) = refl
 counted-bytes i (nodeElement s li) = refl
 counted-bytes i (propertyElement p v) = refl
 counted-bytes i xmlElement = refl
 
-count-bytes : (i : Bytes) (es : List Element) → total frameBytes (countLi i es) ≡ total frameBytes es
-unfolding countLi total frameBytes withKind
-count-bytes i [] = refl
-count-bytes i (f ∷ es) = rw (counted-bytes i (f .kind))
+count-bytes : (i : Bytes) (h : Part → Part) (es : List Element) → total frameBytes (countLi i h es) ≡ total frameBytes es
+unfolding countLi total frameBytes withKind withPart
+count-bytes i h [] = refl
+count-bytes i h (f ∷ es) = rw (counted-bytes i (f .kind))
 
 -- held bytes, as the element would leave them
-pub held-with : {r : Registers} {fs bs is w : List ℕ} → Valid r fs bs is w → r .counts .inner ≡ 0 → (i : Bytes) (f : Element)
-    → sizeOf (startOf r w) + total frameBytes (f ∷ countLi i (elementsOf r fs bs is w)) ≡ r .store .top + frameBytes f
+pub held-with : {r : Registers} {fs bs is w : List ℕ} → Valid r fs bs is w → r .counts .inner ≡ 0 → (i : Bytes) (h : Part → Part) (f : Element)
+    → sizeOf (startOf r w) + total frameBytes (f ∷ countLi i h (elementsOf r fs bs is w)) ≡ r .store .top + frameBytes f
 unfolding heldBytes docOf total
-held-with {r} {fs} {bs} {is} {w} x z i f = omega (arith, held x [], count-bytes i (elementsOf r fs bs is w), flat x z .low)
+held-with {r} {fs} {bs} {is} {w} x z i h f = omega (arith, held x [], count-bytes i h (elementsOf r fs bs is w), flat x z .low)
 
 -- ---- commit
 
@@ -262,8 +264,8 @@ pub record Granted (r : Registers) (fs bs w e s : List ℕ) (m k : ℕ) (a : Lis
 
 -- one more element, counted in the node around it where it is an rdf:li
 pub record Commits (r : Registers) (fs bs w e s : List ℕ) (m k : ℕ) (a : List ℕ) (p : Parts) (li : Bool) (labels : ℕ) (q : Registers) (gs cs v : List ℕ) : Type 0 where
-  pub holds : (is : List ℕ) → Valid r fs bs is w → (i : Bytes) → isLi i ≡ li
-      → Holds q gs cs is v (startOf r w) (newElement e s m k a p (subjectBelow fs w (r .counts .depth)) ∷ countLi i (elementsOf r fs bs is w)) true labels
+  pub holds : (is : List ℕ) → Valid r fs bs is w → (i : Bytes) → isLi i ≡ li → (h : Part → Part) → h ordinary ≡ ordinary
+      → Holds q gs cs is v (startOf r w) (newElement e s m k a p (subjectBelow fs w (r .counts .depth)) ∷ countLi i h (elementsOf r fs bs is w)) true labels
   pub closed : q .flags .closed ≡ r .flags .closed
   pub frames : length gs ≡ length fs
   pub bindings : length cs ≡ length bs
@@ -281,18 +283,29 @@ counts-not n = record { yes = λ y. absurd (false≢true (sym n ∙ y)); no = λ
 pub counts-does : {r : Registers} {fs gs : List ℕ} {li b : Bool} → li ≡ true → CountsLi r fs b gs → CountsIf r fs li gs
 counts-does y c = record { yes = λ _. rw (c .answer) at c; no = λ n. absurd (false≢true (sym n ∙ y)); same = c .same }
 
--- an element that is no rdf:li is not counted
-not-counted : (i : Bytes) → isLi i ≡ false → (q : What) → counted i q ≡ q
-unfolding counted if_then_else_
-not-counted i n rdfRDF = refl
-not-counted i n (nodeElement s li) = rw n
-not-counted i n (propertyElement p v) = refl
-not-counted i n xmlElement = refl
+-- an element that is no rdf:li is not counted, nor noted in an ordinary one
+module _ (i : Bytes) (n : isLi i ≡ false) (h : Part → Part) (o : h ordinary ≡ ordinary) where
+  not-counted : (q : Kind) (f : Frame) (w : List ℕ) (s : Subject) → counted i (whatOf q f w s) ≡ whatOf q f w s
+  unfolding counted whatOf if_then_else_
+  not-counted Rdf f w s = refl
+  not-counted NodeElt f w s = rw n
+  not-counted PropertyElt f w s = refl
+  not-counted ParseTypeCollectionPropertyElt f w s = refl
+  not-counted ParseTypeLiteralPropertyElt f w s = refl
+  not-counted ParseTypeOtherPropertyElt f w s = refl
 
-no-li : (i : Bytes) → isLi i ≡ false → (es : List Element) → countLi i es ≡ es
-unfolding countLi withKind
-no-li i n [] = refl
-no-li i n (f ∷ es) = rw (not-counted i n (f .kind))
+  not-noted : (f : Frame) (bound : List Binding) (w : List ℕ) (s : Subject) (es : List Element) → countLi i h (elementOf f bound w s ∷ es) ≡ elementOf f bound w s ∷ es
+  unfolding countLi withKind withPart elementOf
+  not-noted f bound w s es = rw (not-counted (f .kind) f w s, o)
+
+  no-li : (r : Registers) (fs bs is w : List ℕ) → r .counts .inner ≡ 0 → countLi i h (elementsOf r fs bs is w) ≡ elementsOf r fs bs is w
+  unfolding elementsOf innersOf
+  no-li r fs bs is w z = rw z (outer (r .counts .depth) (r .counts .outer))
+    where
+      outer : (n b : ℕ) → countLi i h (framesOf fs bs w n b) ≡ framesOf fs bs w n b
+      unfolding framesOf countLi
+      outer zero b = refl
+      outer (suc n) b = not-noted (frameAt fs n) (bindingsOf bs w (first (frameAt fs n)) (b - first (frameAt fs n))) w (subjectBelow fs w n) (framesOf fs bs w n (first (frameAt fs n)))
 
 module _ {r : Registers} {fs bs w e s : List ℕ} {m k : ℕ} {a : List ℕ} {p : Parts} {li : Bool} {labels : ℕ} (y : Granted r fs bs w e s m k a p li labels)
     {fs1 : List ℕ} (c : CountsIf r fs li fs1) where
@@ -318,24 +331,24 @@ module _ {r : Registers} {fs bs w e s : List ℕ} {m k : ℕ} {a : List ℕ} {p 
       stays false t = rw (c .no t)
 
   module _ {q : Registers} {gs cs v : List ℕ} (o : Opens r fs1 bs w e s m k a p q gs cs v) where
-    opened-holds : (is : List ℕ) → Valid r fs bs is w → (i : Bytes) → isLi i ≡ li
-        → Holds q gs cs is v (startOf r w) (newElement e s m k a p (subjectBelow fs w (r .counts .depth)) ∷ countLi i (elementsOf r fs bs is w)) true (r .counts .labels)
-    opened-holds is x i j = go li refl
+    opened-holds : (is : List ℕ) → Valid r fs bs is w → (i : Bytes) → isLi i ≡ li → (note : Part → Part) → note ordinary ≡ ordinary
+        → Holds q gs cs is v (startOf r w) (newElement e s m k a p (subjectBelow fs w (r .counts .depth)) ∷ countLi i note (elementsOf r fs bs is w)) true (r .counts .labels)
+    opened-holds is x i j note none-noted = go li refl
       where
         go : (t : Bool) → li ≡ t
-            → Holds q gs cs is v (startOf r w) (newElement e s m k a p (subjectBelow fs w (r .counts .depth)) ∷ countLi i (elementsOf r fs bs is w)) true (r .counts .labels)
+            → Holds q gs cs is v (startOf r w) (newElement e s m k a p (subjectBelow fs w (r .counts .depth)) ∷ countLi i note (elementsOf r fs bs is w)) true (r .counts .labels)
         go true t =
-            let h = li-holds x (y .ready .inner) (c .yes t) (may t) i (j ∙ t) in
+            let h = li-holds x (y .ready .inner) (c .yes t) (may t) i (j ∙ t) note none-noted in
             rw (← li-below (c .yes t) (may t) w, ← h .elements) (o .holds is (h .valid))
         go false t =
             let h : Holds q gs cs is v (startOf r w) (newElement e s m k a p (subjectBelow fs w (r .counts .depth)) ∷ elementsOf r fs bs is w) true (r .counts .labels) =
             rw (c .no t) at (o .holds is (rw (c .no t) x)) in
-            rw (no-li i (j ∙ t) (elementsOf r fs bs is w)) h
+            rw (no-li i (j ∙ t) note none-noted r fs bs is w (y .ready .inner)) h
 
     pub commits : {q′ : Registers} → q′ ≡ labelledTo q labels → Commits r fs bs w e s m k a p li labels q′ gs cs v
     commits {q′} e′ =
         record {
-          holds = λ is x i j. rw e′ (labelled-holds (opened-holds is x i j) (y .few));
+          holds = λ is x i j note o. rw e′ (labelled-holds (opened-holds is x i j note o) (y .few));
           closed = ap (λ (z : Registers). z .flags .closed) e′ ∙ o .closed;
           frames = o .frames ∙ c .same;
           bindings = o .bindings;

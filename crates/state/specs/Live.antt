@@ -12,6 +12,7 @@ use lib.Dec.{eqb}
 use lib.ListN.{length}
 use borrow.Author.Tests.{eqb-true, eq-eqb}
 use Rattle.spec.specs.Limits.{workStoreBytes}
+use Rattle.spec.specs.Modes.{baseMode}
 use Rattle.spec.specs.Document.{Frame as Element, fresh, inScope}
 use Rattle.spec.proofs.Booleans.{and-right}
 use Rattle.copy.specs.Copy.{part}
@@ -166,6 +167,6 @@ started b n fs bs is w lf lb li lw l e =
       inners = refl;
     }
 
-pub started-means : (b : Bool) (n : ℕ) (fs bs is w : List ℕ) → docOf (startedWith b n) fs bs is w [] ≡ fresh (pick b (some (part w 0 n)) none)
+pub started-means : (b : Bool) (n : ℕ) (fs bs is w : List ℕ) → docOf (startedWith b n) fs bs is w [] ≡ fresh baseMode (pick b (some (part w 0 n)) none)
 unfolding docOf elementsOf framesOf innersOf startOf fresh
 started-means b n fs bs is w = refl

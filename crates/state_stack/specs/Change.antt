@@ -11,6 +11,7 @@ use borrow.Author.Tests.{eqb-true, eq-eqb}
 use Rattle.spec.specs.Bytes.{Bytes}
 use Rattle.spec.specs.Limits.{workStoreBytes}
 use Rattle.spec.specs.Document.{Frame as Element, Doc}
+use Rattle.spec.specs.Modes.{baseMode}
 use Rattle.spec.proofs.Booleans.{and-left, and-right}
 use Rattle.state_words.specs.Parts.{NAME, FRAME}
 use Rattle.state_words.specs.declared.Frame.{Frame}
@@ -32,12 +33,12 @@ pub record Holds (r : Registers) (fs bs is w : List ℕ) (start : Option Bytes) 
   pub count : r .counts .labels ≡ labels
 
 pub holds-doc : {r : Registers} {fs bs is w : List ℕ} {start : Option Bytes} {es : List Element} {rooted : Bool} {labels : ℕ} → Holds r fs bs is w start es rooted labels
-    → (ids : List Bytes) → docOf r fs bs is w ids ≡ record { startBase = start; frames = es; rooted = rooted; labels = labels; ids = ids }
+    → (ids : List Bytes) → docOf r fs bs is w ids ≡ record { mode = baseMode; startBase = start; frames = es; rooted = rooted; labels = labels; ids = ids }
 unfolding docOf
 holds-doc h ids = go (h .base) (h .elements) (h .root) (h .count)
   where
     go : {s t : Option Bytes} {x y : List Element} {a b : Bool} {m n : ℕ} → s ≡ t → x ≡ y → a ≡ b → m ≡ n
-        → _≡_ {A = Doc} (record { startBase = s; frames = x; rooted = a; labels = m; ids = ids }) (record { startBase = t; frames = y; rooted = b; labels = n; ids = ids })
+        → _≡_ {A = Doc} (record { mode = baseMode; startBase = s; frames = x; rooted = a; labels = m; ids = ids }) (record { mode = baseMode; startBase = t; frames = y; rooted = b; labels = n; ids = ids })
     go p q u v = rw (p, q, u, v)
 
 -- ---- a frame on top of others

@@ -15,7 +15,7 @@ use Rattle.spec.specs.Bytes.{Bytes, if_then_else_}
 use Rattle.spec.specs.Limits.{mostLabels}
 use Rattle.spec.specs.Namespaces.{Binding}
 use Rattle.spec.specs.NTriples.{Subject}
-use Rattle.spec.specs.Document.{Value, onValue, changeValue}
+use Rattle.spec.specs.Document.{Value, Part, ordinary, onValue, changeValue}
 use Rattle.spec.specs.Productions.{isLi}
 use Rattle.spec.specs.Opening.{countLi}
 use Rattle.spec.specs.Opening as G
@@ -527,8 +527,8 @@ li-may r fs n d l =
     node-differs e = false≢true (ap (λ (g : Kind). sameKind g NodeElt) (sym e))
 
 pub li-holds : {r : Registers} {fs bs is w gs : List ℕ} {b : Bool} → Valid r fs bs is w → r .counts .inner ≡ 0 → CountsLi r fs b gs → b ≡ true → (i : Bytes) → isLi i ≡ true
-    → Holds r gs bs is w (startOf r w) (countLi i (elementsOf r fs bs is w)) (r .flags .rooted) (r .counts .labels)
-li-holds {r} {fs} {bs} {is} {w} {gs} {b} x z p y i li =
+    → (h : Part → Part) → h ordinary ≡ ordinary → Holds r gs bs is w (startOf r w) (countLi i h (elementsOf r fs bs is w)) (r .flags .rooted) (r .counts .labels)
+li-holds {r} {fs} {bs} {is} {w} {gs} {b} x z p y i li note o =
     let m : mayCount r fs ≡ true = sym (p .answer) ∙ y in
     let t = may-count r fs m in
     let k = topmost x (t .depth) in
@@ -549,7 +549,7 @@ li-holds {r} {fs} {bs} {is} {w} {gs} {b} x z p y i li =
     let wt : (s : Subject) → whatOf (f .kind) (counted f) w s ≡ G.counted i (whatOf (f .kind) f w s) =
     λ s. ap (λ (g : Kind). whatOf g (counted f) w s) kind ∙ (li-what f w a h i li s ∙ ap (λ (g : Kind). G.counted i (whatOf g f w s)) (sym kind)) in
     let res = retailed x n (k .depth) (G.counted i) al st kept-all kept-all refl (u .tail) (omega (arith, tp .ends, x .apart)) kd wt in
-    rw (← topped-flat x n (k .depth) z i) (rw (tp .ends) at res)
+    rw (← topped-flat x n (k .depth) z i note o) (rw (tp .ends) at res)
 
 -- what one more rdf:li leaves to the element that comes next: where it may stand, and the subject around it
 module _ {r : Registers} {fs gs : List ℕ} {b : Bool} (p : CountsLi r fs b gs) (y : b ≡ true) where

@@ -13,7 +13,7 @@ use borrow.Author.Tests.{eqb-true, le-leb}
 use Rattle.spec.specs.Limits as L
 use Rattle.spec.proofs.Booleans.{and-left, and-right}
 use Rattle.spec.specs.NTriples.{Subject, named, blank}
-use Rattle.spec.specs.Document.{nodeObject, textObject, noObject, Kind as What, rdfRDF, nodeElement, propertyElement, xmlElement, Frame as Element, onValue, changeValue}
+use Rattle.spec.specs.Document.{nodeObject, textObject, noObject, Kind as What, rdfRDF, wrapper, nodeElement, propertyElement, xmlElement, Frame as Element, onValue, changeValue}
 use Rattle.spec.specs.EndTag.{takesNode}
 use Rattle.copy.specs.Copy.{part, storedAt, Wrote, wrote-part, wrote-same, length-part, getD-part}
 use Rattle.state_words.specs.Parts.{NAME, BINDINGS, BASE, TAG, MAIN, ID, DATATYPE, TAIL, END, PLACES, BASED, TAGGED, BLANK, IDENTIFIED, TYPED, COUNT, FIRST, MARKS, FRAME}
@@ -280,6 +280,7 @@ module _ {r : Registers} {fs bs is w gs v : List ℕ} {n : Frame} {c : Changed} 
 
 leaves : What → List Element → List Element
 leaves rdfRDF es = es
+leaves (wrapper b) es = es
 leaves (nodeElement s li) es = changeValue (takesNode s) es
 leaves (propertyElement p v) es = es
 leaves xmlElement es = es

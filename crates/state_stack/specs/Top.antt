@@ -9,7 +9,7 @@ use Rattle.spec.specs.Bytes.{Bytes, if_then_else_}
 use Rattle.spec.specs.Opening.{counted, countLi}
 use Rattle.spec.specs.Namespaces.{Binding}
 use Rattle.spec.specs.NTriples.{Subject}
-use Rattle.spec.specs.Document.{Value, Kind as What, Frame as Element, withKind, onValue, isXmlElement, changeValue}
+use Rattle.spec.specs.Document.{Value, Kind as What, Part, ordinary, Frame as Element, withKind, withPart, onValue, isXmlElement, changeValue}
 use Rattle.state_words.specs.Parts.{NAME, BINDINGS, BASE, TAG, MAIN, ID, DATATYPE, TAIL, END, PLACES, BASED, TAGGED, BLANK, IDENTIFIED, TYPED, MARKS, FRAME}
 use Rattle.state_words.specs.declared.Kind.{Kind}
 use Rattle.state_words.specs.declared.Kind.the-variants.{Rdf, NodeElt, PropertyElt, ParseTypeCollectionPropertyElt, ParseTypeLiteralPropertyElt, ParseTypeOtherPropertyElt}
@@ -190,8 +190,8 @@ pub topped-same : {r : Registers} {fs bs is w : List ℕ} (x : Valid r fs bs is 
 unfolding topped elementsOf withKind elementOf
 topped-same {r} {fs} {bs} {is} {w} x n d K e = rw (e, top-element x n d)
 
--- one more rdf:li, where nothing stands inside Literal content
-pub topped-flat : {r : Registers} {fs bs is w : List ℕ} (x : Valid r fs bs is w) (n : ℕ) (d : r .counts .depth ≡ suc n) → r .counts .inner ≡ 0 → (i : Bytes)
-    → topped x n d (counted i) ≡ countLi i (elementsOf r fs bs is w)
-unfolding topped elementsOf innersOf countLi elementOf
-topped-flat {r} {fs} {bs} {is} {w} x n d z i = rw (z, top-element x n d)
+-- one more rdf:li, where nothing stands inside Literal content; nothing is remembered of an ordinary element
+pub topped-flat : {r : Registers} {fs bs is w : List ℕ} (x : Valid r fs bs is w) (n : ℕ) (d : r .counts .depth ≡ suc n) → r .counts .inner ≡ 0 → (i : Bytes) (h : Part → Part)
+    → h ordinary ≡ ordinary → topped x n d (counted i) ≡ countLi i h (elementsOf r fs bs is w)
+unfolding topped elementsOf innersOf countLi withKind withPart elementOf
+topped-flat {r} {fs} {bs} {is} {w} x n d z i h o = rw (z, top-element x n d, o)
