@@ -13,7 +13,7 @@ use Rattle.spec.specs.Bytes.{Bytes, total, sizeOf}
 use Rattle.spec.specs.declared.Refusal.{Refusal}
 use Rattle.spec.specs.Pyx.{Attribute, opening}
 use Rattle.spec.specs.Namespaces.{Binding, declared}
-use Rattle.spec.specs.Document.{Frame as Element, xmlElement, bindingBytes, kindBytes, frameBytes, placeIn, xml}
+use Rattle.spec.specs.Document.{Frame as Element, ordinary, xmlElement, bindingBytes, kindBytes, frameBytes, placeIn, xml}
 use Rattle.spec.specs.XmlLiteral.{startTagXml}
 use Rattle.copy.specs.Copy.{part, Put, Wrote, put-fits, wrote-part, wrote-same}
 use Rattle.state_words.specs.Kept.{kept-then, kept-less, kept-before, kept-behind}
@@ -55,7 +55,7 @@ pub record Room (r : Registers) (bs w : List ℕ) (n : Bytes) (all : List Bindin
 -- what `enter` does to a valid state: q, cs, js and v are behind it
 pub record Enters (r : Registers) (bs is w : List ℕ) (n : Bytes) (all : List Binding) (more : ℕ) (q : Registers) (cs js v : List ℕ) : Type 0 where
   pub holds : {fs : List ℕ} → Valid r fs bs is w → r .store .top + more ≤ r .store .low → r .counts .depth + r .counts .inner < 64
-      → Holds q fs cs js v (startOf r w) (record { name = n; bindings = all; ownBase = none; ownTag = none; kind = xmlElement } ∷ elementsOf r fs bs is w) (r .flags .rooted) (r .counts .labels)
+      → Holds q fs cs js v (startOf r w) (record { name = n; bindings = all; ownBase = none; ownTag = none; kind = xmlElement; part = ordinary } ∷ elementsOf r fs bs is w) (r .flags .rooted) (r .counts .labels)
   pub mark : {fs : List ℕ} → Valid r fs bs is w → r .counts .depth + r .counts .inner < 64 → q .flags .closed ≡ r .flags .closed
 
 -- ---- how `enter` comes to its answer

@@ -15,10 +15,10 @@ use Rattle.spec.specs.Numbers.{Answer, refuse, good}
 use Rattle.spec.specs.declared.Refusal.{Refusal}
 use Rattle.spec.specs.declared.Refusal.the-variants.{NotWellFormed, OverLimit, NoNamespace}
 use Rattle.spec.specs.Pyx.{Attribute, opening}
-use Rattle.spec.specs.Namespaces.{Binding, declared, isDeclaration, nameOf, allLegal, isKnown, repeatsWritten}
-use Rattle.spec.specs.Document.{Frame as Element, xmlElement, Doc, withFrames, changeValue, inScope, placeIn, xml}
+use Rattle.spec.specs.Namespaces.{Binding, declared, isDeclaration, nameOf, allLegal, isKnown, repeatsWritten, knownAttribute}
+use Rattle.spec.specs.Document.{Frame as Element, ordinary, xmlElement, Doc, withFrames, changeValue, inScope, placeIn, xml}
 use Rattle.spec.specs.XmlLiteral.{startTagXml, takesXml, addXml}
-use Rattle.spec.specs.Opening.{Step, isSecondRoot, countsFit, knownAttribute, copyElement, openIn, isXml, repeated, onOpening}
+use Rattle.spec.specs.Opening.{Step, isSecondRoot, countsFit, copyElement, openIn, isXml, repeated, onOpening}
 use Rattle.spec.specs.RdfXml.{onEvent}
 use Rattle.spec.proofs.Booleans.{and-left, and-right}
 use Rattle.state.specs.declared.Registers.{Registers}
@@ -61,7 +61,7 @@ judgement n as′ d bs =
 
 -- the element that it opens
 abbrev pub copied : Bytes → List Attribute → Element
-copied n as′ = record { name = n; bindings = declared as′; ownBase = none; ownTag = none; kind = xmlElement }
+copied n as′ = record { name = n; bindings = declared as′; ownBase = none; ownTag = none; kind = xmlElement; part = ordinary }
 
 -- ---- the definitions' answer
 

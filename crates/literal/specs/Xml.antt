@@ -8,7 +8,7 @@ use lib.ListN.{length, length-append}
 use borrow.Author.Tests.{eq-eqb}
 use Rattle.spec.specs.Bytes.{Bytes, if_then_else_, total}
 use Rattle.spec.specs.NTriples.{Subject}
-use Rattle.spec.specs.Document.{default, collection, literal, other, Kind as What, rdfRDF, nodeElement, propertyElement, xmlElement, Frame as Element, withKind, onValue, isXmlElement, changeValue, valueBytes, kindBytes, frameBytes}
+use Rattle.spec.specs.Document.{default, collection, literal, other, Kind as What, rdfRDF, wrapper, nodeElement, propertyElement, xmlElement, Frame as Element, withKind, onValue, isXmlElement, changeValue, valueBytes, kindBytes, frameBytes}
 use Rattle.spec.specs.XmlLiteral.{takesXml}
 use Rattle.state_words.specs.declared.Kind.{Kind}
 use Rattle.state_words.specs.declared.Kind.the-variants.{Rdf, NodeElt, PropertyElt, ParseTypeCollectionPropertyElt, ParseTypeLiteralPropertyElt, ParseTypeOtherPropertyElt}
@@ -26,6 +26,7 @@ use Rattle.state_stack.specs.Laws.{topmost}
 
 unfoldable pub isLiteral : What → Bool
 isLiteral rdfRDF = false
+isLiteral (wrapper b) = false
 isLiteral (nodeElement s li) = false
 isLiteral (propertyElement p (default d o)) = false
 isLiteral (propertyElement p (collection cs)) = false
@@ -48,6 +49,7 @@ module _ (x : Bytes) where
       go : (k : What) → e .kind ≡ k → (keepsXml es ≡ false → changeValue (takesXml x) es ≡ es) → (if isXmlElement k then keepsXml es else isLiteral k) ≡ false
           → (if isXmlElement k then e ∷ changeValue (takesXml x) es else withKind (onValue (takesXml x) k) e ∷ es) ≡ e ∷ es
       go rdfRDF p i q = rw (← p)
+      go (wrapper b) p i q = rw (← p)
       go (nodeElement s li) p i q = rw (← p)
       go (propertyElement a (default d o)) p i q = rw (← p)
       go (propertyElement a (collection cs)) p i q = rw (← p)
@@ -65,6 +67,7 @@ module _ (x : Bytes) where
           → (if isXmlElement k then keepsXml es else isLiteral k) ≡ true
           → total frameBytes (if isXmlElement k then e ∷ changeValue (takesXml x) es else withKind (onValue (takesXml x) k) e ∷ es) ≡ total frameBytes (e ∷ es) + length x
       go rdfRDF p i q = absurd (false≢true q)
+      go (wrapper b) p i q = absurd (false≢true q)
       go (nodeElement s li) p i q = absurd (false≢true q)
       go (propertyElement a (default d o)) p i q = absurd (false≢true q)
       go (propertyElement a (collection cs)) p i q = absurd (false≢true q)

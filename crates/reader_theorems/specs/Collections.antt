@@ -10,7 +10,7 @@ use Rattle.spec.specs.Bytes.{Bytes, if_then_else_}
 use Rattle.spec.specs.Numbers.{good}
 use Rattle.spec.specs.Pyx.{Event, opening, closing, text, instruction}
 use Rattle.spec.specs.NTriples.{Subject, Triple}
-use Rattle.spec.specs.Document.{Value, default, collection, literal, other, Property, Kind, rdfRDF, nodeElement, propertyElement, xmlElement, Frame, Doc, withKind, onValue, isXmlElement, changeValue}
+use Rattle.spec.specs.Document.{Value, default, collection, literal, other, Property, Kind, rdfRDF, wrapper, nodeElement, propertyElement, xmlElement, Frame, Doc, withKind, onValue, isXmlElement, changeValue}
 use Rattle.spec.specs.XmlLiteral.{takesXml}
 use Rattle.spec.specs.Opening.{counted, countLi}
 use Rattle.spec.specs.EndTag.{takesNode}
@@ -31,6 +31,7 @@ InCollection p fs = (cs : List Subject) × (innermost fs ≡ some (propertyEleme
 -- of which property
 unfoldable listOf : Kind → Option Property
 listOf rdfRDF = none
+listOf (wrapper b) = none
 listOf (nodeElement s li) = none
 listOf (propertyElement p (default d o)) = none
 listOf (propertyElement p (collection cs)) = some p
@@ -72,6 +73,7 @@ text-keeps (by-xml x) p other = refl
 kind-kept : (h : Value → Value) → Keeps h → (k : Kind) → listOf (onValue h k) ≡ listOf k
 unfolding onValue
 kind-kept h c rdfRDF = refl
+kind-kept h c (wrapper b) = refl
 kind-kept h c (nodeElement s li) = refl
 kind-kept h c (propertyElement p v) = c p v
 kind-kept h c xmlElement = refl
@@ -85,19 +87,21 @@ value-kept h c (f ∷ fs) = go (isXmlElement (f .kind)) (value-kept h c fs)
     go true e = ap (listOf (f .kind) ∷_) e
     go false e = ap (_∷ lists fs) (kind-kept h c (f .kind))
 
-count-kept : (i : Bytes) (fs : List Frame) → lists (countLi i fs) ≡ lists fs
-unfolding lists countLi withKind listOf counted
+count-kept : (i : Bytes) (h : Part → Part) (fs : List Frame) → lists (countLi i h fs) ≡ lists fs
+unfolding lists countLi withKind withPart listOf counted
 count-kept i [] = refl
 count-kept i (f ∷ fs) = ap (_∷ lists fs) (go (f .kind))
   where
     go : (k : Kind) → listOf (counted i k) ≡ listOf k
     go rdfRDF = refl
+    go (wrapper b) = refl
     go (nodeElement s li) = refl
     go (propertyElement p v) = refl
     go xmlElement = refl
 
 left-kept : (k : Kind) (n : Bytes) (fs : List Frame) → lists (left k n fs) ≡ lists fs
 left-kept rdfRDF n fs = refl
+left-kept (wrapper b) n fs = refl
 left-kept (nodeElement s li) n fs = value-kept _ (node-keeps s) fs
 left-kept (propertyElement p v) n fs = refl
 left-kept xmlElement n fs = value-kept _ (text-keeps (by-xml _)) fs
@@ -152,6 +156,7 @@ in-list p f fs = go (f .kind)
   where
     go : (k : Kind) → listOf k ≡ some p → (cs : List Subject) × (some k ≡ some (propertyElement p (collection cs)))
     go rdfRDF e = absurd (no-list e)
+    go (wrapper b) e = absurd (no-list e)
     go (nodeElement s li) e = absurd (no-list e)
     go (propertyElement q (default d o)) e = absurd (no-list e)
     go (propertyElement q (collection cs)) e = (cs, cc)

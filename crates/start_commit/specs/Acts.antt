@@ -13,6 +13,9 @@ use Rattle.spec.specs.declared.Refusal.the-variants.{NoRoom}
 use Rattle.spec.specs.Limits as L
 use Rattle.spec.specs.NTriples.{write}
 use Rattle.spec.specs.Pyx.{opening}
+use Rattle.spec.specs.declared.Profile.the-variants.{NoProfile}
+use Rattle.spec.specs.Modes.{baseMode}
+use Rattle.spec.specs.Xmp.{newPart, noted}
 use Rattle.spec.specs.Document.{Doc, Frame as Element, heldBytes, fits}
 use Rattle.spec.specs.Opening.{Step, opened, countLi, enter}
 use Rattle.spec.specs.RdfXml.{onEvent}
@@ -67,15 +70,16 @@ module _ {x : Start} {r : Registers} {count used : ℕ} {fs bs is w ia il st out
   abbrev planned : Doc
   planned =
       record {
+        mode = baseMode;
         startBase = startOf r w;
-        frames = new ∷ countLi (g .tag .iri) (elementsOf r fs bs is w);
+        frames = new ∷ countLi (g .tag .iri) (noted NoProfile (g .tag)) (elementsOf r fs bs is w);
         rooted = true;
         labels = x .plan .labels;
         ids = enter (maybe (x .id) e a) (idsOf ia il st count);
       }
 
   behind : planned ≡ step .1
-  unfolding opened docIn docOf newElement
+  unfolding opened docIn docOf newElement newPart
   behind = rw (g .name, g .bindings, g .base, g .ownTag, g .does .kind, g .does .labels, g .id)
 
   pub behind-fits : fits (step .1) ≡ true
@@ -83,7 +87,7 @@ module _ {x : Start} {r : Registers} {count used : ℕ} {fs bs is w ia il st out
   behind-fits =
       rw (← behind, fits-held planned (ids-fit (y .table) (x .id) e a (g .room)))
       (le-leb (heldBytes planned) 49_152
-      (omega (arith, held-with (y .valid) z (g .tag .iri) new, g .granted .ready .room (subjectBelow fs w (r .counts .depth)))))
+      (omega (arith, held-with (y .valid) z (g .tag .iri) (noted NoProfile (g .tag)) new, g .granted .ready .room (subjectBelow fs w (r .counts .depth)))))
 
   handled-is : handled (opening (take m e) (attributesOf e v k)) (length out) (docIn r count (lent fs bs is w ia il st out)) ≡ concluded (length out) (good step)
   unfolding onEvent
@@ -106,10 +110,10 @@ module _ {x : Start} {r : Registers} {count used : ℕ} {fs bs is w ia il st out
         → Commits r fs bs w e v m k a (x .plan .parts) (x .li) (x .plan .labels) q fs′ bs′ w′ → Enters (maybe (x .id) e a) count ia il st t ia′ il′ st′
         → HandlesAll (opening (take m e) (attributesOf e v k)) r count (Did (record { written = s .written; registers = q; count = t .count; used = t .used }))
         (lent fs bs is w ia il st out) (lent fs′ bs′ is w′ ia′ il′ st′ out′)
-    unfolding docIn
+    unfolding docIn noted
     act-done {q} {t} {fs′} {bs′} {w′} {ia′} {il′} {st′} c f o i =
         let room : leb (length (write (step .0))) (length out) ≡ true = rw (← lines-step) (sym (p .answer) ∙ f) in
-        let h = o .holds is (y .valid) (g .tag .iri) (g .li) in
+        let h = o .holds is (y .valid) (g .tag .iri) (g .li) (noted NoProfile (g .tag)) refl in
         record {
           frameWords = o .frames;
           bindingWords = o .bindings;

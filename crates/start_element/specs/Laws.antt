@@ -299,11 +299,10 @@ module _ (i : Bytes) (n : isLi i ≡ false) (h : Part → Part) (o : h ordinary 
   not-noted f bound w s es = rw (not-counted (f .kind) f w s, o)
 
   no-li : (r : Registers) (fs bs is w : List ℕ) → r .counts .inner ≡ 0 → countLi i h (elementsOf r fs bs is w) ≡ elementsOf r fs bs is w
-  unfolding elementsOf innersOf
+  unfolding elementsOf innersOf framesOf countLi
   no-li r fs bs is w z = rw z (outer (r .counts .depth) (r .counts .outer))
     where
       outer : (n b : ℕ) → countLi i h (framesOf fs bs w n b) ≡ framesOf fs bs w n b
-      unfolding framesOf countLi
       outer zero b = refl
       outer (suc n) b = not-noted (frameAt fs n) (bindingsOf bs w (first (frameAt fs n)) (b - first (frameAt fs n))) w (subjectBelow fs w n) (framesOf fs bs w n (first (frameAt fs n)))
 

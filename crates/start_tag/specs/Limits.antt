@@ -10,7 +10,9 @@ use lib.ListN.{length}
 use borrow.Author.Tests.{le-leb, lt-leb, leb-true, leb-false}
 use Rattle.spec.specs.Bytes.{Bytes, total}
 use Rattle.spec.specs.Limits.{mostIds, mostIdBytes, mostHeldBytes, mostNameBytes}
-use Rattle.spec.specs.Document.{Frame as Element, frameBytes, heldBytes, fits}
+use Rattle.spec.specs.declared.Profile.the-variants.{NoProfile}
+use Rattle.spec.specs.Xmp.{newPart, noted}
+use Rattle.spec.specs.Document.{ordinary, Frame as Element, frameBytes, heldBytes, fits}
 use Rattle.spec.specs.StartTag.{Tag}
 use Rattle.spec.specs.Productions.{Opened}
 use Rattle.spec.specs.Opening.{enter, opened}
@@ -37,7 +39,7 @@ and-assoc false b c = refl
 
 -- the element that a tag opens
 abbrev pub elementOf : Tag → Opened → Element
-elementOf t o = record { name = t .name; bindings = t .bindings; ownBase = t .ownBase; ownTag = t .ownTag; kind = o .kind }
+elementOf t o = record { name = t .name; bindings = t .bindings; ownBase = t .ownBase; ownTag = t .ownTag; kind = o .kind; part = ordinary }
 
 ids-room : {count used : ℕ} {ia il st : List ℕ} → ValidIds count used ia il st → (s : Source) (e a : List ℕ) (o : Option Bytes) → maybe s e a ≡ o → ((i : Bytes) → o ≡ some i → length i ≤ mostNameBytes)
     → (leb (length (enter o (idsOf ia il st count))) mostIds && leb (total length (enter o (idsOf ia il st count))) mostIdBytes) ≡ roomForId count used s e a
@@ -51,7 +53,7 @@ module _ {r : Registers} {count used : ℕ} {fs bs is w ia il st : List ℕ} (v 
       → fits (opened t (docOf r fs bs is w (idsOf ia il st count)) o .1) ≡ (roomForId count used s e a && leb (r .store .top + n) mostHeldBytes)
   unfolding fits opened heldBytes docOf
   behind-fits t o s e a n q h f =
-      rw (held-with v flat (t .iri) (elementOf t o), f)
+      rw (held-with v flat (t .iri) (noted NoProfile t) (elementOf t o), f)
       (and-assoc (leb (length (enter (t .id) (idsOf ia il st count))) mostIds) (leb (total length (enter (t .id) (idsOf ia il st count))) mostIdBytes) (leb (r .store .top + n) mostHeldBytes)
       ∙ ap (λ (b : Bool). b && leb (r .store .top + n) mostHeldBytes) (ids-room x s e a (t .id) q h))
 

@@ -12,7 +12,7 @@ use Rattle.spec.specs.Limits as L
 use Rattle.spec.proofs.Booleans.{and-left, and-right}
 use Rattle.spec.specs.Bytes.{Bytes, orElse}
 use Rattle.spec.specs.Namespaces.{Binding}
-use Rattle.spec.specs.Document.{Frame as Element, xmlElement, languageInForce, baseInForce, heldBytes}
+use Rattle.spec.specs.Document.{Frame as Element, ordinary, xmlElement, languageInForce, baseInForce, heldBytes}
 use Rattle.copy.specs.Copy.{part, Wrote}
 use Rattle.state_words.specs.Parts.{BASE, TAG, MAIN, BASED, TAGGED, FRAME}
 use Rattle.state_words.specs.declared.Row.{Row}
@@ -176,7 +176,7 @@ pub record Written (r : Registers) (bs w cs v : List ℕ) (a n b : ℕ) (name : 
 
 pub open-holds : {r : Registers} {fs bs is w js cs v : List ℕ} {a n b : ℕ} {c : Changed} {name : Bytes} {bound : List Binding}
     → Valid r fs bs is w → Opens r is a n b c js → c .ok ≡ true → Written r bs w cs v a n b name bound
-    → Holds (c .registers) fs cs js v (startOf r w) (record { name = name; bindings = bound; ownBase = none; ownTag = none; kind = xmlElement } ∷ elementsOf r fs bs is w) (r .flags .rooted) (r .counts .labels)
+    → Holds (c .registers) fs cs js v (startOf r w) (record { name = name; bindings = bound; ownBase = none; ownTag = none; kind = xmlElement; part = ordinary } ∷ elementsOf r fs bs is w) (r .flags .rooted) (r .counts .labels)
 unfolding innerOf
 open-holds {r} {fs} {bs} {is} {w} {js} {cs} {v} {a} {n} {b} {c} {name} {bound} x p y q =
     let m : mayOpen r is a n ≡ true = sym (p .answer) ∙ y in

@@ -13,7 +13,7 @@ use Rattle.spec.specs.Bytes.{Bytes, if_then_else_, total}
 use Rattle.spec.specs.declared.Refusal.the-variants.{OverLimit}
 use Rattle.spec.specs.Pyx.{text}
 use Rattle.spec.specs.Document as D
-use Rattle.spec.specs.Document.{default, collection, literal, other, Kind as What, rdfRDF, nodeElement, propertyElement, xmlElement, Frame as Element, withKind, onValue, isXmlElement, changeValue, objectBytes, valueBytes, kindBytes, frameBytes, withFrames, placeIn}
+use Rattle.spec.specs.Document.{default, collection, literal, other, Kind as What, rdfRDF, wrapper, nodeElement, propertyElement, xmlElement, Frame as Element, withKind, onValue, isXmlElement, changeValue, objectBytes, valueBytes, kindBytes, frameBytes, withFrames, placeIn}
 use Rattle.spec.specs.RdfXml.{onEvent, onText, isBlank, takesText}
 use Rattle.copy.specs.Copy.{storedAt, length-stored}
 use Rattle.state_words.specs.Parts.{TAIL, END, PENDING, FRAME}
@@ -58,6 +58,7 @@ text-bytes s (e ∷ es) h = go (e .kind) h
         → total frameBytes (if isXmlElement k then e ∷ changeValue (takesText s) es else withKind (onValue (takesText s) k) e ∷ es)
         ≡ total frameBytes (if isXmlElement k then e ∷ changeValue (takesText []) es else withKind (onValue (takesText []) k) e ∷ es) + length s
     go rdfRDF q = absurd (false≢true (ap takesObject q))
+    go (wrapper b) q = absurd (false≢true (ap takesObject q))
     go (nodeElement u li) q = absurd (false≢true (ap takesObject q))
     go (propertyElement p (default d o)) q = omega arith
     go (propertyElement p (collection cs)) q = absurd (false≢true (ap takesObject q))
