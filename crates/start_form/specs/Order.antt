@@ -18,7 +18,8 @@ use Rattle.spec.specs.NTriples.{Subject}
 use Rattle.spec.specs.Document.{Frame, Doc, inScope, Place, outside, nodes, nodesOrText, xml, properties, placeIn}
 use Rattle.spec.specs.StartTag.{Tag, readTag, isShort}
 use Rattle.spec.specs.Productions.{Opened, openNode, openProperty, openRoot}
-use Rattle.spec.specs.Opening.{Step, isSecondRoot, countsFit, opened, openElement, openIn, isXml, repeated, onOpening}
+use Rattle.spec.specs.Xmp.{startsWrapper}
+use Rattle.spec.specs.Opening.{Step, isSecondRoot, countsFit, opened, modeRules, underRules, openElement, openIn, isXml, repeated, onOpening}
 
 -- the production of a place outside Literal content; the last line is for a place that `by-production` leaves out
 unfoldable pub productionIn : Place → Tag → ℕ → Answer Opened
@@ -28,13 +29,19 @@ productionIn nodesOrText t n = openNode t n
 productionIn (properties s li) t n = openProperty t s li n
 productionIn xml t n = openNode t n
 
-by-production : (p : Place) → isXml p ≡ false → (n : Bytes) (as′ : List Attribute) (d : Doc) → openIn p n as′ d ≡ openElement (productionIn p) n as′ d
-unfolding openIn isXml productionIn openElement
-by-production outside h n as′ d = refl
-by-production nodes h n as′ d = refl
-by-production nodesOrText h n as′ d = refl
-by-production (properties s li) h n as′ d = refl
-by-production xml h n as′ d = absurd (false≢true (sym h))
+-- a start tag that does not open the wrapper
+by-production : (p : Place) → isXml p ≡ false → (n : Bytes) (as′ : List Attribute) (d : Doc) → startsWrapper (d .mode .profile) n as′ (d .frames) ≡ false
+    → openIn p n as′ d ≡ openElement (productionIn p) n as′ d
+unfolding openIn isXml productionIn openElement if_then_else_
+by-production outside h n as′ d o = rw o
+by-production nodes h n as′ d o = refl
+by-production nodesOrText h n as′ d o = refl
+by-production (properties s li) h n as′ d o = refl
+by-production xml h n as′ d o = absurd (false≢true (sym h))
+
+-- what the production of place p makes of a tag, under the rules of the document's mode
+unfoldable pub producedIn : Place → Tag → Doc → Answer Opened
+producedIn p t d = underRules (modeRules (d .mode) (d .frames) t) (productionIn p t (d .labels))
 
 -- a start tag, with the place that it stands in
 pub record Starts (p : Place) (n : Bytes) (as′ : List Attribute) (d : Doc) : Type 0 where
@@ -73,10 +80,10 @@ module _ {p : Place} {n : Bytes} {as′ : List Attribute} {d : Doc} (w : WellFor
   unfolding onOpening _>>_ require_or_
   too-many h = rw (w .first, w .legal, not-repeated (w .starts) (w .once), h)
 
-  module _ (c : countsFit as′ (d .frames) ≡ true) where
+  module _ (c : countsFit as′ (d .frames) ≡ true) (other : startsWrapper (d .mode .profile) n as′ (d .frames) ≡ false) where
     opens : onOpening n as′ d ≡ openElement (productionIn p) n as′ d
     unfolding onOpening _>>_ require_or_
-    opens = rw (w .first, w .legal, not-repeated (w .starts) (w .once), c, w .starts .at) (by-production p (w .starts .outer) n as′ d)
+    opens = rw (w .first, w .legal, not-repeated (w .starts) (w .once), c, w .starts .at) (by-production p (w .starts .outer) n as′ d other)
 
     -- 8 to 14, as the tag is read
     pub unread : {x : Refusal} → readTag n as′ d ≡ refuse x → onOpening n as′ d ≡ refuse x
@@ -84,17 +91,17 @@ module _ {p : Place} {n : Bytes} {as′ : List Attribute} {d : Doc} (w : WellFor
     unread h = opens ∙ rw h
 
     module _ {t : Tag} (r : readTag n as′ d ≡ good t) where
-      -- 14, 15, 18
-      pub no-production : {x : Refusal} → productionIn p t (d .labels) ≡ refuse x → onOpening n as′ d ≡ refuse x
-      unfolding openElement _>>=_
+      -- 14, 15, 18, 19
+      pub no-production : {x : Refusal} → producedIn p t d ≡ refuse x → onOpening n as′ d ≡ refuse x
+      unfolding openElement producedIn _>>=_
       no-production h = opens ∙ rw (r, h)
 
-      module _ {o : Opened} (q : productionIn p t (d .labels) ≡ good o) where
+      module _ {o : Opened} (q : producedIn p t d ≡ good o) where
         -- other limits (7): names and IRIs
         pub too-long : isShort t ≡ false → onOpening n as′ d ≡ refuse OverLimit
-        unfolding openElement _>>=_ _>>_ require_or_
+        unfolding openElement producedIn _>>=_ _>>_ require_or_
         too-long h = opens ∙ rw (r, q, h)
 
         pub opens-good : isShort t ≡ true → onOpening n as′ d ≡ good (opened t d o)
-        unfolding openElement _>>=_ _>>_ require_or_
+        unfolding openElement producedIn _>>=_ _>>_ require_or_
         opens-good h = opens ∙ rw (r, q, h)

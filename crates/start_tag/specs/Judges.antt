@@ -8,7 +8,7 @@ use native.Mathlib.Omega.{arith}
 use lib.Dec.{leb}
 use lib.ListN.{length, take}
 use borrow.Author.Tests.{leb-true}
-use Rattle.spec.specs.Bytes.{Bytes, same}
+use Rattle.spec.specs.Bytes.{Bytes, same, require_or_}
 use Rattle.spec.specs.Rdf.{rdf}
 use Rattle.spec.proofs.Booleans.{and-left, and-right}
 use Rattle.spec.specs.Numbers.{refuse, good}
@@ -20,7 +20,8 @@ use Rattle.spec.specs.Pyx as P
 use Rattle.spec.specs.Document.{ordinary, Frame as Element, Kind as What, frameBytes, placeIn}
 use Rattle.spec.specs.StartTag as S
 use Rattle.spec.specs.Productions.{Opened, elementType, isLi}
-use Rattle.spec.specs.Opening.{opened, onOpening}
+use Rattle.spec.specs.Xmp.{startsWrapper, keeps}
+use Rattle.spec.specs.Opening.{opened, modeRules, underRules, onOpening}
 use Rattle.spec.specs.RdfXml.{onEvent}
 use Rattle.state_ids.specs.Ids.{idsOf, roomFor}
 use Rattle.state.specs.declared.Registers.{Registers}
@@ -50,7 +51,7 @@ use Rattle.start_tag.specs.Tag.{Tells}
 use Rattle.start_tag.specs.Made.{shortIf}
 use Rattle.start_lines.specs.Lines.{element-type}
 use Rattle.start_tag.specs.Giving.{madeAt, Gives, Shorts, shorts, Keeps, given-says, kind-says, iri-says}
-use Rattle.start_form.specs.Order.{productionIn, no-production, too-long, opens-good}
+use Rattle.start_form.specs.Order.{productionIn, producedIn, no-production, too-long, opens-good}
 use Rattle.start_form.specs.Form.{Formed}
 use Rattle.start_tag.specs.declared.judging.Verdict.{Verdict}
 use Rattle.start_tag.specs.declared.judging.Verdict.the-variants.{Stop, Go}
@@ -105,22 +106,31 @@ module _ {t : Tag} {r : Registers} {count used : ℕ} {fs bs is w ia il st e v :
   unfolding onEvent
   stops {n} h room = handled-by (P.opening (take m e) (attributesOf e v k)) room (docOf r fs bs is w (idsOf ia il st count)) h ∙ refused-on room n
 
+  -- the base mode has no wrapper and no further rules
+  no-wrapper : startsWrapper (docOf r fs bs is w (idsOf ia il st count) .mode .profile) (take m e) (attributesOf e v k) (docOf r fs bs is w (idsOf ia il st count) .frames) ≡ false
+  unfolding docOf startsWrapper
+  no-wrapper = refl
+
+  no-rules : producedIn (placeIn (elementsOf r fs bs is w)) (y .tells .is) (docOf r fs bs is w (idsOf ia il st count)) ≡ productionIn (placeIn (elementsOf r fs bs is w)) (y .tells .is) (r .counts .labels)
+  unfolding docOf producedIn modeRules keeps underRules require_or_
+  no-rules = refl
+
   -- 14, 15, 18
   pub production-stops : {n : Refusal} → productionIn (placeIn (elementsOf r fs bs is w)) (y .tells .is) (r .counts .labels) ≡ refuse n
       → (room : ℕ) → handled (P.opening (take m e) (attributesOf e v k)) room (docOf r fs bs is w (idsOf ia il st count)) ≡ refuse n
   unfolding docOf
-  production-stops h = stops (no-production (y .formed .form (idsOf ia il st count)) (y .formed .counts) (y .tells .answer) h)
+  production-stops h = stops (no-production (y .formed .form (idsOf ia il st count)) (y .formed .counts) no-wrapper (y .tells .answer) (no-rules ∙ h))
 
   module _ {o : Opened} (p : productionIn (placeIn (elementsOf r fs bs is w)) (y .tells .is) (r .counts .labels) ≡ good o) where
     -- 7: a name, an IRI or a base
     pub long-stops : t .short ≡ false → (room : ℕ) → handled (P.opening (take m e) (attributesOf e v k)) room (docOf r fs bs is w (idsOf ia il st count)) ≡ refuse OverLimit
     unfolding docOf
-    long-stops h = stops (too-long (y .formed .form (idsOf ia il st count)) (y .formed .counts) (y .tells .answer) p (sym (y .tells .short) ∙ h))
+    long-stops h = stops (too-long (y .formed .form (idsOf ia il st count)) (y .formed .counts) no-wrapper (y .tells .answer) (no-rules ∙ p) (sym (y .tells .short) ∙ h))
 
     module _ (short : t .short ≡ true) where
       pub steps : onOpening (take m e) (attributesOf e v k) (docOf r fs bs is w (idsOf ia il st count)) ≡ good (opened (y .tells .is) (docOf r fs bs is w (idsOf ia il st count)) o)
       unfolding docOf
-      steps = opens-good (y .formed .form (idsOf ia il st count)) (y .formed .counts) (y .tells .answer) p (sym (y .tells .short) ∙ short)
+      steps = opens-good (y .formed .form (idsOf ia il st count)) (y .formed .counts) no-wrapper (y .tells .answer) (no-rules ∙ p) (sym (y .tells .short) ∙ short)
 
       -- 7: what would be kept behind it
       pub full-stops : (s : Source) (b : List ℕ) (n : ℕ) → maybe s e b ≡ y .tells .is .id → ((i : Bytes) → y .tells .is .id ≡ some i → length i ≤ mostNameBytes) → frameBytes (elementOf (y .tells .is) o) ≡ n

@@ -51,7 +51,7 @@ ids-room v (Made i n) e a o q h = rw (← q) (sym (room-fits v (Rattle.copy.spe
 module _ {r : Registers} {count used : ℕ} {fs bs is w ia il st : List ℕ} (v : Valid r fs bs is w) (flat : r .counts .inner ≡ 0) (x : ValidIds count used ia il st) where
   pub behind-fits : (t : Tag) (o : Opened) (s : Source) (e a : List ℕ) (n : ℕ) → maybe s e a ≡ t .id → ((i : Bytes) → t .id ≡ some i → length i ≤ mostNameBytes) → frameBytes (elementOf t o) ≡ n
       → fits (opened t (docOf r fs bs is w (idsOf ia il st count)) o .1) ≡ (roomForId count used s e a && leb (r .store .top + n) mostHeldBytes)
-  unfolding fits opened heldBytes docOf
+  unfolding fits opened heldBytes docOf newPart
   behind-fits t o s e a n q h f =
       rw (held-with v flat (t .iri) (noted NoProfile t) (elementOf t o), f)
       (and-assoc (leb (length (enter (t .id) (idsOf ia il st count))) mostIds) (leb (total length (enter (t .id) (idsOf ia il st count))) mostIdBytes) (leb (r .store .top + n) mostHeldBytes)

@@ -11,6 +11,7 @@ use Rattle.spec.specs.declared.Refusal.{Refusal}
 use Rattle.spec.specs.Pyx as P
 use Rattle.spec.specs.Document.{Doc, placeIn}
 use Rattle.spec.specs.StartTag.{readTag}
+use Rattle.spec.specs.Xmp.{startsWrapper}
 use Rattle.spec.specs.Opening.{isXml, onOpening}
 use Rattle.spec.specs.RdfXml.{onEvent}
 use Rattle.state_ids.specs.Ids.{idsOf, ValidIds}
@@ -91,11 +92,14 @@ module _ {r : Registers} {count used : ℕ} {fs bs is w ia il st e v : List ℕ}
 
       module _ {t : Read} {rs′ b : List ℕ} (rd : Reads r fs bs w count ia il st e v m k ds rs a rs′ b t) where
         pub read-stops : {n : Refusal} → t ≡ read.Stop n → JudgesStart (Stop n) r count used (lent fs bs is w ia il st []) e v m k cs rs a ds rs′ b
-        unfolding docOf
+        unfolding docOf startsWrapper
         read-stops {n} q =
             let z : readTag (take m e) (attributesOf e v k) (docOf r fs bs is w (idsOf ia il st count)) ≡ refuse n = rw q at (rd .cases is used (x .lawful .valid) (x .lawful .table)) in
-            record { rules = stops (unread (formed .form (idsOf ia il st count)) counts z); classes = ch .same; roles = rd .places; area = rd .same }
+            record { rules = stops (unread (formed .form (idsOf ia il st count)) counts no-wrapper z); classes = ch .same; roles = rd .places; area = rd .same }
           where
+            no-wrapper : startsWrapper (docOf r fs bs is w (idsOf ia il st count) .mode .profile) (take m e) (attributesOf e v k) (docOf r fs bs is w (idsOf ia il st count) .frames) ≡ false
+            no-wrapper = refl
+
             counts : Rattle.spec.specs.Opening.countsFit (attributesOf e v k) (docOf r fs bs is w (idsOf ia il st count) .frames) ≡ true
             counts = formed .counts
 
