@@ -12,6 +12,7 @@ use Rattle.spec.specs.Bytes.{Bytes, isEmpty, concat}
 use Rattle.spec.specs.Numbers.{number, refuse}
 use Rattle.spec.specs.declared.Refusal.{Refusal}
 use Rattle.spec.specs.declared.Refusal.the-variants.{Incomplete}
+use Rattle.spec.specs.Modes.{baseMode}
 use Rattle.spec.specs.Document.{Doc, fresh}
 use Rattle.spec.specs.Calls.{isOpen, callFinish}
 use Rattle.spec.specs.Pyx2nt.{lastLine, pyx2nt}
@@ -34,7 +35,7 @@ abbrev pub spot : ℕ → ℕ → Bool → Bytes → Doc → Spot
 spot k b last rest d = record { event = k; bytes = b; last = last; rest = rest; doc = d }
 
 abbrev pub start : Spot
-start = spot 1 0 false [] (fresh none)
+start = spot 1 0 false [] (fresh baseMode none)
 
 -- from one to another: some pieces were read, some bytes printed, and all of these were taken
 pub record Leads (s t : Spot) : Type 0 where

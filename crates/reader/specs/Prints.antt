@@ -16,6 +16,7 @@ use Rattle.spec.specs.Bytes.{Bytes, if_then_else_, isEmpty, concat}
 use Rattle.spec.specs.Numbers.{number, Answer, refuse, good}
 use Rattle.spec.specs.declared.Refusal.{Refusal}
 use Rattle.spec.specs.declared.Refusal.the-variants.{Incomplete}
+use Rattle.spec.specs.Modes.{baseMode}
 use Rattle.spec.specs.Document.{Doc, fresh}
 use Rattle.spec.specs.Calls.{isOpen, Report, refusedIn, Accepted, stepped, callStep, callFinish}
 use Rattle.spec.specs.Calls as calls
@@ -124,7 +125,7 @@ prints-runs (refused e h) = refused-runs e h
 prints-runs (over e) = over-runs e
 
 -- However its input comes in pieces, a program that goes this way prints what document 01's program prints of all of it.
-pub prints-pyx2nt : {ps : List Bytes} {w : Bytes} → Prints 1 [] ps (fresh option.none) w → w ≡ pyx2nt (concat ps)
+pub prints-pyx2nt : {ps : List Bytes} {w : Bytes} → Prints 1 [] ps (fresh baseMode option.none) w → w ≡ pyx2nt (concat ps)
 prints-pyx2nt {ps} p = let r = prints-runs p in r .prints ∙ sym (pyx2nt-in-pieces ps (r .run) (r .feeds))
 
 -- ---- and there is such a way, however the input comes
@@ -175,5 +176,5 @@ way (p ∷ ps) k rest d =
     at-hand (p ∷ ps) (λ k rest d. inr (let w = way ps k (rest ++ p) d in (w .0, reads (w .1)))) (suc (length rest)) k rest d (omega arith)
 
 -- Wherever a program stands, its way can go on to the end; from the start, to all that document 01's program prints.
-pub every-division-prints : (ps : List Bytes) → Prints 1 [] ps (fresh option.none) (pyx2nt (concat ps))
-every-division-prints ps = let w = way ps 1 [] (fresh option.none) in rw (← prints-pyx2nt (w .1)) (w .1)
+pub every-division-prints : (ps : List Bytes) → Prints 1 [] ps (fresh baseMode option.none) (pyx2nt (concat ps))
+every-division-prints ps = let w = way ps 1 [] (fresh baseMode option.none) in rw (← prints-pyx2nt (w .1)) (w .1)

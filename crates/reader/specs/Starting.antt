@@ -16,6 +16,7 @@ use Rattle.spec.specs.Numbers as numbers
 use Rattle.spec.specs.declared.Refusal.{Refusal}
 use Rattle.spec.specs.declared.Refusal.the-variants.{BadState, Closed, NotWellFormed, OverLimit, BadIri}
 use Rattle.spec.specs.Rfc3987.{isIri}
+use Rattle.spec.specs.Modes.{baseMode}
 use Rattle.spec.specs.Document.{fresh}
 use Rattle.spec.specs.RdfXml.{finish}
 use Rattle.spec.specs.Calls.{isOpen, markClosed, mayStart, started, callStart, finished, callFinish}
@@ -128,11 +129,11 @@ module _ (based : Bool) (base : Bytes) (s : State) (w i : List ℕ) {a : Answer}
     ids-whole = eqb-true (length i) 32_768 (and-right (eqb (length w) workStoreBytes) _ (may .lengths))
 
     module _ {w′ : List ℕ} {n : ℕ} {z : Bool} {s′ : State} (k : n ≡ sizeOfBase based base) (p : Put w 0 (take n base) w′ z) (f : Fresh based n s′) where
-      begun : meaningOf s′ w′ i ≡ isOpen (fresh (baseOf based base))
+      begun : meaningOf s′ w′ i ≡ isOpen (fresh baseMode (baseOf based base))
       begun =
           let b = may .short in
           fresh-means w′ i f (p .same ∙ store-whole) ids-whole (omega arith) (rw k (size-empty based base))
-          ∙ ap (λ o. isOpen (fresh o)) (rw k (base-stored based base w w′ (omega (arith, store-whole)) (rw k at p)))
+          ∙ ap (λ o. isOpen (fresh baseMode o)) (rw k (base-stored based base w w′ (omega (arith, store-whole)) (rw k at p)))
 
       pub start-done : {r : Report} → r ≡ doing s′ → Starts based base s w i r w′
       unfolding callStart started

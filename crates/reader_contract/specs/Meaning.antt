@@ -12,6 +12,7 @@ use Rattle.spec.specs.Limits.{idStoreBytes, mostIds}
 use Rattle.spec.specs.Bytes.{Bytes, isEmpty}
 use Rattle.spec.specs.Numbers.{Effect, stays-open, unchanged, becomes-closed, effect, closes}
 use Rattle.spec.specs.declared.Refusal.{Refusal}
+use Rattle.spec.specs.Modes.{baseMode}
 use Rattle.spec.specs.Document.{Doc, fresh}
 use Rattle.spec.specs.Calls.{isOpen, isClosed, unlawful, noDocument, markClosed, markedBy}
 use Rattle.spec.specs.Calls as calls
@@ -178,7 +179,7 @@ pub record Fresh (based : Bool) (n : ℕ) (s : State) : Type 0 where
 
 -- whatever else the stores hold
 pub fresh-means : {based : Bool} {n : ℕ} {s : State} (w i : List ℕ) → Fresh based n s → length w ≡ 65_536 → length i ≡ 32_768 → n ≤ 65_536 → pick based true (eqb n 0) ≡ true
-    → meaningOf s w i ≡ isOpen (fresh (baseOf based (part w 0 n)))
+    → meaningOf s w i ≡ isOpen (fresh baseMode (baseOf based (part w 0 n)))
 unfolding docFrom docIn idStoreBytes
 fresh-means {based} {n} {s} w i f lw li k b =
     let v : Valid (s .registers) (s .frames) (s .bindings) (s .inners) w = rw (f .registers) (started based n (s .frames) (s .bindings) (s .inners) w (f .frames) (f .bindings) (f .inners) lw k b) in

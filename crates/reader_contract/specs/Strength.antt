@@ -15,6 +15,7 @@ use Rattle.spec.specs.Numbers.{good}
 use Rattle.spec.specs.declared.Refusal.{Refusal}
 use Rattle.spec.specs.Pyx.{Event, readEvent}
 use Rattle.spec.specs.PyxCut.{whole, cut}
+use Rattle.spec.specs.Modes.{baseMode}
 use Rattle.spec.specs.NTriples.{Triple, write}
 use Rattle.spec.specs.Document.{Doc, fresh}
 use Rattle.spec.specs.RdfXml.{next}
@@ -127,7 +128,7 @@ begun-fresh =
       ids = record { count = refl; used = refl; places = refl; sizes = refl };
     }
 
-begun-means : meaningOf begun (zeros 65_536) (zeros 32_768) ≡ isOpen (fresh none)
+begun-means : meaningOf begun (zeros 65_536) (zeros 32_768) ≡ isOpen (fresh baseMode none)
 begun-means = fresh-means (zeros 65_536) (zeros 32_768) begun-fresh (zeros-length 65_536) (zeros-length 32_768) (omega arith) refl
 
 -- its first call, with this input, and room for a line or two
@@ -145,7 +146,7 @@ pub record Made (D : Handed → Type 0) (f : Call) : Type 0 where
 
 -- what the definitions report of it
 abbrev told : Bytes → calls.Report
-told input = callStep true input 128 (isOpen (fresh none))
+told input = callStep true input 128 (isOpen (fresh baseMode none))
 
 told-first : (input : Bytes) → callStep true input (length (zeros 128)) (meaningOf begun (zeros 65_536) (zeros 32_768)) ≡ told input
 told-first input = rw (zeros-length 128, begun-means) refl

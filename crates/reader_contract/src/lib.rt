@@ -190,6 +190,7 @@ pub fn number_of(r: Refusal) -> u8
         Refusal::StrayText => 16,
         Refusal::EmptyLiteral => 17,
         Refusal::LabelsSpent => 18,
+        Refusal::ProfileBroken => 19,
     }
 }
 
