@@ -3,17 +3,22 @@
 use mathlib.Core.Path.{_≡_}
 use mathlib.Core.Logic.{_⊎_}
 use mathlib.Core.Bool.{Bool}
-use mathlib.Core.List.{List, map}
-use mathlib.Core.Option.{Option}
+use mathlib.Core.List.{List, [], map}
+use mathlib.Core.Option.{Option, none, some}
 use Rattle.spec.specs.Bytes.{Bytes, All}
+use Rattle.spec.specs.Numbers.{good}
 use Rattle.spec.specs.declared.Profile.{Profile}
 use Rattle.spec.specs.declared.Profile.the-variants.{NoProfile, XmpProfile}
 use Rattle.spec.specs.Modes.{baseMode, xmpMode}
-use Rattle.spec.specs.Pyx.{Attribute}
-use Rattle.spec.specs.NTriples.{Triple}
-use Rattle.spec.specs.Document.{Kind, rdfRDF, wrapper, nodeElement, propertyElement, xmlElement, Part, ordinary, topLevel, alternatives, Frame, Doc, fresh, withPart}
+use Rattle.spec.specs.Pyx.{Attribute, opening}
+use Rattle.spec.specs.Rdf.{rdf}
+use Rattle.spec.specs.NTriples.{named, Triple}
+use Rattle.spec.specs.Document.{Value, default, collection, literal, other, Kind, rdfRDF, wrapper, nodeElement, propertyElement, xmlElement, Part, ordinary, topLevel, alternatives, Frame, Doc, fresh, withPart}
+use Rattle.spec.specs.StartTag.{Tag, readTag}
 use Rattle.spec.specs.Xmp.{wrapped}
+use Rattle.spec.specs.RdfXml.{next}
 use Rattle.spec.specs.Lists.{After}
+use Rattle.spec.specs.Inside.{innermost}
 
 -- an open element with nothing remembered for the profile
 abbrev pub bare : Frame → Frame
@@ -44,3 +49,43 @@ Remembers XmpProfile xmlElement p = p ≡ ordinary
 
 abbrev pub Parts : Profile → List Frame → Type 0
 Parts p fs = All (λ f. Remembers p (f .kind) (f .part)) fs
+
+-- ---- "rdf:ID, rdf:nodeID, rdf:datatype and every parseType but Resource are out" (theorem: crate `theorems`, NoneOut)
+
+-- a property element is a default one, without a datatype
+abbrev pub PlainValue : Value → Type 0
+PlainValue (default d o) = d ≡ none
+PlainValue (collection cs) = ⊥
+PlainValue (literal x) = ⊥
+PlainValue other = ⊥
+
+-- and without an rdf:ID; no element stands in Literal content
+abbrev pub PlainKind : Kind → Type 0
+PlainKind rdfRDF = Unit {0}
+PlainKind (wrapper b) = Unit {0}
+PlainKind (nodeElement s li) = Unit {0}
+PlainKind (propertyElement p v) = (p .id ≡ none) × PlainValue v
+PlainKind xmlElement = ⊥
+
+-- of the open elements and of the rdf:IDs entered
+pub record NoneOut (d : Doc) : Type 0 where
+  pub elements : All (λ f. PlainKind (f .kind)) (d .frames)
+  pub ids : d .ids ≡ []
+
+-- ---- "Top-level elements are rdf:Description and all have one resolved rdf:about" (theorem: crate `theorems`, OneSubject)
+
+-- the start tag of a top-level element is accepted: directly in rdf:RDF; the documents before and behind it
+pub record TopStart (d d′ : Doc) : Type 0 where
+  pub name : Bytes
+  pub attributes : List Attribute
+  pub lines : List Triple
+  pub starts : next (opening name attributes) d ≡ good (lines, d′)
+  pub inRdf : innermost (d .frames) ≡ some rdfRDF
+
+-- it is rdf:Description with this resolved rdf:about, which is the subject of the node that it opens
+pub record Describes (a : Bytes) {d d′ : Doc} (s : TopStart d d′) : Type 0 where
+  pub tag : Tag
+  pub reads : readTag (s .name) (s .attributes) d ≡ good tag
+  pub description : tag .iri ≡ rdf "Description"
+  pub about : tag .about ≡ some a
+  pub opens : innermost (d′ .frames) ≡ some (nodeElement (named a) 0)

@@ -42,6 +42,8 @@ pub mod Limits
 pub mod Nesting
 pub mod Packets
 pub mod Parts
+pub mod NoneOut
+pub mod ModeRefusals
 -- ---- lines
 pub mod NodeLabels
 -- ---- all that is written is N-Triples

@@ -3,11 +3,11 @@ use mathlib.Core.Path.{_≡_, refl, sym, _∙_, ap, subst}
 use mathlib.Core.Bool.{Bool, true, false, _&&_, not, true≢false}
 use mathlib.Core.Option.{Option}
 use mathlib.Core.List.{List, [], _∷_, _++_, map}
-use Prim.Native.Nat.{ℕ, suc, _+_}
+use Prim.Native.Nat.{ℕ, suc}
 use native.Mathlib.Omega.{arith}
 use lib.Dec.{eqb}
 use lib.ListN.{length}
-use Rattle.spec.specs.Bytes.{Bytes, if_then_else_, isEmpty, total, _>>=_, _>>_, require_or_, same}
+use Rattle.spec.specs.Bytes.{Bytes, if_then_else_, isEmpty, total, _>>=_, _>>_, require_or_}
 use Rattle.spec.specs.Numbers.{number, Answer, refuse, good}
 use Rattle.spec.specs.declared.Refusal.{Refusal}
 use Rattle.spec.specs.declared.Refusal.the-variants.{NotWellFormed, OverLimit, NoNamespace, Reserved, StrayText, EmptyLiteral, LabelsSpent, ProfileBroken}
@@ -271,8 +271,8 @@ rooted-kept stays h = h
 rooted-kept (takes-text v e) h = h
 rooted-kept (takes-xml x e) h = h
 rooted-kept (copies m as′ x e c) h = h
-rooted-kept (opens m as′ t o c r g q s) h = refl
-rooted-kept (wraps m as′ p e c) h = refl
+rooted-kept (opens m as′ t o z c r g q s) h = refl
+rooted-kept (wraps m as′ z p e c) h = refl
 rooted-kept (ends-root f fs is k) h = h
 rooted-kept (ends-wrapper f fs b is k) h = h
 rooted-kept (ends-node f fs s li is k) h = h
