@@ -44,6 +44,7 @@ pub mod Packets
 pub mod Parts
 pub mod NoneOut
 pub mod ModeRefusals
+pub mod OneSubject
 -- ---- lines
 pub mod NodeLabels
 -- ---- all that is written is N-Triples

@@ -405,6 +405,11 @@ module _ (b : Option Bytes) where
 pub packets : (b : Option Bytes) {d : Doc} {ts : List Triple} → After (fresh xmpMode b) d ts → Packet b d ts
 packets b a = is-packet b (progress b a)
 
+-- The wrapper "takes no label": behind its start tag the base has generated none, as at a start, and then as many as the packet.
+pub labels-as-base : (b : Option Bytes) (n : Bytes) (as′ : List Attribute) (d : Doc) → (inBase (wrapped n as′ (fresh xmpMode b)) .labels ≡ 0) × (inBase d .labels ≡ d .labels)
+unfolding inBase wrapped fresh
+labels-as-base b n as′ d = (refl, refl)
+
 -- So with the bytes, whatever pieces and room the steps of a document in the profile are given: what they wrote is those lines.
 pub packets-written : (b : Option Bytes) (t : State) (w : Bytes) → Steps xmpMode b t w → Holds (Packet b) t w
 packets-written b (isOpen d) w h = let k = written xmpMode b (isOpen d) w h in (k .0, packets b (k .1), k .2)
