@@ -1,5 +1,5 @@
--- Document 02, request 1: "a packet accepted here gives the lines that the base gives for its rdf:RDF, with the same base and the wrapper's
--- namespace bindings" (theorem: crate `theorems`, Packets).
+-- Document 02, request 1: "a packet accepted here gives the lines that the base gives for its rdf:RDF, with the same base
+-- and the wrapper's namespace bindings" (theorem: crate `theorems`, Packets).
 use mathlib.Core.Path.{_≡_}
 use mathlib.Core.Logic.{_⊎_}
 use mathlib.Core.Bool.{Bool}
@@ -26,19 +26,28 @@ bare f = withPart ordinary f
 
 -- the same document in the base mode: the same start base, open elements, labels and rdf:IDs
 unfoldable pub inBase : Doc → Doc
-inBase d = record { mode = baseMode; startBase = d .startBase; frames = map bare (d .frames); rooted = d .rooted; labels = d .labels; ids = d .ids }
+inBase d = record {
+  mode = baseMode;
+  startBase = d .startBase;
+  frames = map bare (d .frames);
+  rooted = d .rooted;
+  labels = d .labels;
+  ids = d .ids;
+}
 
 -- What a packet is to the base, behind each accepted event of it: the state and every line so far.
 pub data Packet (b : Option Bytes) : Doc → List Triple → Type 0 where
   -- without a wrapper, or before it: the base gives the same lines from the same start base
   unwrapped : {d : Doc} {ts : List Triple} → After (fresh baseMode b) (inBase d) ts → Packet b d ts
-  -- from the wrapper on: the base gives the same lines if it starts with the same start base inside one open element, which has the wrapper's
-  -- namespace bindings, no xml:base and no xml:lang, and in which rdf:RDF stands as a root
-  inWrapper : {d : Doc} {ts : List Triple} (n : Bytes) (as′ : List Attribute) → After (inBase (wrapped n as′ (fresh xmpMode b))) (inBase d) ts → Packet b d ts
+  -- from the wrapper on: the base gives the same lines if it starts with the same start base inside one open element,
+  -- which has the wrapper's namespace bindings, no xml:base and no xml:lang, and in which rdf:RDF stands as a root
+  inWrapper : {d : Doc} {ts : List Triple} (n : Bytes) (as′ : List Attribute)
+      → After (inBase (wrapped n as′ (fresh xmpMode b))) (inBase d) ts → Packet b d ts
 
 -- ---- what is remembered for the profile, by the kind of the element (theorem: crate `theorems`, Parts)
 
--- without the profile nothing; in it the rdf:about in rdf:RDF, and in node elements that are an rdf:Alt whether xml:lang is carried
+-- without the profile nothing; in it the rdf:about in rdf:RDF, and in node elements that are an rdf:Alt whether xml:lang
+-- is carried
 abbrev pub Remembers : Profile → Kind → Part → Type 0
 Remembers NoProfile k p = p ≡ ordinary
 Remembers XmpProfile rdfRDF p = (a : Option Bytes) × (p ≡ topLevel a)
@@ -67,7 +76,7 @@ PlainKind (nodeElement s li) = Unit {0}
 PlainKind (propertyElement p v) = (p .id ≡ none) × PlainValue v
 PlainKind xmlElement = ⊥
 
--- of the open elements and of the rdf:IDs entered
+-- so of all open elements; and no rdf:ID is entered
 pub record NoneOut (d : Doc) : Type 0 where
   pub elements : All (λ f. PlainKind (f .kind)) (d .frames)
   pub ids : d .ids ≡ []

@@ -78,6 +78,10 @@ all-changed P g keep (f ∷ fs) h = go (isXmlElement (f .kind)) (all-changed P g
     go true k = (h .0, k)
     go false k = (keep f (h .0), h .1)
 
+-- and of all but the one that closes
+pub all-but : (P : Frame → Type 0) (f : Frame) (fs gs : List Frame) → gs ≡ f ∷ fs → All P gs → All P fs
+all-but P f fs gs is h = let k : All P (f ∷ fs) = rw is at h in k .1
+
 abbrev Changes : Doc → Step → Type 0
 Changes d s = Change d (s .0) (s .1)
 

@@ -191,7 +191,7 @@ text-still s other = refl
 
 -- ---- every change that an event can make
 
-produced : (m : Mode) (p : Place) (t : Tag) (n : ℕ) (o : Opened) → Produces p t n o → Stands m (o .kind) p
+pub produced : (m : Mode) (p : Place) (t : Tag) (n : ℕ) (o : Opened) → Produces p t n o → Stands m (o .kind) p
 unfolding isXml
 produced m outside t n o q = always-good (Opens m outside) (open-root m t n) q
 produced m nodes t n o q = always-good (Opens m nodes) (open-node m nodes t n refl) q

@@ -1,4 +1,5 @@
--- Document 02, request 1: "rdf:ID, rdf:nodeID, rdf:datatype and every parseType but Resource are out": what that leaves of the open elements.
+-- Document 02, request 1: "rdf:ID, rdf:nodeID, rdf:datatype and every parseType but Resource are out". What that leaves of
+-- the open elements.
 use mathlib.Core.Path.{_≡_, refl, subst}
 use mathlib.Core.Bool.{true, not, false≢true}
 use mathlib.Core.Option.{Option, none, some}
@@ -25,7 +26,7 @@ use Rattle.spec.specs.Packets.{PlainValue, PlainKind, NoneOut}
 use Rattle.spec.proofs.Booleans.{and-left, and-right}
 use Rattle.spec.proofs.Bytes.{same-true}
 use Rattle.theorems.specs.Always.{Always, always-any, always-after, always-require, always-if, always-good}
-use Rattle.theorems.specs.Changes.{Produces, Change, stays, takes-text, takes-xml, copies, opens, wraps, ends-root, ends-wrapper, ends-node, ends-property, ends-xml, all-changed, always-holds}
+use Rattle.theorems.specs.Changes.{Produces, Change, stays, takes-text, takes-xml, copies, opens, wraps, ends-root, ends-wrapper, ends-node, ends-property, ends-xml, all-changed, all-but, always-holds}
 
 -- ---- a start tag with none of them
 
@@ -84,7 +85,8 @@ plain-root : (t : Tag) (n : ℕ) → Always Plain (openRoot t n)
 unfolding openRoot
 plain-root t n = always-if Plain _ _ _ (λ e. tt) λ e. plain-node t n
 
-plain-as : (a : ParseType) (t : Tag) (p : Property) (n : ℕ) → Left a → p .id ≡ none → t .datatype ≡ none → Always Plain (O.openAs a t p n)
+plain-as : (a : ParseType) (t : Tag) (p : Property) (n : ℕ) → Left a → p .id ≡ none → t .datatype ≡ none
+    → Always Plain (O.openAs a t p n)
 unfolding O.openAs O.openDefault O.openWithNode O.openResource
 plain-as a t p n no-parse-type i d = always-if Plain _ _ _ (λ e. always-any Plain _ _ λ o. (i, d)) λ e. (i, d)
 plain-as a t p n resource i d = always-after Plain _ _ tt
@@ -93,7 +95,8 @@ plain-property : (t : Tag) (s : Subject) (li n : ℕ) → Without t → Always P
 unfolding openProperty
 plain-property t s li n w =
     always-require Plain _ _ _ λ e₁. always-require Plain _ _ _ λ e₂.
-    always-after Plain _ _ (plain-as (parseTypeOf (t .parseType)) t _ n (left (t .parseType) (w .parseType)) (w .id) (w .datatype))
+    always-after Plain _ _
+    (plain-as (parseTypeOf (t .parseType)) t _ n (left (t .parseType) (w .parseType)) (w .id) (w .datatype))
 
 plain-new : (p : Place) (t : Tag) (n : ℕ) (o : Opened) → Without t → Produces p t n o → Plain o
 plain-new outside t n o w q = always-good Plain (plain-root t n) q
@@ -112,7 +115,8 @@ plain-counted i (nodeElement s li) h = tt
 plain-counted i (propertyElement p v) h = h
 plain-counted i xmlElement h = h
 
-plain-count : (i : Bytes) (g : Part → Part) (fs : List Frame) → All (λ f. PlainKind (f .kind)) fs → All (λ f. PlainKind (f .kind)) (countLi i g fs)
+plain-count : (i : Bytes) (g : Part → Part) (fs : List Frame) → All (λ f. PlainKind (f .kind)) fs
+    → All (λ f. PlainKind (f .kind)) (countLi i g fs)
 unfolding countLi withKind withPart
 plain-count i g [] h = tt
 plain-count i g (f ∷ fs) h = (plain-counted i (f .kind) (h .0), h .1)
@@ -128,7 +132,8 @@ plain-kind g keep (nodeElement s li) h = tt
 plain-kind g keep (propertyElement p v) h = (h .0, keep v (h .1))
 plain-kind g keep xmlElement h = h
 
-plain-changed : (g : Value → Value) → Keeps g → (fs : List Frame) → All (λ f. PlainKind (f .kind)) fs → All (λ f. PlainKind (f .kind)) (changeValue g fs)
+plain-changed : (g : Value → Value) → Keeps g → (fs : List Frame) → All (λ f. PlainKind (f .kind)) fs
+    → All (λ f. PlainKind (f .kind)) (changeValue g fs)
 unfolding withKind
 plain-changed g keep fs h = all-changed (λ f. PlainKind (f .kind)) g (λ f k. plain-kind g keep (f .kind) k) fs h
 
@@ -175,9 +180,6 @@ no-xml (f ∷ fs) h e = go (f .kind) (h .0) e
 abbrev Kept : Doc → Type 0
 Kept d = (d .mode .profile ≡ XmpProfile) × NoneOut d
 
-less : (f : Frame) (fs gs : List Frame) → gs ≡ f ∷ fs → All (λ f. PlainKind (f .kind)) gs → All (λ f. PlainKind (f .kind)) fs
-less f fs gs is h = let k : All (λ f. PlainKind (f .kind)) (f ∷ fs) = rw is at h in k .1
-
 kept-in : (p : Profile) (fs : List Frame) (t : Tag) → p ≡ XmpProfile → keeps p fs t ≡ true → Without t
 kept-in p fs t e h = kept-without fs t (subst (λ (x : Profile). keeps x fs t ≡ true) e h)
 
@@ -185,30 +187,36 @@ entered-none : (i : Option Bytes) (ids : List Bytes) → i ≡ none → ids ≡ 
 unfolding enter
 entered-none i ids e h = rw (e, h)
 
-none-out : {d d′ : Doc} {us : List Triple} → Change d us d′ → Kept d → Kept d′
-unfolding withFrames withLabels opened wrapped
-none-out stays h = h
-none-out {d} (takes-text v e) (p, h) = (p, record { elements = plain-changed _ (text-plain v) (d .frames) (h .elements); ids = h .ids })
-none-out {d} (takes-xml x e) (p, h) = (p, record { elements = plain-changed _ (xml-plain x) (d .frames) (h .elements); ids = h .ids })
-none-out {d} (copies m as′ x e c) (p, h) = absurd (no-xml (d .frames) (h .elements) e)
-none-out {d} (opens m as′ t o z c r g q s) (p, h) =
-    let w : Without t = kept-in (d .mode .profile) (d .frames) t p g in (
-      p,
-      record {
-        elements = (plain-new (placeIn (d .frames)) t (d .labels) o w q, plain-count (t .iri) _ (d .frames) (h .elements));
-        ids = entered-none (t .id) (d .ids) (w .id) (h .ids);
-      },
-    )
-none-out (wraps m as′ z p e c) (p′, h) = (p′, record { elements = (tt, h .elements); ids = h .ids })
-none-out {d} (ends-root f fs is k) (p, h) = (p, record { elements = less f fs (d .frames) is (h .elements); ids = h .ids })
-none-out {d} (ends-wrapper f fs b is k) (p, h) = (p, record { elements = less f fs (d .frames) is (h .elements); ids = h .ids })
-none-out {d} (ends-node f fs s li is k) (p, h) =
-    (p, record { elements = plain-changed _ (node-plain s) fs (less f fs (d .frames) is (h .elements)); ids = h .ids })
-none-out {d} (ends-property f fs o v l ws n is k q) (p, h) = (p, record { elements = less f fs (d .frames) is (h .elements); ids = h .ids })
-none-out {d} (ends-xml f fs x is k) (p, h) =
-    (p, record { elements = plain-changed _ (xml-plain x) fs (less f fs (d .frames) is (h .elements)); ids = h .ids })
+-- with other open elements
+still : {d : Doc} (fs : List Frame) → Kept d → All (λ f. PlainKind (f .kind)) fs → Kept (withFrames fs d)
+unfolding withFrames
+still fs (p, h) k = (p, record { elements = k; ids = h .ids })
 
--- Behind every accepted event of a packet no rdf:ID is entered, and every open property is a default one, without rdf:ID and datatype.
+none-out : {d d′ : Doc} {us : List Triple} → Change d us d′ → Kept d → Kept d′
+unfolding withLabels opened wrapped
+none-out stays h = h
+none-out {d} (takes-text v e) h = still _ h (plain-changed _ (text-plain v) (d .frames) (h .1 .elements))
+none-out {d} (takes-xml x e) h = still _ h (plain-changed _ (xml-plain x) (d .frames) (h .1 .elements))
+none-out {d} (copies m as′ x e c) h = absurd (no-xml (d .frames) (h .1 .elements) e)
+none-out {d} (opens m as′ t o z c r g q s) (p, h) =
+    let w : Without t = kept-in (d .mode .profile) (d .frames) t p g in
+    let new : Plain o = plain-new (placeIn (d .frames)) t (d .labels) o w q in
+    let ids : enter (t .id) (d .ids) ≡ [] = entered-none (t .id) (d .ids) (w .id) (h .ids) in
+    (p, record { elements = (new, plain-count (t .iri) _ (d .frames) (h .elements)); ids = ids })
+none-out (wraps m as′ z p e c) (p′, h) = (p′, record { elements = (tt, h .elements); ids = h .ids })
+none-out {d} (ends-root f fs is k) h = still fs h (all-but _ f fs (d .frames) is (h .1 .elements))
+none-out {d} (ends-wrapper f fs b is k) h = still fs h (all-but _ f fs (d .frames) is (h .1 .elements))
+none-out {d} (ends-node f fs s li is k) h =
+    still _ h (plain-changed _ (node-plain s) fs (all-but _ f fs (d .frames) is (h .1 .elements)))
+none-out {d} (ends-property f fs o v l ws n is k q) h =
+    let r : Kept (withFrames fs d) = still fs h (all-but _ f fs (d .frames) is (h .1 .elements)) in
+    (r .0, record { elements = r .1 .elements; ids = r .1 .ids })
+none-out {d} (ends-xml f fs x is k) h =
+    still _ h (plain-changed _ (xml-plain x) fs (all-but _ f fs (d .frames) is (h .1 .elements)))
+
+-- Behind every accepted event of a packet no rdf:ID is entered, and every open property is a default one, without rdf:ID
+-- and datatype.
 pub always-none-out : (b : Option Bytes) {d : Doc} {ts : List Triple} → After (fresh xmpMode b) d ts → NoneOut d
 unfolding fresh
-always-none-out b h = always-holds Kept (λ d d′ us c f k. none-out c k) (refl, record { elements = tt; ids = refl }) h .1
+always-none-out b h =
+    always-holds Kept (λ d d′ us c f k. none-out c k) (refl, record { elements = tt; ids = refl }) h .1

@@ -1,12 +1,13 @@
--- Document 02, request 1: "Top-level elements are rdf:Description and all have one resolved rdf:about": so all of a packet have one subject.
+-- Document 02, request 1: "Top-level elements are rdf:Description and all have one resolved rdf:about". So all top-level
+-- elements of a packet have one subject.
 use mathlib.Core.Path.{_≡_, refl, sym, _∙_, ap, subst}
 use mathlib.Core.Logic.{_⊎_, inl, inr}
-use mathlib.Core.Bool.{Bool, true, false, _&&_, not, true≢false, false≢true}
+use mathlib.Core.Bool.{true, false, _&&_, not, true≢false, false≢true}
 use mathlib.Core.Option.{Option, none, some, Option·some-injective, Option·none-ne-some}
 use mathlib.Core.List.{List, [], _∷_}
 use Prim.Native.Nat.{ℕ}
 use native.Mathlib.Omega.{arith}
-use Rattle.spec.specs.Bytes.{Bytes, if_then_else_, same, isEmpty, orElse, All}
+use Rattle.spec.specs.Bytes.{Bytes, same, isEmpty, orElse, All}
 use Rattle.spec.specs.Numbers.{good}
 use Rattle.spec.specs.Pyx.{Attribute, opening}
 use Rattle.spec.specs.Rdf.{rdf}
@@ -15,26 +16,26 @@ use Rattle.spec.specs.declared.Mode.{Mode}
 use Rattle.spec.specs.declared.Profile.{Profile}
 use Rattle.spec.specs.declared.Profile.the-variants.{XmpProfile}
 use Rattle.spec.specs.Modes.{xmpMode}
-use Rattle.spec.specs.Document.{Value, default, collection, literal, other, Property, Kind, rdfRDF, wrapper, nodeElement, propertyElement, xmlElement, Part, topLevel, Frame, Doc, fresh, withFrames, withLabels, withKind, withPart, Place, outside, nodes, nodesOrText, xml, properties, inKind, inValue, placeIn, changeValue, onValue, isXmlElement}
+use Rattle.spec.specs.Document.{Value, default, collection, literal, other, Kind, rdfRDF, wrapper, nodeElement, propertyElement, xmlElement, Part, topLevel, Frame, Doc, fresh, withFrames, withLabels, withKind, withPart, Place, outside, nodes, inKind, inValue, placeIn, changeValue, onValue}
 use Rattle.spec.specs.StartTag.{Tag, readTag}
-use Rattle.spec.specs.Productions.{Opened, openNode, openProperty, ParseType, noParseType, asCollection, asResource, asLiteral, asOther, subjectOf}
-use Rattle.spec.specs.Productions as O
+use Rattle.spec.specs.Productions.{Opened, openNode, subjectOf}
 use Rattle.spec.specs.Xmp.{wrapped, isItsRdf, sameAbout, isTopLevel, hasNoneOut, keepsPart, keepsKind, keepsAround, keeps, withChild, noted}
 use Rattle.spec.specs.Opening.{Step, isSecondRoot, counted, countLi, opened, openElement, openIn, onOpening}
 use Rattle.spec.specs.RdfXml.{next, onEvent}
 use Rattle.spec.specs.Lists.{After}
 use Rattle.spec.specs.Inside.{innermost}
-use Rattle.spec.specs.Nesting.{Nested}
+use Rattle.spec.specs.Nesting.{Stands, Nested}
 use Rattle.spec.specs.Packets.{Remembers, Parts, TopStart, Describes}
 use Rattle.spec.proofs.Booleans.{and-left, and-right, and-both}
 use Rattle.spec.proofs.Bytes.{same-true}
-use Rattle.theorems.specs.Always.{Always, always-bind, always-any, always-after, always-require, always-if, always-self, always-good}
+use Rattle.theorems.specs.Always.{Always, always-bind, always-after, always-require, always-self, always-good}
 use Rattle.theorems.specs.Rules.{rules-kept}
 use Rattle.theorems.specs.Frames.{always-next}
-use Rattle.theorems.specs.Changes.{Produces, Change, stays, takes-text, takes-xml, copies, opens, wraps, ends-root, ends-wrapper, ends-node, ends-property, ends-xml, all-changed, always-holds}
-use Rattle.theorems.specs.Nesting.{always-mode, always-nested}
-use Rattle.theorems.specs.Parts.{always-parts, NoRdf, one-rdf}
+use Rattle.theorems.specs.Changes.{Change, stays, takes-text, takes-xml, copies, opens, wraps, ends-root, ends-wrapper, ends-node, ends-property, ends-xml, all-changed, all-but, always-holds}
+use Rattle.theorems.specs.Nesting.{always-mode, always-nested, produced}
+use Rattle.theorems.specs.Parts.{always-parts, wrapper-place, NoRdf, one-rdf}
 use Rattle.theorems.specs.NoneOut.{kept-without}
+use Rattle.theorems.specs.HadRdf.{HadRdf, Had, always-had}
 
 -- ---- the start tag of a top-level element
 
@@ -51,11 +52,13 @@ started-element : (n : Bytes) (as′ : List Attribute) (d : Doc) → Always (Sta
 unfolding openElement
 started-element n as′ d =
     always-bind (λ t. readTag n as′ d ≡ good t) (Started n as′ d) _ _ (always-self (readTag n as′ d)) λ t r.
-    always-bind (λ o. (openNode t (d .labels) ≡ good o) × (keeps (d .mode .profile) (d .frames) t ≡ true)) (Started n as′ d) _ _
-    (rules-kept (d .mode) (d .frames) t (openNode t (d .labels))) λ o q.
-    always-require (Started n as′ d) _ _ _ λ s. record { tag = t; new = o; reads = r; kept = q .1; made = q .0; behind = refl }
+    always-bind (λ o. (openNode t (d .labels) ≡ good o) × (keeps (d .mode .profile) (d .frames) t ≡ true))
+    (Started n as′ d) _ _ (rules-kept (d .mode) (d .frames) t (openNode t (d .labels))) λ o q.
+    always-require (Started n as′ d) _ _ _ λ s.
+    record { tag = t; new = o; reads = r; kept = q .1; made = q .0; behind = refl }
 
-started : (n : Bytes) (as′ : List Attribute) (d : Doc) → placeIn (d .frames) ≡ nodes → Always (Started n as′ d) (next (opening n as′) d)
+started : (n : Bytes) (as′ : List Attribute) (d : Doc) → placeIn (d .frames) ≡ nodes
+    → Always (Started n as′ d) (next (opening n as′) d)
 unfolding onEvent onOpening openIn
 started n as′ d e =
     always-next (Started n as′ d) (opening n as′) d
@@ -78,7 +81,12 @@ kept-top : (x : Option Bytes) (t : Tag) → isTopLevel x t ≡ true → Kept x t
 unfolding isTopLevel
 kept-top x t h =
     let k = same-about x (t .about) (and-right (same (t .iri) (rdf "Description")) (sameAbout x (t .about)) h) in
-    record { description = same-true (t .iri) (rdf "Description") (and-left (same (t .iri) (rdf "Description")) _ h); a = k .0; about = k .1; first = k .2 }
+    record {
+      description = same-true (t .iri) (rdf "Description") (and-left (same (t .iri) (rdf "Description")) _ h);
+      a = k .0;
+      about = k .1;
+      first = k .2;
+    }
 
 -- the node that it opens has this subject
 abbrev Names : Bytes → Opened → Type 0
@@ -94,8 +102,9 @@ named-node t n a e h =
     always-require (Names a) _ _ _ λ e₁. always-require (Names a) _ _ _ λ e₂.
     always-after (Names a) _ _ (ap (λ (s : Subject). nodeElement s 0) (named-by (t .id) (t .nodeID) (t .about) a _ e h))
 
--- ---- once the first is open, what every open element says of later ones: rdf:RDF remembers its rdf:about, and the wrapper has had its rdf:RDF
+-- ---- what open elements say of later ones, once the first has opened
 
+-- rdf:RDF remembers its rdf:about, and the wrapper has had its rdf:RDF
 abbrev Told : Bytes → Kind → Part → Type 0
 Told a rdfRDF q = q ≡ topLevel (some a)
 Told a (wrapper had) q = had ≡ true
@@ -116,10 +125,12 @@ told-value a g xmlElement q h = tt
 
 told-changed : (a : Bytes) (g : Value → Value) (fs : List Frame) → AllTold a fs → AllTold a (changeValue g fs)
 unfolding withKind
-told-changed a g fs h = all-changed (λ f. Told a (f .kind) (f .part)) g (λ f k. told-value a g (f .kind) (f .part) k) fs h
+told-changed a g fs h =
+    all-changed (λ f. Told a (f .kind) (f .part)) g (λ f k. told-value a g (f .kind) (f .part) k) fs h
 
 -- the rdf:about is remembered from the first on
-told-counted : (a : Bytes) (i : Bytes) (t : Tag) (k : Kind) (q : Part) → Told a k q → Told a (counted i k) (noted XmpProfile t q)
+told-counted : (a : Bytes) (i : Bytes) (t : Tag) (k : Kind) (q : Part) → Told a k q
+    → Told a (counted i k) (noted XmpProfile t q)
 unfolding counted noted withChild
 told-counted a i t rdfRDF q h = rw h
 told-counted a i t (wrapper had) q h = refl
@@ -127,176 +138,89 @@ told-counted a i t (nodeElement s li) q h = tt
 told-counted a i t (propertyElement p v) q h = tt
 told-counted a i t xmlElement q h = tt
 
-told-count : (a : Bytes) (i : Bytes) (t : Tag) (fs : List Frame) → AllTold a fs → AllTold a (countLi i (noted XmpProfile t) fs)
+told-count : (a : Bytes) (i : Bytes) (t : Tag) (fs : List Frame) → AllTold a fs
+    → AllTold a (countLi i (noted XmpProfile t) fs)
 unfolding countLi withKind withPart
 told-count a i t [] h = tt
 told-count a i t (f ∷ fs) h = (told-counted a i t (f .kind) (f .part) (h .0), h .1)
 
 -- ---- no second rdf:RDF opens
 
--- with a root there was one
-pub record Begun (a : Bytes) (d : Doc) : Type 0 where
-  pub profile : d .mode .profile ≡ XmpProfile
-  pub rooted : d .rooted ≡ true
-  pub told : AllTold a (d .frames)
+-- a packet in which a top-level element with this rdf:about has opened
+record Begun (a : Bytes) (d : Doc) : Type 0 where
+  profile : d .mode .profile ≡ XmpProfile
+  rooted : d .rooted ≡ true
+  told : AllTold a (d .frames)
 
 no-root : (d : Doc) → d .rooted ≡ true → isSecondRoot d ≡ false → d .frames ≡ [] → ⊥
 unfolding isSecondRoot isEmpty
 no-root d r s e = true≢false (sym (and-both (d .rooted) (isEmpty (d .frames)) r (ap isEmpty e)) ∙ s)
 
-not-outside : (a : Bytes) (d : Doc) (t : Tag) → Begun a d → isSecondRoot d ≡ false → keeps (d .mode .profile) (d .frames) t ≡ true → placeIn (d .frames) ≡ outside → ⊥
+not-outside : (a : Bytes) (d : Doc) (t : Tag) → Begun a d → isSecondRoot d ≡ false
+    → keeps (d .mode .profile) (d .frames) t ≡ true → placeIn (d .frames) ≡ outside → ⊥
 unfolding keeps
-not-outside a d t b s k e = go (d .frames) refl (b .told) (subst (λ (p : Profile). keeps p (d .frames) t ≡ true) (b .profile) k) e
+not-outside a d t b s k e =
+    go (d .frames) refl (b .told) (subst (λ (p : Profile). keeps p (d .frames) t ≡ true) (b .profile) k) e
   where
     in-kind : (f : Frame) (k : Kind) → Told a k (f .part) → keepsKind k (f .part) t ≡ true → inKind k ≡ outside → ⊥
     in-kind f rdfRDF h g e = unfold inKind in (let z : _≡_ {A = ℕ} 0 1 = cc in omega arith)
-    in-kind f (wrapper had) h g e = unfold keepsKind isItsRdf in true≢false (sym (and-right (same (t .iri) (rdf "RDF")) (not had) g) ∙ ap not h)
+    in-kind f (wrapper had) h g e =
+        unfold keepsKind isItsRdf in true≢false (sym (and-right (same (t .iri) (rdf "RDF")) (not had) g) ∙ ap not h)
     in-kind f (nodeElement s li) h g e = unfold inKind in (let z : _≡_ {A = ℕ} 0 1 = cc in omega arith)
-    in-kind f (propertyElement p (default x o)) h g e = unfold inKind inValue in (let z : _≡_ {A = ℕ} 0 1 = cc in omega arith)
-    in-kind f (propertyElement p (collection cs)) h g e = unfold inKind inValue in (let z : _≡_ {A = ℕ} 0 1 = cc in omega arith)
-    in-kind f (propertyElement p (literal x)) h g e = unfold inKind inValue in (let z : _≡_ {A = ℕ} 0 1 = cc in omega arith)
+    in-kind f (propertyElement p (default x o)) h g e =
+        unfold inKind inValue in (let z : _≡_ {A = ℕ} 0 1 = cc in omega arith)
+    in-kind f (propertyElement p (collection cs)) h g e =
+        unfold inKind inValue in (let z : _≡_ {A = ℕ} 0 1 = cc in omega arith)
+    in-kind f (propertyElement p (literal x)) h g e =
+        unfold inKind inValue in (let z : _≡_ {A = ℕ} 0 1 = cc in omega arith)
     in-kind f (propertyElement p other) h g e = unfold inKind inValue in (let z : _≡_ {A = ℕ} 0 1 = cc in omega arith)
     in-kind f xmlElement h g e = unfold inKind in (let z : _≡_ {A = ℕ} 0 1 = cc in omega arith)
 
-    go : (fs : List Frame) → d .frames ≡ fs → AllTold a fs → (keepsAround fs t && hasNoneOut t) ≡ true → placeIn fs ≡ outside → ⊥
+    go : (fs : List Frame) → d .frames ≡ fs → AllTold a fs → (keepsAround fs t && hasNoneOut t) ≡ true
+        → placeIn fs ≡ outside → ⊥
     go [] is h g e = no-root d (b .rooted) s is
-    go (f ∷ fs) is h g e = in-kind f (f .kind) (h .0) (unfold keepsAround in and-left (keepsKind (f .kind) (f .part) t) (hasNoneOut t) g) (unfold placeIn in e)
+    go (f ∷ fs) is h g e =
+        in-kind f (f .kind) (h .0) (unfold keepsAround in and-left (keepsKind (f .kind) (f .part) t) (hasNoneOut t) g)
+        (unfold placeIn in e)
 
 -- nothing else that opens says anything
-abbrev Silent : Bytes → Part → Opened → Type 0
-Silent a q o = Told a (o .kind) q
+silent : (a : Bytes) (q : Part) (m : Mode) (k : Kind) (p : Place) → Stands m k p → (p ≡ outside → ⊥) → Told a k q
+silent a q m rdfRDF p s w = absurd (w s)
+silent a q m (wrapper had) p s w = absurd (w (wrapper-place (m .profile) p s))
+silent a q m (nodeElement u li) p s w = tt
+silent a q m (propertyElement o v) p s w = tt
+silent a q m xmlElement p s w = tt
 
-silent-node : (a : Bytes) (q : Part) (t : Tag) (n : ℕ) → Always (Silent a q) (openNode t n)
-unfolding openNode
-silent-node a q t n = always-require (Silent a q) _ _ _ λ e₁. always-require (Silent a q) _ _ _ λ e₂. always-after (Silent a q) _ _ tt
-
-silent-as : (a : Bytes) (q : Part) (k : ParseType) (t : Tag) (p : Property) (n : ℕ) → Always (Silent a q) (O.openAs k t p n)
-unfolding O.openAs O.openWith O.openDefault O.openWithNode O.openResource
-silent-as a q noParseType t p n = always-if (Silent a q) _ _ _ (λ e. always-any (Silent a q) _ _ λ o. tt) λ e. tt
-silent-as a q asCollection t p n = tt
-silent-as a q asResource t p n = always-after (Silent a q) _ _ tt
-silent-as a q asLiteral t p n = tt
-silent-as a q asOther t p n = tt
-
-silent-property : (a : Bytes) (q : Part) (t : Tag) (s : Subject) (li n : ℕ) → Always (Silent a q) (openProperty t s li n)
-unfolding openProperty
-silent-property a q t s li n = always-require (Silent a q) _ _ _ λ e₁. always-require (Silent a q) _ _ _ λ e₂. always-after (Silent a q) _ _ (silent-as a q _ t _ n)
-
-silent-new : (a : Bytes) (q : Part) (p : Place) (t : Tag) (n : ℕ) (o : Opened) → (p ≡ outside → ⊥) → Produces p t n o → Silent a q o
-silent-new a q outside t n o w m = absurd (w refl)
-silent-new a q nodes t n o w m = always-good (Silent a q) (silent-node a q t n) m
-silent-new a q nodesOrText t n o w m = always-good (Silent a q) (silent-node a q t n) m
-silent-new a q (properties s li) t n o w m = always-good (Silent a q) (silent-property a q t s li n) m
-silent-new a q xml t n o w m = absurd m
-
-less : (P : Frame → Type 0) (f : Frame) (fs gs : List Frame) → gs ≡ f ∷ fs → All P gs → All P fs
-less P f fs gs is h = let k : All P (f ∷ fs) = rw is at h in k .1
+-- with other open elements
+still : (a : Bytes) {d : Doc} (fs : List Frame) → Begun a d → AllTold a fs → Begun a (withFrames fs d)
+unfolding withFrames
+still a fs h t = record { profile = h .profile; rooted = h .rooted; told = t }
 
 begun : (a : Bytes) {d d′ : Doc} {us : List Triple} → Change d us d′ → Begun a d → Begun a d′
-unfolding withFrames withLabels opened wrapped
+unfolding withLabels opened wrapped
 begun a stays h = h
-begun a {d} (takes-text v e) h = record { profile = h .profile; rooted = h .rooted; told = told-changed a _ (d .frames) (h .told) }
-begun a {d} (takes-xml x e) h = record { profile = h .profile; rooted = h .rooted; told = told-changed a _ (d .frames) (h .told) }
-begun a {d} (copies m as′ x e c) h = record { profile = h .profile; rooted = h .rooted; told = (tt, told-changed a _ (d .frames) (h .told)) }
-begun a {d} (opens m as′ t o z c r g q s) h = record {
-  profile = h .profile;
-  rooted = refl;
-  told = (
-    silent-new a _ (placeIn (d .frames)) t (d .labels) o (not-outside a d t h z g) q,
-    subst (λ (p : Profile). AllTold a (countLi (t .iri) (noted p t) (d .frames))) (sym (h .profile)) (told-count a (t .iri) t (d .frames) (h .told)),
-  );
-}
+begun a {d} (takes-text v e) h = still a _ h (told-changed a _ (d .frames) (h .told))
+begun a {d} (takes-xml x e) h = still a _ h (told-changed a _ (d .frames) (h .told))
+begun a {d} (copies m as′ x e c) h = still a _ h (tt, told-changed a _ (d .frames) (h .told))
+begun a {d} (opens m as′ t o z c r g q s) h =
+    let p : Place = placeIn (d .frames) in
+    record {
+      profile = h .profile;
+      rooted = refl;
+      told = (
+        silent a _ (d .mode) (o .kind) p (produced (d .mode) p t (d .labels) o q) (not-outside a d t h z g),
+        subst (λ (y : Profile). AllTold a (countLi (t .iri) (noted y t) (d .frames))) (sym (h .profile))
+            (told-count a (t .iri) t (d .frames) (h .told)),
+      );
+    }
 begun a {d} (wraps m as′ z p e c) h = absurd (no-root d (h .rooted) z e)
-begun a {d} (ends-root f fs is k) h = record { profile = h .profile; rooted = h .rooted; told = less _ f fs (d .frames) is (h .told) }
-begun a {d} (ends-wrapper f fs b is k) h = record { profile = h .profile; rooted = h .rooted; told = less _ f fs (d .frames) is (h .told) }
-begun a {d} (ends-node f fs s li is k) h = record { profile = h .profile; rooted = h .rooted; told = told-changed a _ fs (less _ f fs (d .frames) is (h .told)) }
-begun a {d} (ends-property f fs p v l ws n is k q) h = record { profile = h .profile; rooted = h .rooted; told = less _ f fs (d .frames) is (h .told) }
-begun a {d} (ends-xml f fs x is k) h = record { profile = h .profile; rooted = h .rooted; told = told-changed a _ fs (less _ f fs (d .frames) is (h .told)) }
-
--- ---- a wrapper in which something is open has had its rdf:RDF
-
-abbrev HadRdf : Kind → Type 0
-HadRdf rdfRDF = Unit {0}
-HadRdf (wrapper had) = had ≡ true
-HadRdf (nodeElement s li) = Unit {0}
-HadRdf (propertyElement p v) = Unit {0}
-HadRdf xmlElement = Unit {0}
-
-abbrev Had : List Frame → Type 0
-Had [] = Unit {0}
-Had (f ∷ fs) = All (λ g. HadRdf (g .kind)) fs
-
-had-counted : (i : Bytes) (k : Kind) → HadRdf (counted i k)
-unfolding counted
-had-counted i rdfRDF = tt
-had-counted i (wrapper had) = refl
-had-counted i (nodeElement s li) = tt
-had-counted i (propertyElement p v) = tt
-had-counted i xmlElement = tt
-
-had-count : (i : Bytes) (g : Part → Part) (fs : List Frame) → Had fs → All (λ f. HadRdf (f .kind)) (countLi i g fs)
-unfolding countLi withKind withPart
-had-count i g [] h = tt
-had-count i g (f ∷ fs) h = (had-counted i (f .kind), h)
-
-had-value : (g : Value → Value) (k : Kind) → HadRdf k → HadRdf (onValue g k)
-unfolding onValue
-had-value g rdfRDF h = tt
-had-value g (wrapper had) h = h
-had-value g (nodeElement s li) h = tt
-had-value g (propertyElement p v) h = tt
-had-value g xmlElement h = tt
-
-had-changed : (g : Value → Value) (fs : List Frame) → All (λ f. HadRdf (f .kind)) fs → All (λ f. HadRdf (f .kind)) (changeValue g fs)
-unfolding withKind
-had-changed g fs h = all-changed (λ f. HadRdf (f .kind)) g (λ f k. had-value g (f .kind) k) fs h
-
-had-behind : (g : Value → Value) (fs : List Frame) → Had fs → Had (changeValue g fs)
-unfolding changeValue if_then_else_
-had-behind g [] h = tt
-had-behind g (f ∷ fs) h = go (isXmlElement (f .kind))
-  where
-    go : (b : Bool) → Had (if b then f ∷ changeValue g fs else withKind (onValue g (f .kind)) f ∷ fs)
-    go true = had-changed g fs h
-    go false = h
-
--- all of them, where the innermost is none
-all-had : (fs : List Frame) → placeIn fs ≡ xml → Had fs → All (λ f. HadRdf (f .kind)) fs
-unfolding placeIn inKind
-all-had [] e h = tt
-all-had (f ∷ fs) e h = (go (f .kind) e, h)
-  where
-    go : (k : Kind) → inKind k ≡ xml → HadRdf k
-    go rdfRDF e = tt
-    go (wrapper had) e = let z : _≡_ {A = ℕ} 0 1 = cc in absurd (omega arith)
-    go (nodeElement s li) e = tt
-    go (propertyElement p v) e = tt
-    go xmlElement e = tt
-
-tail-had : (fs : List Frame) → All (λ f. HadRdf (f .kind)) fs → Had fs
-tail-had [] h = tt
-tail-had (f ∷ fs) h = h .1
-
-closed-had : (f : Frame) (fs gs : List Frame) → gs ≡ f ∷ fs → Had gs → All (λ g. HadRdf (g .kind)) fs
-closed-had f fs gs is h = let k : Had (f ∷ fs) = rw is at h in k
-
-had : {d d′ : Doc} {us : List Triple} → Change d us d′ → Had (d .frames) → Had (d′ .frames)
-unfolding withFrames withLabels opened wrapped
-had stays h = h
-had {d} (takes-text v e) h = had-behind _ (d .frames) h
-had {d} (takes-xml x e) h = had-behind _ (d .frames) h
-had {d} (copies m as′ x e c) h = had-changed _ (d .frames) (all-had (d .frames) e h)
-had {d} (opens m as′ t o z c r g q s) h = had-count (t .iri) _ (d .frames) h
-had {d} (wraps m as′ z p e c) h = rw e tt
-had {d} (ends-root f fs is k) h = tail-had fs (closed-had f fs (d .frames) is h)
-had {d} (ends-wrapper f fs b is k) h = tail-had fs (closed-had f fs (d .frames) is h)
-had {d} (ends-node f fs s li is k) h = had-behind _ fs (tail-had fs (closed-had f fs (d .frames) is h))
-had {d} (ends-property f fs p v l ws n is k q) h = tail-had fs (closed-had f fs (d .frames) is h)
-had {d} (ends-xml f fs x is k) h = had-behind _ fs (tail-had fs (closed-had f fs (d .frames) is h))
-
-pub always-had : (m : Mode) (b : Option Bytes) {d : Doc} {ts : List Triple} → After (fresh m b) d ts → Had (d .frames)
-unfolding fresh
-always-had m b a = always-holds (λ d. Had (d .frames)) (λ d d′ us c f k. had c k) tt a
+begun a {d} (ends-root f fs is k) h = still a fs h (all-but _ f fs (d .frames) is (h .told))
+begun a {d} (ends-wrapper f fs b is k) h = still a fs h (all-but _ f fs (d .frames) is (h .told))
+begun a {d} (ends-node f fs s li is k) h = still a _ h (told-changed a _ fs (all-but _ f fs (d .frames) is (h .told)))
+begun a {d} (ends-property f fs p v l ws n is k q) h =
+    let r : Begun a (withFrames fs d) = still a fs h (all-but _ f fs (d .frames) is (h .told)) in
+    record { profile = r .profile; rooted = r .rooted; told = r .told }
+begun a {d} (ends-xml f fs x is k) h = still a _ h (told-changed a _ fs (all-but _ f fs (d .frames) is (h .told)))
 
 -- ---- top-level elements
 
@@ -306,28 +230,33 @@ unfolding innermost placeIn inKind
 in-nodes [] e = let z : _≡_ {A = ℕ} 0 1 = cc in absurd (omega arith)
 in-nodes (f ∷ fs) e = ap inKind (Option·some-injective (f .kind) rdfRDF e)
 
-in-rdf : (fs : List Frame) → innermost fs ≡ some rdfRDF → (f : Frame) × (gs : List Frame) × (fs ≡ f ∷ gs) × (f .kind ≡ rdfRDF)
+in-rdf : (fs : List Frame) → innermost fs ≡ some rdfRDF
+    → (f : Frame) × (gs : List Frame) × (fs ≡ f ∷ gs) × (f .kind ≡ rdfRDF)
 unfolding innermost
 in-rdf [] e = let z : _≡_ {A = ℕ} 0 1 = cc in absurd (omega arith)
 in-rdf (f ∷ fs) e = (f, fs, refl, Option·some-injective (f .kind) rdfRDF e)
 
-kept-here : (k : Kind) (q : Part) (x : Option Bytes) (t : Tag) → k ≡ rdfRDF → q ≡ topLevel x → keepsKind k q t ≡ true → Kept x t
+kept-here : (k : Kind) (q : Part) (x : Option Bytes) (t : Tag) → k ≡ rdfRDF → q ≡ topLevel x → keepsKind k q t ≡ true
+    → Kept x t
 unfolding keepsKind keepsPart
 kept-here k q x t e g h = kept-top x t (rw (e, g) at h)
 
-kept-in-rdf : (f : Frame) (fs gs : List Frame) (x : Option Bytes) (t : Tag) → gs ≡ f ∷ fs → f .kind ≡ rdfRDF → f .part ≡ topLevel x → keeps XmpProfile gs t ≡ true → Kept x t
+kept-in-rdf : (f : Frame) (fs gs : List Frame) (x : Option Bytes) (t : Tag) → gs ≡ f ∷ fs → f .kind ≡ rdfRDF
+    → f .part ≡ topLevel x → keeps XmpProfile gs t ≡ true → Kept x t
 unfolding keeps keepsAround
 kept-in-rdf f fs gs x t is e g h =
     let k : (keepsKind (f .kind) (f .part) t && hasNoneOut t) ≡ true = rw is at h in
     kept-here (f .kind) (f .part) x t e g (and-left (keepsKind (f .kind) (f .part) t) (hasNoneOut t) k)
 
 -- what it remembers behind it
-remembered : (x : Option Bytes) (t : Tag) (a : Bytes) → t .about ≡ some a → (x ≡ none) ⊎ (x ≡ some a) → noted XmpProfile t (topLevel x) ≡ topLevel (some a)
+remembered : (x : Option Bytes) (t : Tag) (a : Bytes) → t .about ≡ some a → (x ≡ none) ⊎ (x ≡ some a)
+    → noted XmpProfile t (topLevel x) ≡ topLevel (some a)
 unfolding noted withChild
 remembered x t a e (inl h) = rw h (ap topLevel e)
 remembered x t a e (inr h) = rw h refl
 
-told-below : (a : Bytes) (fs : List Frame) → All (λ g. NoRdf (g .kind)) fs → All (λ g. HadRdf (g .kind)) fs → AllTold a fs
+told-below : (a : Bytes) (fs : List Frame) → All (λ g. NoRdf (g .kind)) fs → All (λ g. HadRdf (g .kind)) fs
+    → AllTold a fs
 told-below a [] h k = tt
 told-below a (f ∷ fs) h k = (go (f .kind) (h .0) (k .0), told-below a fs (h .1) (k .1))
   where
@@ -339,7 +268,8 @@ told-below a (f ∷ fs) h k = (go (f .kind) (h .0) (k .0), told-below a fs (h .1
     go xmlElement h k = tt
 
 -- the elements around it, behind it
-told-around : (a : Bytes) (i : Bytes) (t : Tag) (f : Frame) (fs gs : List Frame) → gs ≡ f ∷ fs → f .kind ≡ rdfRDF → noted XmpProfile t (f .part) ≡ topLevel (some a)
+told-around : (a : Bytes) (i : Bytes) (t : Tag) (f : Frame) (fs gs : List Frame) → gs ≡ f ∷ fs → f .kind ≡ rdfRDF
+    → noted XmpProfile t (f .part) ≡ topLevel (some a)
     → AllTold a fs → AllTold a (countLi i (noted XmpProfile t) gs)
 unfolding countLi counted withKind withPart
 told-around a i t f fs gs is e q h = rw is (go (f .kind) e, h)
@@ -347,9 +277,14 @@ told-around a i t f fs gs is e q h = rw is (go (f .kind) e, h)
     go : (k : Kind) → k ≡ rdfRDF → Told a (counted i k) (noted XmpProfile t (f .part))
     go k e = rw e q
 
+nodes-inside : nodes ≡ outside → ⊥
+nodes-inside e = let z : _≡_ {A = ℕ} 0 1 = cc in omega arith
+
 module _ {d d′ : Doc} (s : TopStart d d′) (p : d .mode .profile ≡ XmpProfile) where
   abbrev read : Started (s .name) (s .attributes) d (s .lines, d′)
-  read = always-good (Started (s .name) (s .attributes) d) (started (s .name) (s .attributes) d (in-nodes (d .frames) (s .inRdf))) (s .starts)
+  read =
+      always-good (Started (s .name) (s .attributes) d)
+      (started (s .name) (s .attributes) d (in-nodes (d .frames) (s .inRdf))) (s .starts)
 
   keeps-rules : keeps XmpProfile (d .frames) (read .tag) ≡ true
   keeps-rules = subst (λ (x : Profile). keeps x (d .frames) (read .tag) ≡ true) p (read .kept)
@@ -357,40 +292,64 @@ module _ {d d′ : Doc} (s : TopStart d d′) (p : d .mode .profile ≡ XmpProfi
   opens-named : (a : Bytes) → read .tag .about ≡ some a → innermost (d′ .frames) ≡ some (nodeElement (named a) 0)
   unfolding innermost opened
   opens-named a e =
+      let i : read .tag .id ≡ none = kept-without (d .frames) (read .tag) keeps-rules .id in
       ap (λ (x : Doc). innermost (x .frames)) (read .behind)
-      ∙ ap some (always-good (Names a) (named-node (read .tag) (d .labels) a (kept-without (d .frames) (read .tag) keeps-rules .id) e) (read .made))
+      ∙ ap some (always-good (Names a) (named-node (read .tag) (d .labels) a i e) (read .made))
 
   -- with the rdf:about that rdf:RDF has had so far
   described : (x : Option Bytes) (k : Kept x (read .tag)) → Describes (k .a) s
-  described x k = record { tag = read .tag; reads = read .reads; description = k .description; about = k .about; opens = opens-named (k .a) (k .about) }
+  described x k = record {
+    tag = read .tag;
+    reads = read .reads;
+    description = k .description;
+    about = k .about;
+    opens = opens-named (k .a) (k .about);
+  }
 
-  begins : (x : Option Bytes) (k : Kept x (read .tag)) (f : Frame) (fs : List Frame) → d .frames ≡ f ∷ fs → f .kind ≡ rdfRDF → f .part ≡ topLevel x → AllTold (k .a) fs → Begun (k .a) d′
+  begins : (x : Option Bytes) (k : Kept x (read .tag)) (f : Frame) (fs : List Frame) → d .frames ≡ f ∷ fs
+      → f .kind ≡ rdfRDF → f .part ≡ topLevel x → AllTold (k .a) fs → Begun (k .a) d′
   unfolding opened
   begins x k f fs is e q h =
+      let t : Tag = read .tag in
+      let n : noted XmpProfile t (f .part) ≡ topLevel (some (k .a))
+      = ap (noted XmpProfile t) q ∙ remembered x t (k .a) (k .about) (k .first) in
+      let new : Stands (d .mode) (read .new .kind) nodes
+      = produced (d .mode) nodes t (d .labels) (read .new) (read .made) in
       subst (Begun (k .a)) (sym (read .behind))
       (record {
         profile = p;
         rooted = refl;
         told = (
-          always-good (Silent (k .a) _) (silent-node (k .a) _ (read .tag) (d .labels)) (read .made),
-          subst (λ (y : Profile). AllTold (k .a) (countLi (read .tag .iri) (noted y (read .tag)) (d .frames))) (sym p)
-              (told-around (k .a) (read .tag .iri) (read .tag) f fs (d .frames) is e (ap (noted XmpProfile (read .tag)) q ∙ remembered x (read .tag) (k .a) (k .about) (k .first)) h),
+          silent (k .a) _ (d .mode) (read .new .kind) nodes new nodes-inside,
+          subst (λ (y : Profile). AllTold (k .a) (countLi (t .iri) (noted y t) (d .frames))) (sym p)
+              (told-around (k .a) (t .iri) t f fs (d .frames) is e n h),
         );
       })
 
 -- the first
-first-top : (b : Option Bytes) {d d′ : Doc} {ts : List Triple} → After (fresh xmpMode b) d ts → (s : TopStart d d′) → (a : Bytes) × Describes a s × Begun a d′
+first-top : (b : Option Bytes) {d d′ : Doc} {ts : List Triple} → After (fresh xmpMode b) d ts → (s : TopStart d d′)
+    → (a : Bytes) × Describes a s × Begun a d′
 first-top b {d} {d′} {ts} before s =
     let p : d .mode .profile ≡ XmpProfile = ap (λ (m : Mode). m .profile) (always-mode xmpMode b d ts before) in
     let r = in-rdf (d .frames) (s .inRdf) in
     let f : Frame = r .0 in
     let fs : List Frame = r .1 in
-    let ps : Parts XmpProfile (f ∷ fs) = subst (λ (x : Profile). Parts x (f ∷ fs)) p (subst (Parts (d .mode .profile)) (r .2) (always-parts xmpMode b d ts before)) in
-    let q : (x : Option Bytes) × (f .part ≡ topLevel x) = subst (λ (k : Kind). Remembers XmpProfile k (f .part)) (r .3) (ps .0) in
-    let k : Kept (q .0) (read s p .tag) = kept-in-rdf f fs (d .frames) (q .0) (read s p .tag) (r .2) (r .3) (q .1) (keeps-rules s p) in
+    let ps : Parts XmpProfile (f ∷ fs)
+    = subst (λ (x : Profile). Parts x (f ∷ fs)) p
+    (subst (Parts (d .mode .profile)) (r .2) (always-parts xmpMode b d ts before)) in
+    let q : (x : Option Bytes) × (f .part ≡ topLevel x)
+    = subst (λ (k : Kind). Remembers XmpProfile k (f .part)) (r .3) (ps .0) in
+    let k : Kept (q .0) (read s p .tag)
+    = kept-in-rdf f fs (d .frames) (q .0) (read s p .tag) (r .2) (r .3) (q .1) (keeps-rules s p) in
     let n : Nested (d .mode) (f ∷ fs) = subst (Nested (d .mode)) (r .2) (always-nested xmpMode b d ts before) in
     let h : All (λ g. HadRdf (g .kind)) fs = subst Had (r .2) (always-had xmpMode b before) in
-    (k .a, described s p (q .0) k, begins s p (q .0) k f fs (r .2) (r .3) (q .1) (told-below (k .a) fs (one-rdf (d .mode) f fs n (r .3)) h))
+    let t : AllTold (k .a) fs = told-below (k .a) fs (one-rdf (d .mode) f fs n (r .3)) h in
+    (k .a, described s p (q .0) k, begins s p (q .0) k f fs (r .2) (r .3) (q .1) t)
+
+-- A top-level element of a packet is rdf:Description with an rdf:about, and opens a node with it as its subject.
+pub one-described : (b : Option Bytes) {d d′ : Doc} {ts : List Triple} → After (fresh xmpMode b) d ts → (s : TopStart d d′)
+    → (a : Bytes) × Describes a s
+one-described b before s = let k = first-top b before s in (k .0, k .1)
 
 -- every later one
 later-top : (a : Bytes) {d d′ : Doc} → Begun a d → (s : TopStart d d′) → Describes a s
@@ -401,15 +360,18 @@ later-top a {d} {d′} h s =
     let fs : List Frame = r .1 in
     let ts : AllTold a (f ∷ fs) = subst (AllTold a) (r .2) (h .told) in
     let q : f .part ≡ topLevel (some a) = subst (λ (k : Kind). Told a k (f .part)) (r .3) (ts .0) in
-    let k : Kept (some a) (read s p .tag) = kept-in-rdf f fs (d .frames) (some a) (read s p .tag) (r .2) (r .3) q (keeps-rules s p) in
+    let k : Kept (some a) (read s p .tag)
+    = kept-in-rdf f fs (d .frames) (some a) (read s p .tag) (r .2) (r .3) q (keeps-rules s p) in
     subst (λ (x : Bytes). Describes x s) (go (k .a) (k .first)) (described s p (some a) k)
   where
     go : (c : Bytes) → (some a ≡ none) ⊎ (some a ≡ some c) → c ≡ a
     go c (inl e) = absurd (Option·none-ne-some a (sym e))
     go c (inr e) = sym (Option·some-injective a c e)
 
--- Any two top-level elements of a packet, one after the other, have the same rdf:about, and open nodes with the same subject.
-pub one-subject : (b : Option Bytes) {d₁ d₁′ d₂ d₂′ : Doc} {ts us : List Triple} → After (fresh xmpMode b) d₁ ts → (s₁ : TopStart d₁ d₁′) → After d₁′ d₂ us → (s₂ : TopStart d₂ d₂′)
+-- Any two top-level elements of a packet, one after the other, are rdf:Description with the same resolved rdf:about, and
+-- open nodes with it as their subject.
+pub one-subject : (b : Option Bytes) {d₁ d₁′ d₂ d₂′ : Doc} {ts us : List Triple} → After (fresh xmpMode b) d₁ ts
+    → (s₁ : TopStart d₁ d₁′) → After d₁′ d₂ us → (s₂ : TopStart d₂ d₂′)
     → (a : Bytes) × Describes a s₁ × Describes a s₂
 one-subject b before s₁ between s₂ =
     let k = first-top b before s₁ in

@@ -23,7 +23,7 @@ use Rattle.spec.specs.Nesting.{Wraps, Stands, Nested}
 use Rattle.spec.specs.Packets.{Remembers, Parts}
 use Rattle.spec.proofs.Booleans.{and-left}
 use Rattle.theorems.specs.Always.{Always, always-any, always-after, always-require, always-if, always-good}
-use Rattle.theorems.specs.Changes.{Produces, Change, stays, takes-text, takes-xml, copies, opens, wraps, ends-root, ends-wrapper, ends-node, ends-property, ends-xml, all-changed, always-holds}
+use Rattle.theorems.specs.Changes.{Produces, Change, stays, takes-text, takes-xml, copies, opens, wraps, ends-root, ends-wrapper, ends-node, ends-property, ends-xml, all-changed, all-but, always-holds}
 
 -- ---- changes to an open element
 
@@ -143,9 +143,6 @@ wrapper-ordinary : (p : Profile) (b : Bool) → Remembers p (wrapper b) ordinary
 wrapper-ordinary NoProfile b = refl
 wrapper-ordinary XmpProfile b = refl
 
-without : (p : Profile) (f : Frame) (fs gs : List Frame) → gs ≡ f ∷ fs → Parts p gs → Parts p fs
-without p f fs gs is h = let k : Parts p (f ∷ fs) = rw is at h in k .1
-
 parts : {d d′ : Doc} {us : List Triple} → Change d us d′ → Parts (d .mode .profile) (d .frames) → Parts (d′ .mode .profile) (d′ .frames)
 unfolding withFrames withLabels opened wrapped
 parts stays h = h
@@ -155,11 +152,11 @@ parts {d} (copies m as′ x e c) h = (always-ordinary (d .mode .profile), change
 parts {d} (opens m as′ t o z c r g q s) h =
     (new-remembers (d .mode .profile) (placeIn (d .frames)) t (d .labels) o (d .frames) refl g q, count-parts (d .mode .profile) (t .iri) t (d .frames) h)
 parts {d} (wraps m as′ z p e c) h = (wrapper-ordinary (d .mode .profile) false, h)
-parts {d} (ends-root f fs is k) h = without (d .mode .profile) f fs (d .frames) is h
-parts {d} (ends-wrapper f fs b is k) h = without (d .mode .profile) f fs (d .frames) is h
-parts {d} (ends-node f fs s li is k) h = change-parts (d .mode .profile) _ fs (without (d .mode .profile) f fs (d .frames) is h)
-parts {d} (ends-property f fs p v l ws n is k q) h = without (d .mode .profile) f fs (d .frames) is h
-parts {d} (ends-xml f fs x is k) h = change-parts (d .mode .profile) _ fs (without (d .mode .profile) f fs (d .frames) is h)
+parts {d} (ends-root f fs is k) h = all-but _ f fs (d .frames) is h
+parts {d} (ends-wrapper f fs b is k) h = all-but _ f fs (d .frames) is h
+parts {d} (ends-node f fs s li is k) h = change-parts (d .mode .profile) _ fs (all-but _ f fs (d .frames) is h)
+parts {d} (ends-property f fs p v l ws n is k q) h = all-but _ f fs (d .frames) is h
+parts {d} (ends-xml f fs x is k) h = change-parts (d .mode .profile) _ fs (all-but _ f fs (d .frames) is h)
 
 -- Behind every accepted event what is remembered for the profile goes by the kind of the element; in the base mode it is nothing.
 pub always-parts : (m : Mode) (b : Option Bytes) (d : Doc) (ts : List Triple) → After (fresh m b) d ts → Parts (d .mode .profile) (d .frames)
@@ -175,7 +172,7 @@ NoRdf (nodeElement s li) = Unit {0}
 NoRdf (propertyElement p v) = Unit {0}
 NoRdf xmlElement = Unit {0}
 
-wrapper-place : (p : Profile) (q : Place) → Wraps p q → q ≡ outside
+pub wrapper-place : (p : Profile) (q : Place) → Wraps p q → q ≡ outside
 wrapper-place NoProfile q h = absurd h
 wrapper-place XmpProfile q h = h
 

@@ -532,6 +532,22 @@ given-when last rest room q x (was-closed d) = refl
 given-when last rest room q x (no-event d e) = simp e
 given-when last rest room q x (no-room d b e (event, us, d′, p, n, lt)) = simp (e, p, n, lt-leb (length (write us)) room lt)
 
+-- with "no more", 1 is given only for an empty rest
+pub only-empty : (rest : Bytes) (room : ℕ) (q : State) → callStep true rest room q .answer ≡ 1 → rest ≡ []
+only-empty rest room q h = go q (given-only-when true rest room q Incomplete refl h)
+  where
+    go : (q : State) → Why true rest room q Incomplete → rest ≡ []
+    go q (no-event d e) = cut-waits rest e
+
+-- more room than enough changes nothing
+pub more-room : (last : Bool) (rest : Bytes) (room room′ : ℕ) (q : State) → room ≤ room′ → (callStep last rest room q .answer ≡ 2 → ⊥) → callStep last rest room′ q ≡ callStep last rest room q
+unfolding refusedIn refused
+more-room last rest room room′ q le h = step-room last rest room′ room q (λ z. go q (given-only-when last rest room′ q NoRoom refl z) h) h
+  where
+    go : (q : State) → Why last rest room′ q NoRoom → (callStep last rest room q .answer ≡ 2 → ⊥) → ⊥
+    go q (no-room d b e (event, us, d′, p, n, lt)) h =
+        h (ap (λ (r : Report). r .answer) (given-when last rest room q NoRoom (no-room d b e (event, us, d′, p, n, omega (arith, le, lt)))))
+
 -- ---- the answers from 8 on
 
 -- an event of an open document is refused by this number
@@ -569,21 +585,3 @@ step-refused last rest room (isOpen d) x le h = on-cut (cut last rest) h
     on-cut unended h = absurd (omega (arith, le, h))
     on-cut tooLong h = absurd (omega (arith, le, h))
     on-cut (whole b) h = on-read b (readEvent b) (event-given (λ r. r ≡ NotPyx) refl b) h
-
--- ---- further laws
-
--- with "no more", 1 is given only for an empty rest
-pub only-empty : (rest : Bytes) (room : ℕ) (q : State) → callStep true rest room q .answer ≡ 1 → rest ≡ []
-only-empty rest room q h = go q (given-only-when true rest room q Incomplete refl h)
-  where
-    go : (q : State) → Why true rest room q Incomplete → rest ≡ []
-    go q (no-event d e) = cut-waits rest e
-
--- more room than enough changes nothing
-pub more-room : (last : Bool) (rest : Bytes) (room room′ : ℕ) (q : State) → room ≤ room′ → (callStep last rest room q .answer ≡ 2 → ⊥) → callStep last rest room′ q ≡ callStep last rest room q
-unfolding refusedIn refused
-more-room last rest room room′ q le h = step-room last rest room′ room q (λ z. go q (given-only-when last rest room′ q NoRoom refl z) h) h
-  where
-    go : (q : State) → Why last rest room′ q NoRoom → (callStep last rest room q .answer ≡ 2 → ⊥) → ⊥
-    go q (no-room d b e (event, us, d′, p, n, lt)) h =
-        h (ap (λ (r : Report). r .answer) (given-when last rest room q NoRoom (no-room d b e (event, us, d′, p, n, omega (arith, le, lt)))))
