@@ -25,7 +25,8 @@ use Rattle.rio.specs.SameAsRust.{then-read, read-all}
 
 -- document 01 refuses the last of these events by this number; the Rust accepts them all, and gives these triples
 abbrev Differs : List Event → Refusal → List Triple → Type 0
-Differs es n ts = (read-all es (fresh baseMode none) .1 ≡ refuse n) × (r : RdfXmlReader) × (parse-all es (new none) ≡ (ts, Ok r))
+Differs es n ts =
+    (read-all es (fresh baseMode none) .1 ≡ refuse n) × (r : RdfXmlReader) × (parse-all es (new none) ≡ (ts, Ok r))
 
 -- an attribute, and the declarations of the prefixes rdf, e and f
 abbrev is : String → String → Attribute

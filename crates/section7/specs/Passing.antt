@@ -21,7 +21,8 @@ use Rattle.spec.specs.NTriples.{Subject}
 use Rattle.spec.specs.Opening.{Step, countsFit, modeRules, underRules, copyElement, openElement, openIn, onOpening}
 use Rattle.spec.specs.EndTag.{endValue, endKind, closeElement}
 use Rattle.spec.specs.RdfXml.{onText, onEvent, within, next}
-use Rattle.section7.specs.Reading.{limit, Unwrapped, Passes, counts, names, kept, labels, lis, cells}
+use Rattle.theorems.specs.Rules.{Unwrapped}
+use Rattle.section7.specs.Reading.{limit, Passes, counts, names, kept, labels, lis, cells}
 
 -- ---- an answer that is refused with a limit's number only for this reason
 

@@ -1,21 +1,22 @@
 -- What an accepted event does to a document, by cases: whatever each of these changes keeps holds behind every accepted event.
 use mathlib.Core.Path.{_≡_, refl, sym, _∙_, ap, subst}
-use mathlib.Core.Bool.{Bool, true, false}
+use mathlib.Core.Bool.{Bool, true, false, not}
 use mathlib.Core.Option.{Option, none}
 use mathlib.Core.List.{List, [], _∷_}
 use Prim.Native.Nat.{ℕ, _+_}
 use lib.ListN.{length}
-use Rattle.spec.specs.Bytes.{Bytes, if_then_else_}
+use borrow.Author.Tests.{not-true}
+use Rattle.spec.specs.Bytes.{Bytes, if_then_else_, All}
 use Rattle.spec.specs.Numbers.{Answer, refuse, good}
 use Rattle.spec.specs.Pyx.{Attribute, Event, opening, closing, text, instruction}
 use Rattle.spec.specs.Namespaces.{declared}
 use Rattle.spec.specs.NTriples.{Subject, Triple}
-use Rattle.spec.specs.Document.{Value, default, collection, literal, other, Property, Kind, rdfRDF, wrapper, nodeElement, propertyElement, xmlElement, ordinary, Frame, Doc, withFrames, withLabels, Place, outside, nodes, nodesOrText, xml, properties, placeIn, changeValue, fits}
+use Rattle.spec.specs.Document.{Value, default, collection, literal, other, Property, Kind, rdfRDF, wrapper, nodeElement, propertyElement, xmlElement, ordinary, Frame, Doc, withFrames, withLabels, withKind, isXmlElement, onValue, Place, outside, nodes, nodesOrText, xml, properties, placeIn, changeValue, fits}
 use Rattle.spec.specs.StartTag.{Tag, readTag, isShort}
 use Rattle.spec.specs.Productions.{Opened, openNode, openProperty, openRoot}
 use Rattle.spec.specs.XmlLiteral.{startTagXml, endTagXml, textXml, takesXml, addXml}
 use Rattle.spec.specs.Xmp.{openWrapper, wrapped, keeps}
-use Rattle.spec.specs.Opening.{Step, countsFit, opened}
+use Rattle.spec.specs.Opening.{Step, isSecondRoot, countsFit, opened}
 use Rattle.spec.specs.declared.Profile.the-variants.{XmpProfile}
 use Rattle.spec.specs.Opening as G
 use Rattle.spec.specs.EndTag.{takesNode, endValue}
@@ -23,6 +24,7 @@ use Rattle.spec.specs.EndTag as C
 use Rattle.spec.specs.RdfXml.{takesText, next}
 use Rattle.spec.specs.RdfXml as X
 use Rattle.spec.specs.Lists.{After, here, event}
+use Rattle.spec.proofs.Booleans.{and-left}
 use Rattle.theorems.specs.Always.{Always, always-bind, always-after, always-require, always-if, always-self}
 use Rattle.theorems.specs.Rules.{rules-kept, Wrapping, wrapping}
 
@@ -50,10 +52,10 @@ pub data Change (d : Doc) : List Triple → Doc → Type 0 where
   copies : (n : Bytes) (as′ : List Attribute) (x : Bytes) → placeIn (d .frames) ≡ xml → countsFit as′ (d .frames) ≡ true
       → Change d [] (withFrames (copy n as′ ∷ changeValue (takesXml x) (d .frames)) d)
   -- a start tag outside Literal content
-  opens : (n : Bytes) (as′ : List Attribute) (t : Tag) (o : Opened) → countsFit as′ (d .frames) ≡ true → readTag n as′ d ≡ good t
+  opens : (n : Bytes) (as′ : List Attribute) (t : Tag) (o : Opened) → isSecondRoot d ≡ false → countsFit as′ (d .frames) ≡ true → readTag n as′ d ≡ good t
       → keeps (d .mode .profile) (d .frames) t ≡ true → Produces (placeIn (d .frames)) t (d .labels) o → isShort t ≡ true → Change d (opened t d o .0) (opened t d o .1)
   -- the wrapper's start tag
-  wraps : (n : Bytes) (as′ : List Attribute) → d .mode .profile ≡ XmpProfile → d .frames ≡ [] → countsFit as′ (d .frames) ≡ true
+  wraps : (n : Bytes) (as′ : List Attribute) → isSecondRoot d ≡ false → d .mode .profile ≡ XmpProfile → d .frames ≡ [] → countsFit as′ (d .frames) ≡ true
       → Change d [] (wrapped n as′ d)
   -- end tags
   ends-root : (f : Frame) (fs : List Frame) → d .frames ≡ f ∷ fs → f .kind ≡ rdfRDF → Change d [] (withFrames fs d)
@@ -66,32 +68,46 @@ pub data Change (d : Doc) : List Triple → Doc → Type 0 where
   ends-xml : (f : Frame) (fs : List Frame) (x : Bytes) → d .frames ≡ f ∷ fs → f .kind ≡ xmlElement
       → Change d [] (withFrames (changeValue (takesXml x) fs) d)
 
+-- what is kept by a change of value is kept of every open element
+pub all-changed : (P : Frame → Type 0) (g : Value → Value) → ((f : Frame) → P f → P (withKind (onValue g (f .kind)) f)) → (fs : List Frame) → All P fs → All P (changeValue g fs)
+unfolding changeValue if_then_else_
+all-changed P g keep [] h = tt
+all-changed P g keep (f ∷ fs) h = go (isXmlElement (f .kind)) (all-changed P g keep fs (h .1))
+  where
+    go : (b : Bool) → All P (changeValue g fs) → All P (if b then f ∷ changeValue g fs else withKind (onValue g (f .kind)) f ∷ fs)
+    go true k = (h .0, k)
+    go false k = (keep f (h .0), h .1)
+
+-- and of all but the one that closes
+pub all-but : (P : Frame → Type 0) (f : Frame) (fs gs : List Frame) → gs ≡ f ∷ fs → All P gs → All P fs
+all-but P f fs gs is h = let k : All P (f ∷ fs) = rw is at h in k .1
+
 abbrev Changes : Doc → Step → Type 0
 Changes d s = Change d (s .0) (s .1)
 
 -- ---- start tags
 
-open-element : (production : Tag → ℕ → Answer Opened) (n : Bytes) (as′ : List Attribute) (d : Doc) → countsFit as′ (d .frames) ≡ true
+open-element : (production : Tag → ℕ → Answer Opened) (n : Bytes) (as′ : List Attribute) (d : Doc) → isSecondRoot d ≡ false → countsFit as′ (d .frames) ≡ true
     → ((t : Tag) (o : Opened) → production t (d .labels) ≡ good o → Produces (placeIn (d .frames)) t (d .labels) o) → Always (Changes d) (G.openElement production n as′ d)
 unfolding G.openElement
-open-element production n as′ d c k =
+open-element production n as′ d z c k =
     always-bind (λ t. readTag n as′ d ≡ good t) (Changes d) _ _ (always-self (readTag n as′ d)) λ t r.
     always-bind (λ o. (production t (d .labels) ≡ good o) × (keeps (d .mode .profile) (d .frames) t ≡ true)) (Changes d) _ _ (rules-kept (d .mode) (d .frames) t (production t (d .labels))) λ o q.
-    always-require (Changes d) _ _ _ λ s. opens n as′ t o c r (q .1) (k t o (q .0)) s
+    always-require (Changes d) _ _ _ λ s. opens n as′ t o z c r (q .1) (k t o (q .0)) s
 
-open-in : (p : Place) (n : Bytes) (as′ : List Attribute) (d : Doc) → placeIn (d .frames) ≡ p → countsFit as′ (d .frames) ≡ true → Always (Changes d) (G.openIn p n as′ d)
+open-in : (p : Place) (n : Bytes) (as′ : List Attribute) (d : Doc) → placeIn (d .frames) ≡ p → isSecondRoot d ≡ false → countsFit as′ (d .frames) ≡ true → Always (Changes d) (G.openIn p n as′ d)
 unfolding G.openIn G.copyElement openWrapper withFrames addXml
-open-in outside n as′ d e c =
-    always-if (Changes d) _ _ _ (λ w. always-after (Changes d) _ _ (always-after (Changes d) _ _ (let u : Wrapping (d .mode .profile) n as′ (d .frames) = wrapping (d .mode .profile) n as′ (d .frames) w in wraps n as′ (u .profile) (u .outermost) c)))
-    λ w. open-element openRoot n as′ d c λ t o q. rw e q
-open-in nodes n as′ d e c = open-element openNode n as′ d c λ t o q. rw e q
-open-in nodesOrText n as′ d e c = open-element openNode n as′ d c λ t o q. rw e q
-open-in (properties s li) n as′ d e c = open-element (λ t. openProperty t s li) n as′ d c λ t o q. rw e q
-open-in xml n as′ d e c = always-require (Changes d) _ _ _ λ k. always-after (Changes d) _ _ (copies n as′ (startTagXml n as′) e c)
+open-in outside n as′ d e z c =
+    always-if (Changes d) _ _ _ (λ w. always-after (Changes d) _ _ (always-after (Changes d) _ _ (let u : Wrapping (d .mode .profile) n as′ (d .frames) = wrapping (d .mode .profile) n as′ (d .frames) w in wraps n as′ z (u .profile) (u .outermost) c)))
+    λ w. open-element openRoot n as′ d z c λ t o q. rw e q
+open-in nodes n as′ d e z c = open-element openNode n as′ d z c λ t o q. rw e q
+open-in nodesOrText n as′ d e z c = open-element openNode n as′ d z c λ t o q. rw e q
+open-in (properties s li) n as′ d e z c = open-element (λ t. openProperty t s li) n as′ d z c λ t o q. rw e q
+open-in xml n as′ d e z c = always-require (Changes d) _ _ _ λ k. always-after (Changes d) _ _ (copies n as′ (startTagXml n as′) e c)
 
 on-opening : (n : Bytes) (as′ : List Attribute) (d : Doc) → Always (Changes d) (G.onOpening n as′ d)
 unfolding G.onOpening
-on-opening n as′ d = always-require (Changes d) _ _ _ λ a. always-require (Changes d) _ _ _ λ c. open-in (placeIn (d .frames)) n as′ d refl c
+on-opening n as′ d = always-require (Changes d) _ _ _ λ a. always-require (Changes d) _ _ _ λ c. open-in (placeIn (d .frames)) n as′ d refl (not-true (isSecondRoot d) (and-left (not (isSecondRoot d)) _ a)) c
 
 -- ---- end tags
 

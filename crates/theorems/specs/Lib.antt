@@ -40,8 +40,13 @@ pub mod Languages
 pub mod Changes
 pub mod Limits
 pub mod Nesting
+-- ---- document 02, request 1: packets
 pub mod Packets
 pub mod Parts
+pub mod NoneOut
+pub mod ModeRefusals
+pub mod HadRdf
+pub mod OneSubject
 -- ---- lines
 pub mod NodeLabels
 -- ---- all that is written is N-Triples

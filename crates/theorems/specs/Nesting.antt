@@ -191,7 +191,7 @@ text-still s other = refl
 
 -- ---- every change that an event can make
 
-produced : (m : Mode) (p : Place) (t : Tag) (n : ℕ) (o : Opened) → Produces p t n o → Stands m (o .kind) p
+pub produced : (m : Mode) (p : Place) (t : Tag) (n : ℕ) (o : Opened) → Produces p t n o → Stands m (o .kind) p
 unfolding isXml
 produced m outside t n o q = always-good (Opens m outside) (open-root m t n) q
 produced m nodes t n o q = always-good (Opens m nodes) (open-node m nodes t n refl) q
@@ -215,9 +215,9 @@ nested stays h = h
 nested {d} (takes-text v e) h = change-nested (d .mode) (X.takesText v) (d .frames) (text-still v) h
 nested {d} (takes-xml x e) h = change-nested (d .mode) (takesXml x) (d .frames) (xml-still x) h
 nested {d} (copies m as′ x e c) h = (still-place (takesXml x) (d .frames) (xml-still x) ∙ e, change-nested (d .mode) (takesXml x) (d .frames) (xml-still x) h)
-nested {d} (opens m as′ t o c r g q s) h =
+nested {d} (opens m as′ t o z c r g q s) h =
     (stands-in-counted (d .mode) (o .kind) (t .iri) _ (d .frames) (produced (d .mode) (placeIn (d .frames)) t (d .labels) o q), count-nested (d .mode) (t .iri) _ (d .frames) h)
-nested {d} (wraps m as′ p e c) h = (wraps-in (d .mode .profile) (d .frames) p e, h)
+nested {d} (wraps m as′ z p e c) h = (wraps-in (d .mode .profile) (d .frames) p e, h)
 nested {d} (ends-root f fs is k) h = without (d .mode) f fs (d .frames) is h
 nested {d} (ends-wrapper f fs b is k) h = without (d .mode) f fs (d .frames) is h
 nested {d} (ends-node f fs s li is k) h = change-nested (d .mode) (C.takesNode s) fs (node-still s) (without (d .mode) f fs (d .frames) is h)
@@ -236,8 +236,8 @@ mode-kept stays = refl
 mode-kept (takes-text v e) = refl
 mode-kept (takes-xml x e) = refl
 mode-kept (copies m as′ x e c) = refl
-mode-kept (opens m as′ t o c r g q s) = refl
-mode-kept (wraps m as′ p e c) = refl
+mode-kept (opens m as′ t o z c r g q s) = refl
+mode-kept (wraps m as′ z p e c) = refl
 mode-kept (ends-root f fs is k) = refl
 mode-kept (ends-wrapper f fs b is k) = refl
 mode-kept (ends-node f fs s li is k) = refl

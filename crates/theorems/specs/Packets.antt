@@ -3,11 +3,11 @@ use mathlib.Core.Path.{_≡_, refl, sym, _∙_, ap, subst}
 use mathlib.Core.Bool.{Bool, true, false, _&&_, not, true≢false}
 use mathlib.Core.Option.{Option}
 use mathlib.Core.List.{List, [], _∷_, _++_, map}
-use Prim.Native.Nat.{ℕ, suc, _+_}
+use Prim.Native.Nat.{ℕ, suc}
 use native.Mathlib.Omega.{arith}
 use lib.Dec.{eqb}
 use lib.ListN.{length}
-use Rattle.spec.specs.Bytes.{Bytes, if_then_else_, isEmpty, total, _>>=_, _>>_, require_or_, same}
+use Rattle.spec.specs.Bytes.{Bytes, if_then_else_, isEmpty, total, _>>=_, _>>_, require_or_}
 use Rattle.spec.specs.Numbers.{number, Answer, refuse, good}
 use Rattle.spec.specs.declared.Refusal.{Refusal}
 use Rattle.spec.specs.declared.Refusal.the-variants.{NotWellFormed, OverLimit, NoNamespace, Reserved, StrayText, EmptyLiteral, LabelsSpent, ProfileBroken}
@@ -33,7 +33,7 @@ use Rattle.spec.specs.Calls.{State, isOpen, isClosed, unlawful}
 use Rattle.theorems.specs.Frames.{always-next}
 use Rattle.theorems.specs.Calls.{Steps, Holds, written, always-lawful}
 use Rattle.theorems.specs.Changes.{Change, stays, takes-text, takes-xml, copies, opens, wraps, ends-root, ends-wrapper, ends-node, ends-property, ends-xml, always-holds}
-use Rattle.theorems.specs.Rules.{Wrapping, wrapping, no-rules, no-wrapper}
+use Rattle.theorems.specs.Rules.{Wrapping, wrapping, no-rules, no-wrapper, Unwrapped}
 
 -- ---- nothing but the profile asks what is remembered for it
 
@@ -232,14 +232,7 @@ on-text xml s d = ap (λ (x : Doc). good ([], x)) (changed (X.takesXml (X.textXm
 
 -- ---- one event
 
--- it does not open the wrapper
-abbrev NoWrapper : Event → Doc → Type 0
-NoWrapper (opening n as′) d = startsWrapper (d .mode .profile) n as′ (d .frames) ≡ false
-NoWrapper (closing n) d = Unit {0}
-NoWrapper (text s) d = Unit {0}
-NoWrapper instruction d = Unit {0}
-
-on-event : (e : Event) (d : Doc) → NoWrapper e d → Follows (onEvent e d) (onEvent e (inBase d))
+on-event : (e : Event) (d : Doc) → Unwrapped e d → Follows (onEvent e d) (onEvent e (inBase d))
 unfolding onEvent
 on-event (opening n as′) d w = on-opening n as′ d w
 on-event (closing n) d w = unfold inBase in close-element n (d .frames) d
@@ -253,7 +246,7 @@ within-limits (good s) a₀ h = rw h (follows-require (fits (s .1)) (fits (inBas
 
 -- An event that is accepted, in whatever mode, and does not open the wrapper, is accepted by the base, with the same lines, and leads to the same
 -- document.
-pub event-as-base : (e : Event) (d d′ : Doc) (us : List Triple) → NoWrapper e d → next e d ≡ good (us, d′) → next e (inBase d) ≡ good (us, inBase d′)
+pub event-as-base : (e : Event) (d d′ : Doc) (us : List Triple) → Unwrapped e d → next e d ≡ good (us, d′) → next e (inBase d) ≡ good (us, inBase d′)
 unfolding next
 event-as-base e d d′ us w q = subst (λ (a : Answer Step). Follows a (next e (inBase d))) q (within-limits (onEvent e d) (onEvent e (inBase d)) (on-event e d w))
 
@@ -271,8 +264,8 @@ rooted-kept stays h = h
 rooted-kept (takes-text v e) h = h
 rooted-kept (takes-xml x e) h = h
 rooted-kept (copies m as′ x e c) h = h
-rooted-kept (opens m as′ t o c r g q s) h = refl
-rooted-kept (wraps m as′ p e c) h = refl
+rooted-kept (opens m as′ t o z c r g q s) h = refl
+rooted-kept (wraps m as′ z p e c) h = refl
 rooted-kept (ends-root f fs is k) h = h
 rooted-kept (ends-wrapper f fs b is k) h = h
 rooted-kept (ends-node f fs s li is k) h = h
@@ -293,7 +286,7 @@ not-second n as′ d =
     (always-require (λ s. isSecondRoot d ≡ false) _ _ _ λ e. always-fact (isSecondRoot d ≡ false) ((require countsFit as′ (d .frames) or OverLimit) >> openIn (placeIn (d .frames)) n as′ d) (not-true (isSecondRoot d) (and-left (not (isSecondRoot d)) _ e)))
 
 -- behind a root no wrapper opens
-no-second-wrapper : (e : Event) (d d′ : Doc) (us : List Triple) → next e d ≡ good (us, d′) → d .rooted ≡ true → NoWrapper e d
+no-second-wrapper : (e : Event) (d d′ : Doc) (us : List Triple) → next e d ≡ good (us, d′) → d .rooted ≡ true → Unwrapped e d
 unfolding isSecondRoot
 no-second-wrapper (opening n as′) d d′ us q h = go (startsWrapper (d .mode .profile) n as′ (d .frames)) refl
   where
@@ -404,6 +397,11 @@ module _ (b : Option Bytes) where
 -- with a wrapper, from the same start base inside an element with the wrapper's bindings, for the events behind the wrapper's start tag.
 pub packets : (b : Option Bytes) {d : Doc} {ts : List Triple} → After (fresh xmpMode b) d ts → Packet b d ts
 packets b a = is-packet b (progress b a)
+
+-- The wrapper "takes no label": behind its start tag the base has generated none, as at a start, and then as many as the packet.
+pub labels-as-base : (b : Option Bytes) (n : Bytes) (as′ : List Attribute) (d : Doc) → (inBase (wrapped n as′ (fresh xmpMode b)) .labels ≡ 0) × (inBase d .labels ≡ d .labels)
+unfolding inBase wrapped fresh
+labels-as-base b n as′ d = (refl, refl)
 
 -- So with the bytes, whatever pieces and room the steps of a document in the profile are given: what they wrote is those lines.
 pub packets-written : (b : Option Bytes) (t : State) (w : Bytes) → Steps xmpMode b t w → Holds (Packet b) t w

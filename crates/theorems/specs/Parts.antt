@@ -1,6 +1,6 @@
 -- Document 02, request 1: what the profile remembers of the open elements, behind each accepted event; and that at most one rdf:RDF is open.
 use mathlib.Core.Path.{_≡_, refl, sym, _∙_, subst}
-use mathlib.Core.Logic.{_⊎_, inl, inr}
+use mathlib.Core.Logic.{inl, inr}
 use mathlib.Core.Bool.{Bool, true, false, not, true≢false}
 use mathlib.Core.Option.{Option, none, some}
 use mathlib.Core.List.{List, [], _∷_}
@@ -12,7 +12,7 @@ use Rattle.spec.specs.declared.Mode.{Mode}
 use Rattle.spec.specs.declared.Profile.{Profile}
 use Rattle.spec.specs.declared.Profile.the-variants.{NoProfile, XmpProfile}
 use Rattle.spec.specs.NTriples.{Subject, Triple}
-use Rattle.spec.specs.Document.{Value, default, collection, literal, other, Property, Kind, rdfRDF, wrapper, nodeElement, propertyElement, xmlElement, Part, ordinary, topLevel, alternatives, Frame, Doc, fresh, withFrames, withLabels, withKind, withPart, Place, outside, nodes, nodesOrText, xml, properties, inValue, inKind, placeIn, changeValue, onValue, isXmlElement}
+use Rattle.spec.specs.Document.{Value, default, collection, literal, other, Property, Kind, rdfRDF, wrapper, nodeElement, propertyElement, xmlElement, Part, ordinary, topLevel, alternatives, Frame, Doc, fresh, withFrames, withLabels, withKind, withPart, Place, outside, nodes, nodesOrText, xml, properties, inValue, inKind, placeIn, changeValue, onValue}
 use Rattle.spec.specs.StartTag.{Tag}
 use Rattle.spec.specs.Productions.{Opened, openNode, openProperty, openRoot, ParseType, noParseType, asCollection, asResource, asLiteral, asOther}
 use Rattle.spec.specs.Productions as O
@@ -23,7 +23,7 @@ use Rattle.spec.specs.Nesting.{Wraps, Stands, Nested}
 use Rattle.spec.specs.Packets.{Remembers, Parts}
 use Rattle.spec.proofs.Booleans.{and-left}
 use Rattle.theorems.specs.Always.{Always, always-any, always-after, always-require, always-if, always-good}
-use Rattle.theorems.specs.Changes.{Produces, Change, stays, takes-text, takes-xml, copies, opens, wraps, ends-root, ends-wrapper, ends-node, ends-property, ends-xml, always-holds}
+use Rattle.theorems.specs.Changes.{Produces, Change, stays, takes-text, takes-xml, copies, opens, wraps, ends-root, ends-wrapper, ends-node, ends-property, ends-xml, all-changed, all-but, always-holds}
 
 -- ---- changes to an open element
 
@@ -79,13 +79,8 @@ count-parts p i t [] h = tt
 count-parts p i t (f ∷ fs) h = (noted-remembers p t (counted i (f .kind)) (f .part) (counted-remembers p i (f .kind) (f .part) (h .0)), h .1)
 
 change-parts : (p : Profile) (g : Value → Value) (fs : List Frame) → Parts p fs → Parts p (changeValue g fs)
-unfolding changeValue withKind if_then_else_
-change-parts p g [] h = tt
-change-parts p g (f ∷ fs) h = go (isXmlElement (f .kind)) (change-parts p g fs (h .1))
-  where
-    go : (b : Bool) → Parts p (changeValue g fs) → Parts p (if b then f ∷ changeValue g fs else withKind (onValue g (f .kind)) f ∷ fs)
-    go true k = (h .0, k)
-    go false k = (value-remembers p g (f .kind) (f .part) (h .0), h .1)
+unfolding withKind
+change-parts p g fs h = all-changed (λ f. Remembers p (f .kind) (f .part)) g (λ f k. value-remembers p g (f .kind) (f .part) k) fs h
 
 -- ---- a new element
 
@@ -148,23 +143,20 @@ wrapper-ordinary : (p : Profile) (b : Bool) → Remembers p (wrapper b) ordinary
 wrapper-ordinary NoProfile b = refl
 wrapper-ordinary XmpProfile b = refl
 
-without : (p : Profile) (f : Frame) (fs gs : List Frame) → gs ≡ f ∷ fs → Parts p gs → Parts p fs
-without p f fs gs is h = let k : Parts p (f ∷ fs) = rw is at h in k .1
-
 parts : {d d′ : Doc} {us : List Triple} → Change d us d′ → Parts (d .mode .profile) (d .frames) → Parts (d′ .mode .profile) (d′ .frames)
 unfolding withFrames withLabels opened wrapped
 parts stays h = h
 parts {d} (takes-text v e) h = change-parts (d .mode .profile) _ (d .frames) h
 parts {d} (takes-xml x e) h = change-parts (d .mode .profile) _ (d .frames) h
 parts {d} (copies m as′ x e c) h = (always-ordinary (d .mode .profile), change-parts (d .mode .profile) _ (d .frames) h)
-parts {d} (opens m as′ t o c r g q s) h =
+parts {d} (opens m as′ t o z c r g q s) h =
     (new-remembers (d .mode .profile) (placeIn (d .frames)) t (d .labels) o (d .frames) refl g q, count-parts (d .mode .profile) (t .iri) t (d .frames) h)
-parts {d} (wraps m as′ p e c) h = (wrapper-ordinary (d .mode .profile) false, h)
-parts {d} (ends-root f fs is k) h = without (d .mode .profile) f fs (d .frames) is h
-parts {d} (ends-wrapper f fs b is k) h = without (d .mode .profile) f fs (d .frames) is h
-parts {d} (ends-node f fs s li is k) h = change-parts (d .mode .profile) _ fs (without (d .mode .profile) f fs (d .frames) is h)
-parts {d} (ends-property f fs p v l ws n is k q) h = without (d .mode .profile) f fs (d .frames) is h
-parts {d} (ends-xml f fs x is k) h = change-parts (d .mode .profile) _ fs (without (d .mode .profile) f fs (d .frames) is h)
+parts {d} (wraps m as′ z p e c) h = (wrapper-ordinary (d .mode .profile) false, h)
+parts {d} (ends-root f fs is k) h = all-but _ f fs (d .frames) is h
+parts {d} (ends-wrapper f fs b is k) h = all-but _ f fs (d .frames) is h
+parts {d} (ends-node f fs s li is k) h = change-parts (d .mode .profile) _ fs (all-but _ f fs (d .frames) is h)
+parts {d} (ends-property f fs p v l ws n is k q) h = all-but _ f fs (d .frames) is h
+parts {d} (ends-xml f fs x is k) h = change-parts (d .mode .profile) _ fs (all-but _ f fs (d .frames) is h)
 
 -- Behind every accepted event what is remembered for the profile goes by the kind of the element; in the base mode it is nothing.
 pub always-parts : (m : Mode) (b : Option Bytes) (d : Doc) (ts : List Triple) → After (fresh m b) d ts → Parts (d .mode .profile) (d .frames)
@@ -180,7 +172,7 @@ NoRdf (nodeElement s li) = Unit {0}
 NoRdf (propertyElement p v) = Unit {0}
 NoRdf xmlElement = Unit {0}
 
-wrapper-place : (p : Profile) (q : Place) → Wraps p q → q ≡ outside
+pub wrapper-place : (p : Profile) (q : Place) → Wraps p q → q ≡ outside
 wrapper-place NoProfile q h = absurd h
 wrapper-place XmpProfile q h = h
 

@@ -93,40 +93,45 @@ Closing m = Given Closes m
 
 -- ---- lines
 
-escaped : (c : ℕ) → Closing (P.escaped c)
-unfolding P.escaped
-escaped c = on-if Closes _ _ _ tt (on-if Closes _ _ _ tt (on-if Closes _ _ _ tt refl))
+module _ (Q : Refusal → Type 0) (five : Q NotPyx) where
+  escaped : (c : ℕ) → Given Q (P.escaped c)
+  unfolding P.escaped
+  escaped c = on-if Q _ _ _ tt (on-if Q _ _ _ tt (on-if Q _ _ _ tt five))
 
-unescape : (s : Bytes) → Closing (P.unescape s)
-unfolding P.unescape
-unescape [] = tt
-unescape (c ∷ []) = on-if Closes _ _ _ refl tt
-unescape (c ∷ d ∷ s) = go (eqb c (byte "\\")) (unescape s) (unescape (d ∷ s))
-  where
-    go : (b : Bool) → Closing (P.unescape s) → Closing (P.unescape (d ∷ s))
-        → Closing {A = Bytes} (elim b [ true ↦ P.escaped d >>= λ e. P.unescape s >>= λ t. good (e ∷ t) | false ↦ P.unescape (d ∷ s) >>= λ t. good (c ∷ t) ])
-    go true h k = on-bind Closes _ _ (escaped d) λ e. on-bind Closes _ _ h λ t. tt
-    go false h k = on-bind Closes _ _ k λ t. tt
+  unescape : (s : Bytes) → Given Q (P.unescape s)
+  unfolding P.unescape
+  unescape [] = tt
+  unescape (c ∷ []) = on-if Q _ _ _ five tt
+  unescape (c ∷ d ∷ s) = go (eqb c (byte "\\")) (unescape s) (unescape (d ∷ s))
+    where
+      go : (b : Bool) → Given Q (P.unescape s) → Given Q (P.unescape (d ∷ s))
+          → Given {A = Bytes} Q (elim b [ true ↦ P.escaped d >>= λ e. P.unescape s >>= λ t. good (e ∷ t) | false ↦ P.unescape (d ∷ s) >>= λ t. good (c ∷ t) ])
+      go true h k = on-bind Q _ _ (escaped d) λ e. on-bind Q _ _ h λ t. tt
+      go false h k = on-bind Q _ _ k λ t. tt
 
-name : (s : Bytes) → Closing (P.name s)
-unfolding P.name
-name s = on-require Closes _ _ _ refl tt
+  name : (s : Bytes) → Given Q (P.name s)
+  unfolding P.name
+  name s = on-require Q _ _ _ five tt
 
-attribute-line : (l : Bytes) → Closing (P.readAttribute l)
-unfolding P.readAttribute
-attribute-line l = on-bind Closes _ _ (name _) λ n. on-require Closes _ _ _ refl (on-bind Closes _ _ (unescape _) λ v. tt)
+  attribute-line : (l : Bytes) → Given Q (P.readAttribute l)
+  unfolding P.readAttribute
+  attribute-line l = on-bind Q _ _ (name _) λ n. on-require Q _ _ _ five (on-bind Q _ _ (unescape _) λ v. tt)
 
-event-lines : (ls : List Bytes) → Closing (P.readLines ls)
-unfolding P.readLines P.readOpening P.readClosing P.readText
-event-lines [] = refl
-event-lines (l ∷ ls) =
-    on-if Closes _ _ _ (on-bind Closes _ _ (name _) λ n. on-bind Closes _ _ (on-each Closes P.readAttribute ls attribute-line) λ as′. tt)
-    (on-if Closes _ _ _ (on-bind Closes _ _ (name _) λ n. tt)
-    (on-if Closes _ _ _ (on-bind Closes _ _ (on-each Closes _ (l ∷ ls) λ x. unescape _) λ ts. tt) (on-if Closes _ _ _ tt refl)))
+  event-lines : (ls : List Bytes) → Given Q (P.readLines ls)
+  unfolding P.readLines P.readOpening P.readClosing P.readText
+  event-lines [] = five
+  event-lines (l ∷ ls) =
+      on-if Q _ _ _ (on-bind Q _ _ (name _) λ n. on-bind Q _ _ (on-each Q P.readAttribute ls attribute-line) λ as′. tt)
+      (on-if Q _ _ _ (on-bind Q _ _ (name _) λ n. tt)
+      (on-if Q _ _ _ (on-bind Q _ _ (on-each Q _ (l ∷ ls) λ x. unescape _) λ ts. tt) (on-if Q _ _ _ tt five)))
+
+  -- the bytes of an event are refused by 5 alone
+  pub event-given : (s : Bytes) → Given Q (readEvent s)
+  unfolding readEvent
+  event-given s = on-require Q _ _ _ five (event-lines _)
 
 pub event-closing : (s : Bytes) → Closing (readEvent s)
-unfolding readEvent
-event-closing s = on-require Closes _ _ _ refl (event-lines _)
+event-closing s = event-given Closes refl s
 
 -- ---- 6, and what comes behind it
 
@@ -376,6 +381,48 @@ next-closing e d = next-given Closes d all-close e λ h. refl
       nineteen = λ h. refl;
     }
 
+-- 12, 17 and 19 only where the document has what they need
+abbrev pub Needs : Doc → Refusal → Type 0
+Needs d Incomplete = Unit {0}
+Needs d NoRoom = Unit {0}
+Needs d BadState = Unit {0}
+Needs d Closed = Unit {0}
+Needs d NotPyx = Unit {0}
+Needs d NotWellFormed = Unit {0}
+Needs d OverLimit = Unit {0}
+Needs d NoNamespace = Unit {0}
+Needs d NotNcName = Unit {0}
+Needs d BadLanguage = Unit {0}
+Needs d BadIri = Unit {0}
+Needs d RepeatedId = HasIds d
+Needs d BadLabel = Unit {0}
+Needs d Reserved = Unit {0}
+Needs d TwoNames = Unit {0}
+Needs d StrayText = Unit {0}
+Needs d EmptyLiteral = InLiteral d
+Needs d LabelsSpent = Unit {0}
+Needs d ProfileBroken = HasRules d
+
+pub refused-needs : (e : Event) (d : Doc) (r : Refusal) → next e d ≡ refuse r → Needs d r
+refused-needs e d r h = subst (λ (a : Answer (List Triple × Doc)). Given (Needs d) a) h (next-given (Needs d) d needs e λ k. tt)
+  where
+    needs : Behind (Needs d) d
+    needs = record {
+      seven = tt;
+      eight = tt;
+      nine = tt;
+      ten = tt;
+      eleven = tt;
+      twelve = λ k. k;
+      thirteen = tt;
+      fourteen = tt;
+      fifteen = tt;
+      sixteen = tt;
+      seventeen = λ k. k;
+      eighteen = tt;
+      nineteen = λ k. k;
+    }
+
 -- by 1 to 5 never, and by 6 only where it is not well-formed
 abbrev AboveSix : Event → Doc → Refusal → Type 0
 AboveSix e d r = (leb (number r) 6 ≡ false) ⊎ ((r ≡ NotWellFormed) × (wellFormed e d ≡ false))
@@ -500,3 +547,41 @@ more-room last rest room room′ q le h = step-room last rest room′ room q (λ
     go : (q : State) → Why last rest room′ q NoRoom → (callStep last rest room q .answer ≡ 2 → ⊥) → ⊥
     go q (no-room d b e (event, us, d′, p, n, lt)) h =
         h (ap (λ (r : Report). r .answer) (given-when last rest room q NoRoom (no-room d b e (event, us, d′, p, n, omega (arith, le, lt)))))
+
+-- ---- the answers from 8 on
+
+-- an event of an open document is refused by this number
+abbrev pub EventRefused : State → Refusal → Type 0
+EventRefused (isOpen d) x = (e : Event) × (next e d ≡ refuse x)
+EventRefused (isClosed d) x = ⊥
+EventRefused unlawful x = ⊥
+
+-- an event that is accepted, if its lines fit
+abbrev inRoom : Bytes → Bool → List Triple × Doc → Answer Accepted
+inRoom b f s = (require f or NoRoom) >> good (record { size = length b; lines = write (s .0); behind = s .1 })
+
+-- a step gives them only for an event itself
+pub step-refused : (last : Bool) (rest : Bytes) (room : ℕ) (q : State) (x : Refusal) → 8 ≤ number x → callStep last rest room q .answer ≡ number x
+    → EventRefused q x
+unfolding callStep stepped firstEvent accept refusedIn refused _>>=_ _>>_ require_or_
+step-refused last rest room unlawful x le h = omega (arith, le, h)
+step-refused last rest room (isClosed d) x le h = omega (arith, le, h)
+step-refused last rest room (isOpen d) x le h = on-cut (cut last rest) h
+  where
+    on-room : (b : Bytes) (s : List Triple × Doc) (f : Bool) → stepped d (inRoom b f s) .answer ≡ number x → ⊥
+    on-room b s true h = omega (arith, le, h)
+    on-room b s false h = omega (arith, le, h)
+
+    on-next : (b : Bytes) (e : Event) (a : Answer (List Triple × Doc)) → next e d ≡ a → stepped d (a >>= λ s. inRoom b (leb (length (write (s .0))) room) s) .answer ≡ number x → EventRefused (isOpen d) x
+    on-next b e (refuse r) q h = (e, q ∙ ap refuse (number-injective r x h))
+    on-next b e (good s) q h = absurd (on-room b s (leb (length (write (s .0))) room) h)
+
+    on-read : (b : Bytes) (a : Answer Event) → Given (λ r. r ≡ NotPyx) a → stepped d (a >>= λ e. next e d >>= λ s. inRoom b (leb (length (write (s .0))) room) s) .answer ≡ number x → EventRefused (isOpen d) x
+    on-read b (refuse r) k h = absurd (let z : number NotPyx ≡ number x = sym (ap number k) ∙ h in omega (arith, le, z))
+    on-read b (good e) k h = on-next b e (next e d) refl h
+
+    on-cut : (c : Cut) → stepped d (firstEvent c >>= λ bytes. accept bytes room d) .answer ≡ number x → EventRefused (isOpen d) x
+    on-cut wait h = absurd (omega (arith, le, h))
+    on-cut unended h = absurd (omega (arith, le, h))
+    on-cut tooLong h = absurd (omega (arith, le, h))
+    on-cut (whole b) h = on-read b (readEvent b) (event-given (λ r. r ≡ NotPyx) refl b) h

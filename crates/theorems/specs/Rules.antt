@@ -10,9 +10,9 @@ use Rattle.spec.specs.declared.Mode.{Mode}
 use Rattle.spec.specs.declared.Profile.{Profile}
 use Rattle.spec.specs.declared.Profile.the-variants.{NoProfile, XmpProfile}
 use Rattle.spec.specs.Modes.{baseMode}
-use Rattle.spec.specs.Pyx.{Attribute}
+use Rattle.spec.specs.Pyx.{Attribute, Event, opening, closing, text, instruction}
 use Rattle.spec.specs.Namespaces.{declared, expandElement}
-use Rattle.spec.specs.Document.{Frame, inScope}
+use Rattle.spec.specs.Document.{Frame, Doc, inScope}
 use Rattle.spec.specs.StartTag.{Tag}
 use Rattle.spec.specs.Productions.{Opened}
 use Rattle.spec.specs.Xmp.{namesWrapper, startsWrapper, keeps}
@@ -76,3 +76,10 @@ no-rules m fs t a e = rw e
 pub no-wrapper : (m : Mode) (n : Bytes) (as′ : List Attribute) (fs : List Frame) → m ≡ baseMode → startsWrapper (m .profile) n as′ fs ≡ false
 unfolding startsWrapper
 no-wrapper m n as′ fs e = rw e
+
+-- an event that does not open the wrapper, as none does in the base mode
+abbrev pub Unwrapped : Event → Doc → Type 0
+Unwrapped (opening n as′) d = startsWrapper (d .mode .profile) n as′ (d .frames) ≡ false
+Unwrapped (closing n) d = Unit {0}
+Unwrapped (text s) d = Unit {0}
+Unwrapped instruction d = Unit {0}
