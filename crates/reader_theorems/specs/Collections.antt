@@ -10,7 +10,7 @@ use Rattle.spec.specs.Bytes.{Bytes, if_then_else_}
 use Rattle.spec.specs.Numbers.{good}
 use Rattle.spec.specs.Pyx.{Event, opening, closing, text, instruction}
 use Rattle.spec.specs.NTriples.{Subject, Triple}
-use Rattle.spec.specs.Document.{Value, default, collection, literal, other, Property, Kind, rdfRDF, wrapper, nodeElement, propertyElement, xmlElement, Frame, Doc, withKind, onValue, isXmlElement, changeValue}
+use Rattle.spec.specs.Document.{Value, default, collection, literal, other, Property, Kind, rdfRDF, wrapper, nodeElement, propertyElement, xmlElement, Part, Frame, Doc, withKind, withPart, onValue, isXmlElement, changeValue}
 use Rattle.spec.specs.XmlLiteral.{takesXml}
 use Rattle.spec.specs.Opening.{counted, countLi}
 use Rattle.spec.specs.EndTag.{takesNode}
@@ -89,8 +89,8 @@ value-kept h c (f ∷ fs) = go (isXmlElement (f .kind)) (value-kept h c fs)
 
 count-kept : (i : Bytes) (h : Part → Part) (fs : List Frame) → lists (countLi i h fs) ≡ lists fs
 unfolding lists countLi withKind withPart listOf counted
-count-kept i [] = refl
-count-kept i (f ∷ fs) = ap (_∷ lists fs) (go (f .kind))
+count-kept i h [] = refl
+count-kept i h (f ∷ fs) = ap (_∷ lists fs) (go (f .kind))
   where
     go : (k : Kind) → listOf (counted i k) ≡ listOf k
     go rdfRDF = refl
@@ -118,7 +118,7 @@ unfolding lists
 turns instructs = refl
 turns leaves = refl
 turns (adds {fs = fs} m) = value-kept _ (text-keeps m) fs
-turns (opens {f = f} {fs = fs} i e c) = (listOf (f .kind), ap (listOf (f .kind) ∷_) (count-kept i fs))
+turns (opens {f = f} {fs = fs} i h e c) = (listOf (f .kind), ap (listOf (f .kind) ∷_) (count-kept i h fs))
 turns (copies {f = f} {fs = fs} x c k) = (listOf (f .kind), ap (listOf (f .kind) ∷_) (value-kept _ (text-keeps (by-xml x)) fs))
 turns (closes {n = n} {f = f} {fs = fs}) = (listOf (f .kind), ap (listOf (f .kind) ∷_) (sym (left-kept (f .kind) n fs)))
 

@@ -9,6 +9,7 @@ use Rattle.spec.specs.Bytes.{Bytes}
 use Rattle.spec.specs.Numbers.{good}
 use Rattle.spec.specs.Pyx.{Event, closing}
 use Rattle.spec.specs.NTriples.{Subject, node, Triple, triple, write}
+use Rattle.spec.specs.Modes.{baseMode}
 use Rattle.spec.specs.Document.{collection, Property, propertyElement}
 use Rattle.spec.specs.Productions.{reification, statement}
 use Rattle.spec.specs.RdfXml.{next}
@@ -100,7 +101,7 @@ module _ {based : Bool} {base : Bytes} {s : State} {w i : List ℕ} {o : Bytes} 
   reads-at c is k l =
       let f = run-further l in
       rw (f .2, c .lines, append-assoc)
-      (collections-read-back (baseOf based base) (c .before) (run-lines (stepped h x) .doc) (run-lines k .doc) (c .earlier) (f .0) p [] (c .element) (c .prior) is (f .1))
+      (collections-read-back baseMode (baseOf based base) (c .before) (run-lines (stepped h x) .doc) (run-lines k .doc) (c .earlier) (f .0) p [] (c .element) (c .prior) is (f .1))
 
   -- Every Collection that a step of a run closes can be read back, from there on.
   pub run-reads-back : ClosesCollection h x p → ReadsBack h x p
@@ -130,7 +131,7 @@ module _ {based : Bool} {base : Bytes} {s : State} {w i : List ℕ} {o : Bytes} 
       let e′ = run-element k y (z′ .done) (z′ .takes) in
       let f = run-further l in
       rw (← e .1, ← e′ .1)
-      (no-cell-in-two-collections (baseOf based base) (e .0 .before) (run-lines (stepped h x) .doc) (e′ .0 .before) (run-lines (stepped k y) .doc) (e .0 .earlier) (f .0)
+      (no-cell-in-two-collections baseMode (baseOf based base) (e .0 .before) (run-lines (stepped h x) .doc) (e′ .0 .before) (run-lines (stepped k y) .doc) (e .0 .earlier) (f .0)
       (e .0 .element) (e′ .0 .element) c (e .0 .prior) (rw (e′ .1) (f .1)))
 
 module _ {based : Bool} {base : Bytes} {s : State} {w i : List ℕ} {o : Bytes} {h : Ran based base s w i o}

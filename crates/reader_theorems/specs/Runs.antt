@@ -16,6 +16,8 @@ use Rattle.spec.specs.Numbers.{Effect, stays-open, unchanged, becomes-closed, e
 use Rattle.spec.specs.declared.Refusal.{Refusal}
 use Rattle.spec.specs.declared.Refusal.the-variants.{BadState, NotWellFormed, OverLimit, BadIri}
 use Rattle.spec.specs.Rfc3987.{isIri}
+use Rattle.spec.specs.declared.Mode.{Mode}
+use Rattle.spec.specs.Modes.{baseMode}
 use Rattle.spec.specs.Document.{Doc, fresh}
 use Rattle.spec.specs.RdfXml.{finish}
 use Rattle.spec.specs.Calls.{isOpen, isClosed, unlawful, markClosed, markedBy, refused, refusedIn, mayStart, callStart, callStep, finished, callFinish}
@@ -69,11 +71,12 @@ finish-closes (isOpen d) = go (isEmpty (d .frames) && d .rooted)
     go true = refl
     go false = refl
 
-pub start-opens : (l : Bool) (b : Option Bytes) (t : calls.State) → callStart l b t .answer ≡ 0 → (mayStart l b ≡ good tt) × (callStart l b t .behind ≡ isOpen (fresh b))
+pub start-opens : (l : Bool) (m : Mode) (b : Option Bytes) (t : calls.State) → callStart l m b t .answer ≡ 0
+    → (mayStart l b ≡ good tt) × (callStart l m b t .behind ≡ isOpen (fresh m b))
 unfolding callStart calls.started refused
-start-opens l b t h = go (mayStart l b) h
+start-opens l m b t h = go (mayStart l b) h
   where
-    go : (a : Answer (Unit {0})) → calls.started b t a .answer ≡ 0 → (a ≡ good tt) × (calls.started b t a .behind ≡ isOpen (fresh b))
+    go : (a : Answer (Unit {0})) → calls.started m b t a .answer ≡ 0 → (a ≡ good tt) × (calls.started m b t a .behind ≡ isOpen (fresh m b))
     go (refuse n) e = absurd (number-positive n e)
     go (good tt) e = (refl, refl)
 
@@ -95,12 +98,12 @@ finish-three (isOpen d) h e = go (isEmpty (d .frames) && d .rooted) e
     go true e = omega arith
     go false e = omega arith
 
-start-three : (b : Option Bytes) (t : calls.State) → callStart true b t .answer ≡ 3 → ⊥
+start-three : (m : Mode) (b : Option Bytes) (t : calls.State) → callStart true m b t .answer ≡ 3 → ⊥
 unfolding callStart calls.started mayStart refused _>>_ require_or_
-start-three none t e = omega arith
-start-three (some b) t e = go (isIri b) (leb (length b) mostNameBytes) e
+start-three m none t e = omega arith
+start-three m (some b) t e = go (isIri b) (leb (length b) mostNameBytes) e
   where
-    go : (p q : Bool) → calls.started (some b) t ((require p or BadIri) >> (require q or OverLimit)) .answer ≡ 3 → ⊥
+    go : (p q : Bool) → calls.started m (some b) t ((require p or BadIri) >> (require q or OverLimit)) .answer ≡ 3 → ⊥
     go true true e = omega arith
     go true false e = omega arith
     go false q e = omega arith
@@ -128,7 +131,7 @@ finish-done (isOpen d) e = rw (finish-closes (isOpen d)) tt
 
 pub start-lawful : {based : Bool} {base : Bytes} {s : State} {w i : List ℕ} {r : Report} {w′ : List ℕ}
     → Starts based base s w i r w′ → r .answer ≡ Done → lawfulState (r .state) w′ i ≡ true
-start-lawful x q = sound-lawful _ _ _ (rw (x .meets .behind, start-opens _ _ _ (sym (x .meets .answer) ∙ ap numberOf q) .1) tt)
+start-lawful x q = sound-lawful _ _ _ (rw (x .meets .behind, start-opens _ _ _ _ (sym (x .meets .answer) ∙ ap numberOf q) .1) tt)
 
 pub step-lawful : {last : Bool} {input : Bytes} {s : State} {w i out : List ℕ} {r : Report} {w′ i′ out′ : List ℕ}
     → Steps last input s w i out r w′ i′ out′ → r .answer ≡ Done → lawfulState (r .state) w′ i′ ≡ true
@@ -175,15 +178,15 @@ later-still l (and-declined n j x q) = and-declined n (later-still l j) x q
 -- the steps of `spec`, up to the mark that finish sets
 pub record Follows (b : Option Bytes) (m : calls.State) (o : Bytes) : Type 0 where
   pub before : calls.State
-  pub steps : spec.Steps b before o
+  pub steps : spec.Steps baseMode b before o
   pub same : (m ≡ before) ⊎ (m ≡ markClosed before)
 
-closed-steps : {b : Option Bytes} {o : Bytes} (last : Bool) (s : Bytes) (room : ℕ) (t : calls.State) → spec.Steps b t o
+closed-steps : {b : Option Bytes} {o : Bytes} (last : Bool) (s : Bytes) (room : ℕ) (t : calls.State) → spec.Steps baseMode b t o
     → Follows b (callStep last s room (markClosed t) .behind) (o ++ callStep last s room (markClosed t) .output)
 unfolding callStep refusedIn refused markedBy markClosed
 closed-steps last s room (isOpen d) h = rw append-nil (record { before = isOpen d; steps = h; same = inr refl })
 closed-steps last s room (isClosed d) h = rw append-nil (record { before = isClosed d; steps = h; same = inr refl })
-closed-steps {b} {o} last s room unlawful h = absurd (always-lawful b o h)
+closed-steps {b} {o} last s room unlawful h = absurd (always-lawful baseMode b o h)
 
 follows-step : {b : Option Bytes} {m : calls.State} {o : Bytes} (last : Bool) (s : Bytes) (room : ℕ) → Follows b m o
     → Follows b (callStep last s room m .behind) (o ++ callStep last s room m .output)
@@ -209,7 +212,7 @@ follows-end {b} {m} {o} f = rw (finish-closes m) (record { before = f .before; s
 -- a run of calls is a row of `spec`'s steps
 pub follows : {based : Bool} {base : Bytes} {s : State} {w i : List ℕ} {o : Bytes} → Ran based base s w i o → Follows (baseOf based base) (meaningOf s w i) o
 follows (started x q) =
-    let k = start-opens _ _ _ (sym (x .meets .answer) ∙ ap numberOf q) in
+    let k = start-opens _ _ _ _ (sym (x .meets .answer) ∙ ap numberOf q) in
     record { before = _; steps = at-start; same = inl (x .meets .behind ∙ k .1) }
 follows (stepped h x) = rw (x .meets .behind, wrote-front (x .meets .wrote)) (follows-step _ _ _ (follows h))
 follows (ended h x) = rw (x .meets .behind) (follows-end (follows h))
@@ -217,11 +220,11 @@ follows (declined n h x q) = let k = x .meets .kept n q in rw (k .state, k .work
 
 -- ---- no call of a document answers 3
 
-steps-sound : {b : Option Bytes} {o : Bytes} (t : calls.State) → spec.Steps b t o → Sound t × Sound (markClosed t)
+steps-sound : {b : Option Bytes} {o : Bytes} (t : calls.State) → spec.Steps baseMode b t o → Sound t × Sound (markClosed t)
 unfolding markClosed
 steps-sound (isOpen d) h = (tt, tt)
 steps-sound (isClosed d) h = (tt, tt)
-steps-sound {b} {o} unlawful h = absurd (always-lawful b o h)
+steps-sound {b} {o} unlawful h = absurd (always-lawful baseMode b o h)
 
 -- the state behind each call is by the rules
 pub ran-sound : {based : Bool} {base : Bytes} {s : State} {w i : List ℕ} {o : Bytes} → Ran based base s w i o → Sound (meaningOf s w i)
@@ -248,4 +251,4 @@ module _ {based : Bool} {base : Bytes} {s : State} {w i : List ℕ} {o : Bytes} 
   -- a further start too, whatever its base
   pub start-never-three : {a : Bool} {b : Bytes} {w′ : List ℕ} → Starts a b s w i r w′ → numberOf (r .answer) ≡ 3 → ⊥
   start-never-three {a} {b} x e =
-      start-three (baseOf a b) (meaningOf s w i) (ap (λ (l : Bool). callStart l (baseOf a b) (meaningOf s w i) .answer) (sym (lawful-lengths s w i (sound-lawful s w i (ran-sound h)))) ∙ (sym (x .meets .answer) ∙ e))
+      start-three baseMode (baseOf a b) (meaningOf s w i) (ap (λ (l : Bool). callStart l baseMode (baseOf a b) (meaningOf s w i) .answer) (sym (lawful-lengths s w i (sound-lawful s w i (ran-sound h)))) ∙ (sym (x .meets .answer) ∙ e))

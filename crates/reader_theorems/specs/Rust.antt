@@ -15,6 +15,7 @@ use Rattle.spec.specs.declared.Refusal.the-variants.{NoRoom, Closed}
 use Rattle.spec.specs.Pyx.{Event, readEvent}
 use Rattle.spec.specs.PyxCut.{Cut, wait, unended, tooLong, whole, cut}
 use Rattle.spec.specs.NTriples.{Triple, write}
+use Rattle.spec.specs.Modes.{baseMode}
 use Rattle.spec.specs.Document.{Doc, fresh}
 use Rattle.spec.specs.Nesting.{Nested}
 use Rattle.spec.specs.Opening.{Step}
@@ -23,7 +24,7 @@ use Rattle.spec.specs.Calls.{isOpen, isClosed, refused, refusedIn, firstEvent, 
 use Rattle.spec.specs.Calls as calls
 use Rattle.spec.specs.Lists.{After, here, event}
 use Rattle.theorems.specs.Calls.{number-injective, number-positive}
-use Rattle.theorems.specs.Nesting.{always-nested}
+use Rattle.theorems.specs.Nesting.{always-mode, nested-in}
 use Rattle.rio.specs.Parser.{Result, Err, Ok, Emits, RdfXmlReader, new, parse-step, parse-all}
 use Rattle.rio.specs.Parser as P
 use Rattle.rio.specs.Domain.{InDomain}
@@ -46,12 +47,12 @@ pub record OnRust (b : Option Bytes) (d : Doc) (ts : List Triple) (es : List Eve
   pub accepts : parse-all es (new b) ≡ (ts, Ok reader)
   pub related : Related d reader
 
-on-rust : (b : Option Bytes) {d : Doc} {ts : List Triple} (a : After (fresh b) d ts) → OnRust b d ts (eventsOf a)
+on-rust : (b : Option Bytes) {d : Doc} {ts : List Triple} (a : After (fresh baseMode b) d ts) → OnRust b d ts (eventsOf a)
 unfolding eventsOf parse-all
 on-rust b here = record { reader = new b; accepts = refl; related = begins-related b }
 on-rust b (event {d = d} {ts = ts} before e d′ us q) =
     let h : OnRust b d ts (eventsOf before) = on-rust b before in
-    let g = accepted-same e d d′ (h .reader) us (always-nested b d ts before) (h .related) q in
+    let g = accepted-same e d d′ (h .reader) us (always-mode baseMode b d ts before) (nested-in baseMode b d ts before) (h .related) q in
     record {
       reader = g .0;
       accepts =
@@ -161,12 +162,15 @@ module _ {based : Bool} {base : Bytes} {s : State} {w i : List ℕ} {o : Bytes} 
       refuses (inl is) = next-refuses last input (length out) (run-lines h .doc) e n f (rw is at answer) roomy
       refuses (inr is) = absurd (going (sym (number-injective Closed n (rw is at answer))))
 
-      nested : Nested (run-lines h .doc .frames)
-      nested = always-nested (baseOf based base) (run-lines h .doc) (run-lines h .lines) (run-lines h .after)
+      base-mode : run-lines h .doc .mode ≡ baseMode
+      base-mode = always-mode baseMode (baseOf based base) (run-lines h .doc) (run-lines h .lines) (run-lines h .after)
+
+      nested : Nested baseMode (run-lines h .doc .frames)
+      nested = nested-in baseMode (baseOf based base) (run-lines h .doc) (run-lines h .lines) (run-lines h .after)
 
       fails : parse-all (runEvents h ++ (e ∷ [])) (new (baseOf based base)) ≡ (run-lines h .lines, Err)
       fails =
           parse-fails e (rust .reader) (runEvents h) (new (baseOf based base)) (ap (λ x. x .1) (rust .accepts))
           (rust-refuses e (run-lines h .doc) n (rust .reader) (refuses (run-lines h .means))
-          (event-same e (run-lines h .doc) (rust .reader) nested (rust .related) k))
+          (event-same e (run-lines h .doc) (rust .reader) base-mode nested (rust .related) k))
           ∙ ap (λ x. (x .0, Err)) (rust .accepts)

@@ -14,6 +14,7 @@ use Rattle.spec.specs.Pyx.{Event}
 use Rattle.spec.specs.NTriples.{blank, Triple, line, write, label}
 use Rattle.spec.specs.NTriplesGrammar.{isNTriples}
 use Rattle.spec.specs.NTriplesReading.{ntriplesDoc}
+use Rattle.spec.specs.Modes.{baseMode}
 use Rattle.spec.specs.Document.{Doc, fresh}
 use Rattle.spec.specs.StartTag.{rdf-nodeID, judge}
 use Rattle.spec.specs.RdfXml.{next}
@@ -46,7 +47,7 @@ use Rattle.reader_theorems.specs.Events.{firstOf, taken, runEvents, even
 pub record Lines (b : Option Bytes) (es : List Event) (m : calls.State) (o : Bytes) : Type 0 where
   pub doc : Doc
   pub lines : List Triple
-  pub after : After (fresh b) doc lines
+  pub after : After (fresh baseMode b) doc lines
   pub events : eventsOf after ≡ es
   pub bytes : o ≡ write lines
   pub means : (m ≡ isOpen doc) ⊎ (m ≡ isClosed doc)
@@ -106,7 +107,7 @@ lines-started : {based : Bool} {base : Bytes} {s : State} {w i : List ℕ} {r : 
     → Lines (baseOf based base) [] (meaningOf (r .state) w′ i) []
 unfolding eventsOf write
 lines-started x q =
-    record { doc = _; lines = []; after = here; events = refl; bytes = refl; means = inl (x .meets .behind ∙ start-opens _ _ _ (sym (x .meets .answer) ∙ ap numberOf q) .1) }
+    record { doc = _; lines = []; after = here; events = refl; bytes = refl; means = inl (x .meets .behind ∙ start-opens _ _ _ _ (sym (x .meets .answer) ∙ ap numberOf q) .1) }
 
 module _ {b : Option Bytes} {es : List Event} {s : State} {w i : List ℕ} {o : Bytes} (f : Lines b es (meaningOf s w i) o) {r : Report} where
   lines-stepped : {last : Bool} {input : Bytes} {out w′ i′ out′ : List ℕ} → Steps last input s w i out r w′ i′ out′
@@ -176,12 +177,12 @@ pub record Begun (b : Option Bytes) : Type 0 where
   pub lengths : Bool
   pub before : calls.State
   pub allowed : mayStart lengths b ≡ good tt
-  pub answer : callStart lengths b before .answer ≡ 0
+  pub answer : callStart lengths baseMode b before .answer ≡ 0
 
 pub ran-begun : {based : Bool} {base : Bytes} {s : State} {w i : List ℕ} {o : Bytes} → Ran based base s w i o → Begun (baseOf based base)
 ran-begun (started x q) =
     let e = sym (x .meets .answer) ∙ ap numberOf q in
-    record { lengths = _; before = _; allowed = start-opens _ _ _ e .0; answer = e }
+    record { lengths = _; before = _; allowed = start-opens _ _ _ _ e .0; answer = e }
 ran-begun (stepped h x) = ran-begun h
 ran-begun (ended h x) = ran-begun h
 ran-begun (declined n h x q) = ran-begun h
@@ -192,14 +193,14 @@ module _ {based : Bool} {base : Bytes} {s : State} {w i : List ℕ} {o : Bytes} 
   run-spelled =
       let b = baseOf based base in
       let g : GoodBase b = always-good (λ u. GoodBase b) (started-base (ran-begun h .lengths) b) (ran-begun h .allowed) in
-      go (follows h .before) (all-spelled b (follows h .before) o g (follows h .steps))
+      go (follows h .before) (all-spelled baseMode b (follows h .before) o g (follows h .steps))
     where
-      same : (d : Doc) → (ts : List Triple) × (After (fresh (baseOf based base)) d ts × SpelledLines ts) × (o ≡ write ts) → SpelledLines (run-lines h .lines)
+      same : (d : Doc) → (ts : List Triple) × (After (fresh baseMode (baseOf based base)) d ts × SpelledLines ts) × (o ≡ write ts) → SpelledLines (run-lines h .lines)
       same d (ts, k, e) =
-          rw (← same-bytes-same-triples ts (run-lines h .lines) (whole-given (baseOf based base) d ts (k .0)) (whole-given (baseOf based base) (run-lines h .doc) (run-lines h .lines) (run-lines h .after))
+          rw (← same-bytes-same-triples ts (run-lines h .lines) (whole-given baseMode (baseOf based base) d ts (k .0)) (whole-given baseMode (baseOf based base) (run-lines h .doc) (run-lines h .lines) (run-lines h .after))
           (sym e ∙ run-lines h .bytes)) (k .1)
 
-      go : (t : calls.State) → Holds (λ d ts. After (fresh (baseOf based base)) d ts × SpelledLines ts) t o → SpelledLines (run-lines h .lines)
+      go : (t : calls.State) → Holds (λ d ts. After (fresh baseMode (baseOf based base)) d ts × SpelledLines ts) t o → SpelledLines (run-lines h .lines)
       go (isOpen d) k = same d k
       go (isClosed d) k = same d k
       go unlawful k = absurd k
@@ -218,11 +219,11 @@ module _ {based : Bool} {base : Bytes} {s : State} {w i : List ℕ} {o : Bytes} 
       → ((l : Bytes) → judge rdf-nodeID l ≡ good tt → l ≡ label k → ⊥)
       × ((j : ℕ) → j ≤ d′ .labels → label j ≡ label k → j ≡ k)
       × Unnamed (blank (label k)) (run-lines h .lines)
-  run-labels-new d′ us e q k lo hi = labels.labels-new (baseOf based base) (run-lines h .doc) d′ (run-lines h .lines) us e (run-lines h .after) q k lo hi
+  run-labels-new d′ us e q k lo hi = labels.labels-new baseMode (baseOf based base) (run-lines h .doc) d′ (run-lines h .lines) us e (run-lines h .after) q k lo hi
 
   -- behind each call all limits hold
   pub run-within : Within (run-lines h .doc)
-  run-within = always-within (baseOf based base) (run-lines h .doc) (run-lines h .lines) (start-short (ran-begun h .lengths) (baseOf based base) (ran-begun h .before) (ran-begun h .answer)) (run-lines h .after)
+  run-within = always-within baseMode (baseOf based base) (run-lines h .doc) (run-lines h .lines) (start-short (ran-begun h .lengths) baseMode (baseOf based base) (ran-begun h .before) (ran-begun h .answer)) (run-lines h .after)
 
 -- ---- parts of documents, and documents one after the other
 
@@ -245,7 +246,7 @@ stands-part {based} {base} {h = h} {k = k} l v e =
     let f = run-further l in
     record {
       bytes = more-bytes (run-lines h) (run-lines k) (f .0) v e (f .2);
-      given = part-given (baseOf based base) (run-lines h .doc) (run-lines k .doc) (run-lines h .lines) (f .0) (run-lines h .after) (f .1);
+      given = part-given baseMode (baseOf based base) (run-lines h .doc) (run-lines k .doc) (run-lines h .lines) (f .0) (run-lines h .after) (f .1);
       spelled = spelled-behind (run-lines h .lines) (f .0) (subst SpelledLines (f .2) (run-spelled k));
     }
 
