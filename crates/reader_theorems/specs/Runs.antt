@@ -1,6 +1,6 @@
 -- Documents run through the calls, each handed the state and the stores as the call before left them: no call answers 3, and what
 -- `spec` proves of the steps of a document holds of them.
-use Prim.Native.Nat.{ℕ}
+use Prim.Native.Nat.{ℕ, _≤_}
 use mathlib.Core.Path.{_≡_, refl, sym, ap, _∙_}
 use mathlib.Core.Logic.{_⊎_, inl, inr}
 use mathlib.Core.Bool.{Bool, true, false, _&&_}
@@ -26,6 +26,7 @@ use Rattle.spec.proofs.Booleans.{and-left, and-right}
 use Rattle.theorems.specs.Calls.{Reported, did, gave, reported, number-positive, at-start, and-step, always-lawful}
 use Rattle.theorems.specs.Calls as spec
 use Rattle.theorems.specs.Refusals.{Why, no-state, given-only-when}
+use Rattle.theorems.specs.ModeRefusals.{base-never-19}
 use Rattle.copy.specs.Copy.{wrote-front}
 use Rattle.state_ids.specs.Ids.{validIds}
 use Rattle.state.specs.Valid.{validState}
@@ -252,3 +253,53 @@ module _ {based : Bool} {base : Bytes} {s : State} {w i : List ℕ} {o : Bytes} 
   pub start-never-three : {a : Bool} {b : Bytes} {w′ : List ℕ} → Starts a b s w i r w′ → numberOf (r .answer) ≡ 3 → ⊥
   start-never-three {a} {b} x e =
       start-three baseMode (baseOf a b) (meaningOf s w i) (ap (λ (l : Bool). callStart l baseMode (baseOf a b) (meaningOf s w i) .answer) (sym (lawful-lengths s w i (sound-lawful s w i (ran-sound h)))) ∙ (sym (x .meets .answer) ∙ e))
+
+-- ---- no call answers 19: it is the profile's, and all documents are in the base mode
+
+closed-nineteen : (last : Bool) (s : Bytes) (room : ℕ) (t : calls.State) → callStep last s room (markClosed t) .answer ≡ 19 → ⊥
+unfolding callStep refusedIn refused markClosed
+closed-nineteen last s room (isOpen d) e = omega arith
+closed-nineteen last s room (isClosed d) e = omega arith
+closed-nineteen last s room unlawful e = omega arith
+
+step-nineteen : {b : Option Bytes} {m : calls.State} {o : Bytes} (last : Bool) (s : Bytes) (room : ℕ) → Follows b m o → callStep last s room m .answer ≡ 19 → ⊥
+step-nineteen {b} {m} {o} last s room f e = go (f .same)
+  where
+    go : (m ≡ f .before) ⊎ (m ≡ markClosed (f .before)) → ⊥
+    go (inl q) = base-never-19 b (f .before) o (f .steps) last s room (rw q at e)
+    go (inr q) = closed-nineteen last s room (f .before) (rw q at e)
+
+pub step-never-nineteen : {based : Bool} {base : Bytes} {s : State} {w i : List ℕ} {o : Bytes} → Ran based base s w i o
+    → {last : Bool} {input : Bytes} {out : List ℕ} {r : Report} {w′ i′ out′ : List ℕ} → Steps last input s w i out r w′ i′ out′
+    → numberOf (r .answer) ≡ 19 → ⊥
+step-never-nineteen h x e = step-nineteen _ _ _ (follows h) (sym (x .meets .answer) ∙ e)
+
+-- finish and start answer no such number, whatever they are handed
+finish-low : (t : calls.State) → callFinish t .answer ≤ 6
+unfolding callFinish finished finish refusedIn refused require_or_
+finish-low unlawful = omega arith
+finish-low (isClosed d) = omega arith
+finish-low (isOpen d) = go (isEmpty (d .frames) && d .rooted)
+  where
+    go : (b : Bool) → finished d (require b or NotWellFormed) .answer ≤ 6
+    go true = omega arith
+    go false = omega arith
+
+start-low : (l : Bool) (m : Mode) (b : Option Bytes) (t : calls.State) → callStart l m b t .answer ≤ 11
+unfolding callStart calls.started mayStart refused _>>_ require_or_
+start-low false m none t = omega arith
+start-low true m none t = omega arith
+start-low false m (some b) t = omega arith
+start-low true m (some b) t = go (isIri b) (leb (length b) mostNameBytes)
+  where
+    go : (p q : Bool) → calls.started m (some b) t ((require p or BadIri) >> (require q or OverLimit)) .answer ≤ 11
+    go true true = omega arith
+    go true false = omega arith
+    go false q = omega arith
+
+pub finish-never-nineteen : {s : State} {w i : List ℕ} {r : Report} → Finishes s w i r → numberOf (r .answer) ≡ 19 → ⊥
+finish-never-nineteen {s} {w} {i} x e = omega (arith, finish-low (meaningOf s w i), x .meets .answer, e)
+
+pub start-never-nineteen : {a : Bool} {b : Bytes} {s : State} {w i : List ℕ} {r : Report} {w′ : List ℕ} → Starts a b s w i r w′ → numberOf (r .answer) ≡ 19 → ⊥
+start-never-nineteen {a} {b} {s} {w} {i} x e =
+    omega (arith, start-low (lengthsRight w i) baseMode (baseOf a b) (meaningOf s w i), x .meets .answer, e)
