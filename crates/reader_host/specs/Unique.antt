@@ -14,6 +14,8 @@ use Rattle.spec.specs.Bytes.{Bytes, _>>_, require_or_}
 use Rattle.spec.specs.Numbers as numbers
 use Rattle.spec.specs.Numbers.{refuse, good}
 use Rattle.spec.specs.declared.Refusal.the-variants.{BadState}
+use Rattle.spec.specs.declared.Mode.{Mode}
+use Rattle.spec.specs.Modes.{baseMode}
 use Rattle.spec.specs.Calls.{unlawful, markedBy, refused, refusedIn, mayStart, started, callStart, callStep, callFinish}
 use Rattle.spec.specs.Calls as calls
 use Rattle.theorems.specs.Calls.{number-positive}
@@ -90,46 +92,46 @@ abbrev pub allRight : Bytes → List ℕ → List ℕ → Bool
 allRight b w i = eqb (length b) stateBytes && lengthsRight w i
 
 -- the answer does not depend on the state
-start-number : (l : Bool) (o : Option Bytes) (s t : calls.State) → callStart l o s .answer ≡ callStart l o t .answer
+start-number : (l : Bool) (m : Mode) (o : Option Bytes) (s t : calls.State) → callStart l m o s .answer ≡ callStart l m o t .answer
 unfolding callStart started refused
-start-number l o s t = go (mayStart l o)
+start-number l m o s t = go (mayStart l o)
   where
-    go : (a : numbers.Answer (Unit {0})) → started o s a .answer ≡ started o t a .answer
+    go : (a : numbers.Answer (Unit {0})) → started m o s a .answer ≡ started m o t a .answer
     go (refuse r) = refl
     go (good u) = refl
 
-start-short : (o : Option Bytes) (t : calls.State) → callStart false o t ≡ refused BadState t
+start-short : (m : Mode) (o : Option Bytes) (t : calls.State) → callStart false m o t ≡ refused BadState t
 unfolding callStart started mayStart _>>_ require_or_
-start-short none t = refl
-start-short (some o) t = refl
+start-short m none t = refl
+start-short m (some o) t = refl
 
 -- accepted, a document begins; refused, the state stays
-start-behind : (l : Bool) (o : Option Bytes) (s t : calls.State)
-    → ((callStart l o s .answer ≡ 0) × (callStart l o s .behind ≡ callStart l o t .behind)) ⊎ ((callStart l o s .answer ≡ 0 → ⊥) × (callStart l o t .behind ≡ t))
+start-behind : (l : Bool) (m : Mode) (o : Option Bytes) (s t : calls.State)
+    → ((callStart l m o s .answer ≡ 0) × (callStart l m o s .behind ≡ callStart l m o t .behind)) ⊎ ((callStart l m o s .answer ≡ 0 → ⊥) × (callStart l m o t .behind ≡ t))
 unfolding callStart started refused
-start-behind l o s t = go (mayStart l o)
+start-behind l m o s t = go (mayStart l o)
   where
-    go : (a : numbers.Answer (Unit {0})) → ((started o s a .answer ≡ 0) × (started o s a .behind ≡ started o t a .behind)) ⊎ ((started o s a .answer ≡ 0 → ⊥) × (started o t a .behind ≡ t))
+    go : (a : numbers.Answer (Unit {0})) → ((started m o s a .answer ≡ 0) × (started m o s a .behind ≡ started m o t a .behind)) ⊎ ((started m o s a .answer ≡ 0 → ⊥) × (started m o t a .behind ≡ t))
     go (refuse r) = inr (number-positive r, refl)
     go (good u) = inl (refl, refl)
 
 pub start-reports : {based : Bool} {base b w i : Bytes} {n : ℕ} {b′ w′ : Bytes} → StartsIn based base b w i n b′ w′
-    → (n ≡ callStart (allRight b w i) (baseOf based base) (meansIn b w i) .answer) × (meansIn b′ w′ i ≡ callStart (allRight b w i) (baseOf based base) (meansIn b w i) .behind)
+    → (n ≡ callStart (allRight b w i) baseMode (baseOf based base) (meansIn b w i) .answer) × (meansIn b′ w′ i ≡ callStart (allRight b w i) baseMode (baseOf based base) (meansIn b w i) .behind)
 unfolding refused
 start-reports {based} {base} {b} {w} {i} {n} {b′} {w′} x = go (eqb (length b) 11_112) refl
   where
     go : (l : Bool) → eqb (length b) 11_112 ≡ l
-        → (n ≡ callStart (l && lengthsRight w i) (baseOf based base) (meansIn b w i) .answer) × (meansIn b′ w′ i ≡ callStart (l && lengthsRight w i) (baseOf based base) (meansIn b w i) .behind)
-    go false e = let h = x .bad (eqb-false (length b) 11_112 e) in rw (h .0, h .1, h .2, start-short (baseOf based base) (meansIn b w i)) (refl, refl)
+        → (n ≡ callStart (l && lengthsRight w i) baseMode (baseOf based base) (meansIn b w i) .answer) × (meansIn b′ w′ i ≡ callStart (l && lengthsRight w i) baseMode (baseOf based base) (meansIn b w i) .behind)
+    go false e = let h = x .bad (eqb-false (length b) 11_112 e) in rw (h .0, h .1, h .2, start-short baseMode (baseOf based base) (meansIn b w i)) (refl, refl)
     go true e =
         let h = x .good (eqb-true (length b) 11_112 e) in
         let m = h .call .meets in
-        let a : n ≡ callStart (lengthsRight w i) (baseOf based base) (meaningOf (h .before) w i) .answer = h .answer ∙ m .answer in (
-          a ∙ start-number (lengthsRight w i) (baseOf based base) (meaningOf (h .before) w i) (meansIn b w i),
+        let a : n ≡ callStart (lengthsRight w i) baseMode (baseOf based base) (meaningOf (h .before) w i) .answer = h .answer ∙ m .answer in (
+          a ∙ start-number (lengthsRight w i) baseMode (baseOf based base) (meaningOf (h .before) w i) (meansIn b w i),
           ⊎-elim
               (λ y. means-some b′ w′ i (h .done (number-tells (h .report .answer) Done (m .answer ∙ y .0)) .read) ∙ (m .behind ∙ y .1))
               (λ y. let z = start-leaves x (λ q. y .0 (sym a ∙ q)) in rw (z .0, z .1) (sym (y .1)))
-              (start-behind (lengthsRight w i) (baseOf based base) (meaningOf (h .before) w i) (meansIn b w i)),
+              (start-behind (lengthsRight w i) baseMode (baseOf based base) (meaningOf (h .before) w i) (meansIn b w i)),
         )
 
 -- ---- nothing else meets a contract
