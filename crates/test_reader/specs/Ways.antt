@@ -13,6 +13,8 @@ use lib.Seq.{drop-drop}
 use borrow.Author.Tests.{eq-eqb, ne-eqb}
 use Rattle.spec.specs.Bytes.{Bytes, same, begins}
 use Rattle.spec.specs.Numbers.{Answer, refuse, good}
+use Rattle.spec.specs.declared.Mode.{Mode}
+use Rattle.spec.specs.Modes.{baseMode}
 use Rattle.spec.specs.Document.{fresh}
 use Rattle.spec.specs.Calls.{isOpen, noDocument, callStart, callStep}
 use Rattle.spec.specs.Calls as calls
@@ -83,8 +85,8 @@ pub record Ends (room : ℕ) (input e : Bytes) (q : calls.State) (r : Ended) (w 
 
 -- a whole document: a refused start is its end
 pub record Runs (room : ℕ) (lengths : Bool) (base : Option Bytes) (input e : Bytes) (r : Ended) : Type 0 where
-  pub number : r .number ≡ pick (eqb (callStart lengths base noDocument .answer) 0) (lastNumber (steps room input (isOpen (fresh base)))) (callStart lengths base noDocument .answer)
-  pub lines : r .same ≡ same (pick (eqb (callStart lengths base noDocument .answer) 0) (steps room input (isOpen (fresh base)) .output) []) e
+  pub number : r .number ≡ pick (eqb (callStart lengths baseMode base noDocument .answer) 0) (lastNumber (steps room input (isOpen (fresh baseMode base)))) (callStart lengths baseMode base noDocument .answer)
+  pub lines : r .same ≡ same (pick (eqb (callStart lengths baseMode base noDocument .answer) 0) (steps room input (isOpen (fresh baseMode base)) .output) []) e
 
 -- ---- a step, in the words of the definitions
 
@@ -210,35 +212,35 @@ module _ {input e : Bytes} {s : State} {w₀ i₀ o₀ : List ℕ} {way : Way} {
       let c : Came (way .number) _ (way .same) (way .seen) _ _ _ _ = rw o at (g .along .leads) in
       rw (is, ← f) (record { number = c .number; lines = c .lines; behind = c .behind })
 
-start-number : (l : Bool) (b : Option Bytes) (p q : calls.State) → callStart l b p .answer ≡ callStart l b q .answer
+start-number : (l : Bool) (m : Mode) (b : Option Bytes) (p q : calls.State) → callStart l m b p .answer ≡ callStart l m b q .answer
 unfolding callStart calls.started calls.refused
-start-number l b p q = go (calls.mayStart l b)
+start-number l m b p q = go (calls.mayStart l b)
   where
-    go : (a : Answer (Unit {0})) → calls.started b p a .answer ≡ calls.started b q a .answer
+    go : (a : Answer (Unit {0})) → calls.started m b p a .answer ≡ calls.started m b q a .answer
     go (refuse n) = refl
     go (good tt) = refl
 
-start-opens : (l : Bool) (b : Option Bytes) (q : calls.State) → callStart l b q .answer ≡ 0 → callStart l b q .behind ≡ isOpen (fresh b)
+start-opens : (l : Bool) (m : Mode) (b : Option Bytes) (q : calls.State) → callStart l m b q .answer ≡ 0 → callStart l m b q .behind ≡ isOpen (fresh m b)
 unfolding callStart calls.started calls.refused
-start-opens l b q h = go (calls.mayStart l b) h
+start-opens l m b q h = go (calls.mayStart l b) h
   where
-    go : (a : Answer (Unit {0})) → calls.started b q a .answer ≡ 0 → calls.started b q a .behind ≡ isOpen (fresh b)
+    go : (a : Answer (Unit {0})) → calls.started m b q a .answer ≡ 0 → calls.started m b q a .behind ≡ isOpen (fresh m b)
     go (refuse n) e = absurd (number-positive n e)
     go (good tt) e = refl
 
 module _ {based : Bool} {base : Bytes} {s : State} {w i : List ℕ} {r : Report} {w′ : List ℕ} (x : Starts based base s w i r w′) where
-  started : callStart (lengthsRight w i) (baseOf based base) noDocument .answer ≡ numberOf (r .answer)
-  started = start-number (lengthsRight w i) (baseOf based base) noDocument (meaningOf s w i) ∙ sym (x .meets .answer)
+  started : callStart (lengthsRight w i) baseMode (baseOf based base) noDocument .answer ≡ numberOf (r .answer)
+  started = start-number (lengthsRight w i) baseMode (baseOf based base) noDocument (meaningOf s w i) ∙ sym (x .meets .answer)
 
   module _ {n : ℕ} (u : n ≡ numberOf (r .answer)) where
     pub run-refused : {room : ℕ} {input e : Bytes} → 0 < n → Runs room (lengthsRight w i) (baseOf based base) input e (record { state = r .state; number = n; same = eqb 0 (length e) })
     run-refused {e = e} z =
-        let f : eqb (callStart (lengthsRight w i) (baseOf based base) noDocument .answer) 0 ≡ false = ne-eqb (callStart (lengthsRight w i) (baseOf based base) noDocument .answer) 0 (λ y. omega (arith, started)) in
+        let f : eqb (callStart (lengthsRight w i) baseMode (baseOf based base) noDocument .answer) 0 ≡ false = ne-eqb (callStart (lengthsRight w i) baseMode (baseOf based base) noDocument .answer) 0 (λ y. omega (arith, started)) in
         record { number = rw f (u ∙ sym started); lines = rw f (sym (same-none e 0 (omega arith))) }
 
     pub run-done : {room : ℕ} {input e : Bytes} → n ≤ 0 → {x : Ended} {w″ i″ : List ℕ} → Ends room input e (meaningOf (r .state) w′ i) x w″ i″ → Runs room (lengthsRight w i) (baseOf based base) input e x
     run-done z y =
         let o : numberOf (r .answer) ≡ 0 = omega arith in
-        let f : eqb (callStart (lengthsRight w i) (baseOf based base) noDocument .answer) 0 ≡ true = eq-eqb _ 0 (started ∙ o) in
-        let p : meaningOf (r .state) w′ i ≡ isOpen (fresh (baseOf based base)) = x .meets .behind ∙ start-opens _ _ _ (sym (x .meets .answer) ∙ o) in
+        let f : eqb (callStart (lengthsRight w i) baseMode (baseOf based base) noDocument .answer) 0 ≡ true = eq-eqb _ 0 (started ∙ o) in
+        let p : meaningOf (r .state) w′ i ≡ isOpen (fresh baseMode (baseOf based base)) = x .meets .behind ∙ start-opens _ _ _ _ (sym (x .meets .answer) ∙ o) in
         record { number = rw (f, ← p) (y .number); lines = rw (f, ← p) (y .lines) }
