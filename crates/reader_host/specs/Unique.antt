@@ -92,7 +92,8 @@ abbrev pub allRight : Bytes → List ℕ → List ℕ → Bool
 allRight b w i = eqb (length b) stateBytes && lengthsRight w i
 
 -- the answer does not depend on the state
-start-number : (l : Bool) (m : Mode) (o : Option Bytes) (s t : calls.State) → callStart l m o s .answer ≡ callStart l m o t .answer
+start-number : (l : Bool) (m : Mode) (o : Option Bytes) (s t : calls.State)
+    → callStart l m o s .answer ≡ callStart l m o t .answer
 unfolding callStart started refused
 start-number l m o s t = go (mayStart l o)
   where
@@ -131,7 +132,8 @@ start-reports {based} {base} {b} {w} {i} {n} {b′} {w′} x = go (eqb (length b
           ⊎-elim
               (λ y. means-some b′ w′ i (h .done (number-tells (h .report .answer) Done (m .answer ∙ y .0)) .read) ∙ (m .behind ∙ y .1))
               (λ y. let z = start-leaves x (λ q. y .0 (sym a ∙ q)) in rw (z .0, z .1) (sym (y .1)))
-              (start-behind (lengthsRight w i) baseMode (baseOf based base) (meaningOf (h .before) w i) (meansIn b w i)),
+              (start-behind (lengthsRight w i) baseMode (baseOf based base) (meaningOf (h .before) w i)
+              (meansIn b w i)),
         )
 
 -- ---- nothing else meets a contract

@@ -1,5 +1,5 @@
--- Documents run through the calls, each handed the state and the stores as the call before left them: no call answers 3, and what
--- `spec` proves of the steps of a document holds of them.
+-- Documents run through the calls, each handed the state and the stores as the call before left them: no call answers
+-- 3 or 19, and what `spec` proves of the steps of a document holds of them.
 use Prim.Native.Nat.{ℕ, _≤_}
 use mathlib.Core.Path.{_≡_, refl, sym, ap, _∙_}
 use mathlib.Core.Logic.{_⊎_, inl, inr}
@@ -182,7 +182,8 @@ pub record Follows (b : Option Bytes) (m : calls.State) (o : Bytes) : Type 0 whe
   pub steps : spec.Steps baseMode b before o
   pub same : (m ≡ before) ⊎ (m ≡ markClosed before)
 
-closed-steps : {b : Option Bytes} {o : Bytes} (last : Bool) (s : Bytes) (room : ℕ) (t : calls.State) → spec.Steps baseMode b t o
+closed-steps : {b : Option Bytes} {o : Bytes} (last : Bool) (s : Bytes) (room : ℕ) (t : calls.State)
+    → spec.Steps baseMode b t o
     → Follows b (callStep last s room (markClosed t) .behind) (o ++ callStep last s room (markClosed t) .output)
 unfolding callStep refusedIn refused markedBy markClosed
 closed-steps last s room (isOpen d) h = rw append-nil (record { before = isOpen d; steps = h; same = inr refl })
@@ -221,7 +222,8 @@ follows (declined n h x q) = let k = x .meets .kept n q in rw (k .state, k .work
 
 -- ---- no call of a document answers 3
 
-steps-sound : {b : Option Bytes} {o : Bytes} (t : calls.State) → spec.Steps baseMode b t o → Sound t × Sound (markClosed t)
+steps-sound : {b : Option Bytes} {o : Bytes} (t : calls.State) → spec.Steps baseMode b t o
+    → Sound t × Sound (markClosed t)
 unfolding markClosed
 steps-sound (isOpen d) h = (tt, tt)
 steps-sound (isClosed d) h = (tt, tt)
@@ -256,13 +258,15 @@ module _ {based : Bool} {base : Bytes} {s : State} {w i : List ℕ} {o : Bytes} 
 
 -- ---- no call answers 19: it is the profile's, and all documents are in the base mode
 
-closed-nineteen : (last : Bool) (s : Bytes) (room : ℕ) (t : calls.State) → callStep last s room (markClosed t) .answer ≡ 19 → ⊥
+closed-nineteen : (last : Bool) (s : Bytes) (room : ℕ) (t : calls.State)
+    → callStep last s room (markClosed t) .answer ≡ 19 → ⊥
 unfolding callStep refusedIn refused markClosed
 closed-nineteen last s room (isOpen d) e = omega arith
 closed-nineteen last s room (isClosed d) e = omega arith
 closed-nineteen last s room unlawful e = omega arith
 
-step-nineteen : {b : Option Bytes} {m : calls.State} {o : Bytes} (last : Bool) (s : Bytes) (room : ℕ) → Follows b m o → callStep last s room m .answer ≡ 19 → ⊥
+step-nineteen : {b : Option Bytes} {m : calls.State} {o : Bytes} (last : Bool) (s : Bytes) (room : ℕ)
+    → Follows b m o → callStep last s room m .answer ≡ 19 → ⊥
 step-nineteen {b} {m} {o} last s room f e = go (f .same)
   where
     go : (m ≡ f .before) ⊎ (m ≡ markClosed (f .before)) → ⊥
@@ -270,8 +274,8 @@ step-nineteen {b} {m} {o} last s room f e = go (f .same)
     go (inr q) = closed-nineteen last s room (f .before) (rw q at e)
 
 pub step-never-nineteen : {based : Bool} {base : Bytes} {s : State} {w i : List ℕ} {o : Bytes} → Ran based base s w i o
-    → {last : Bool} {input : Bytes} {out : List ℕ} {r : Report} {w′ i′ out′ : List ℕ} → Steps last input s w i out r w′ i′ out′
-    → numberOf (r .answer) ≡ 19 → ⊥
+    → {last : Bool} {input : Bytes} {out : List ℕ} {r : Report} {w′ i′ out′ : List ℕ}
+    → Steps last input s w i out r w′ i′ out′ → numberOf (r .answer) ≡ 19 → ⊥
 step-never-nineteen h x e = step-nineteen _ _ _ (follows h) (sym (x .meets .answer) ∙ e)
 
 -- finish and start answer no such number, whatever they are handed
@@ -300,6 +304,7 @@ start-low true m (some b) t = go (isIri b) (leb (length b) mostNameBytes)
 pub finish-never-nineteen : {s : State} {w i : List ℕ} {r : Report} → Finishes s w i r → numberOf (r .answer) ≡ 19 → ⊥
 finish-never-nineteen {s} {w} {i} x e = omega (arith, finish-low (meaningOf s w i), x .meets .answer, e)
 
-pub start-never-nineteen : {a : Bool} {b : Bytes} {s : State} {w i : List ℕ} {r : Report} {w′ : List ℕ} → Starts a b s w i r w′ → numberOf (r .answer) ≡ 19 → ⊥
+pub start-never-nineteen : {a : Bool} {b : Bytes} {s : State} {w i : List ℕ} {r : Report} {w′ : List ℕ}
+    → Starts a b s w i r w′ → numberOf (r .answer) ≡ 19 → ⊥
 start-never-nineteen {a} {b} {s} {w} {i} x e =
     omega (arith, start-low (lengthsRight w i) baseMode (baseOf a b) (meaningOf s w i), x .meets .answer, e)

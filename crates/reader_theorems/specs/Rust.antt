@@ -47,12 +47,14 @@ pub record OnRust (b : Option Bytes) (d : Doc) (ts : List Triple) (es : List Eve
   pub accepts : parse-all es (new b) ≡ (ts, Ok reader)
   pub related : Related d reader
 
-on-rust : (b : Option Bytes) {d : Doc} {ts : List Triple} (a : After (fresh baseMode b) d ts) → OnRust b d ts (eventsOf a)
+on-rust : (b : Option Bytes) {d : Doc} {ts : List Triple} (a : After (fresh baseMode b) d ts)
+    → OnRust b d ts (eventsOf a)
 unfolding eventsOf parse-all
 on-rust b here = record { reader = new b; accepts = refl; related = begins-related b }
 on-rust b (event {d = d} {ts = ts} before e d′ us q) =
     let h : OnRust b d ts (eventsOf before) = on-rust b before in
-    let g = accepted-same e d d′ (h .reader) us (always-mode baseMode b d ts before) (nested-in baseMode b d ts before) (h .related) q in
+    let base : d .mode ≡ baseMode = always-mode baseMode b d ts before in
+    let g = accepted-same e d d′ (h .reader) us base (nested-in baseMode b d ts before) (h .related) q in
     record {
       reader = g .0;
       accepts =

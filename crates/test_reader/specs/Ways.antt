@@ -212,7 +212,8 @@ module _ {input e : Bytes} {s : State} {w₀ i₀ o₀ : List ℕ} {way : Way} {
       let c : Came (way .number) _ (way .same) (way .seen) _ _ _ _ = rw o at (g .along .leads) in
       rw (is, ← f) (record { number = c .number; lines = c .lines; behind = c .behind })
 
-start-number : (l : Bool) (m : Mode) (b : Option Bytes) (p q : calls.State) → callStart l m b p .answer ≡ callStart l m b q .answer
+start-number : (l : Bool) (m : Mode) (b : Option Bytes) (p q : calls.State)
+    → callStart l m b p .answer ≡ callStart l m b q .answer
 unfolding callStart calls.started calls.refused
 start-number l m b p q = go (calls.mayStart l b)
   where
@@ -220,17 +221,20 @@ start-number l m b p q = go (calls.mayStart l b)
     go (refuse n) = refl
     go (good tt) = refl
 
-start-opens : (l : Bool) (m : Mode) (b : Option Bytes) (q : calls.State) → callStart l m b q .answer ≡ 0 → callStart l m b q .behind ≡ isOpen (fresh m b)
+start-opens : (l : Bool) (m : Mode) (b : Option Bytes) (q : calls.State)
+    → callStart l m b q .answer ≡ 0 → callStart l m b q .behind ≡ isOpen (fresh m b)
 unfolding callStart calls.started calls.refused
 start-opens l m b q h = go (calls.mayStart l b) h
   where
-    go : (a : Answer (Unit {0})) → calls.started m b q a .answer ≡ 0 → calls.started m b q a .behind ≡ isOpen (fresh m b)
+    go : (a : Answer (Unit {0})) → calls.started m b q a .answer ≡ 0
+        → calls.started m b q a .behind ≡ isOpen (fresh m b)
     go (refuse n) e = absurd (number-positive n e)
     go (good tt) e = refl
 
 module _ {based : Bool} {base : Bytes} {s : State} {w i : List ℕ} {r : Report} {w′ : List ℕ} (x : Starts based base s w i r w′) where
   started : callStart (lengthsRight w i) baseMode (baseOf based base) noDocument .answer ≡ numberOf (r .answer)
-  started = start-number (lengthsRight w i) baseMode (baseOf based base) noDocument (meaningOf s w i) ∙ sym (x .meets .answer)
+  started =
+      start-number (lengthsRight w i) baseMode (baseOf based base) noDocument (meaningOf s w i) ∙ sym (x .meets .answer)
 
   module _ {n : ℕ} (u : n ≡ numberOf (r .answer)) where
     pub run-refused : {room : ℕ} {input e : Bytes} → 0 < n → Runs room (lengthsRight w i) (baseOf based base) input e (record { state = r .state; number = n; same = eqb 0 (length e) })
