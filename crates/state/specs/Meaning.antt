@@ -8,10 +8,10 @@ use Rattle.spec.specs.Bytes.{Bytes}
 use Rattle.spec.specs.Namespaces.{Binding}
 use Rattle.spec.specs.NTriples.{Subject, named, blank}
 use Rattle.spec.specs.Document.{Object, noObject, nodeObject, textObject, default, collection, literal, other, Property, Doc}
-use Rattle.spec.specs.Document.{Kind as What, rdfRDF, nodeElement, propertyElement, xmlElement, ordinary, Frame as Element}
+use Rattle.spec.specs.Document.{Kind as What, rdfRDF, nodeElement, propertyElement, xmlElement, Part, ordinary, topLevel, alternatives, Frame as Element}
 use Rattle.spec.specs.Modes.{baseMode}
 use Rattle.copy.specs.Copy.{part}
-use Rattle.state_words.specs.Parts.{NAME, BINDINGS, BASE, TAG, MAIN, ID, DATATYPE, TAIL, END, BASED, TAGGED, BLANK, IDENTIFIED, TYPED, PENDING, COUNT, FIRST}
+use Rattle.state_words.specs.Parts.{NAME, BINDINGS, BASE, TAG, MAIN, ID, DATATYPE, TAIL, END, BASED, TAGGED, BLANK, IDENTIFIED, TYPED, PENDING, PART, COUNT, FIRST}
 use Rattle.state_words.specs.declared.Kind.{Kind}
 use Rattle.state_words.specs.declared.Kind.the-variants.{Rdf, NodeElt, PropertyElt, ParseTypeCollectionPropertyElt, ParseTypeLiteralPropertyElt, ParseTypeOtherPropertyElt}
 use Rattle.state_words.specs.declared.Frame.{Frame}
@@ -98,6 +98,15 @@ whatOf ParseTypeCollectionPropertyElt f w s = propertyElement (propertyOf f w s)
 whatOf ParseTypeLiteralPropertyElt f w s = propertyElement (propertyOf f w s) (literal (span w (at f TAIL) (at f END)))
 whatOf ParseTypeOtherPropertyElt f w s = propertyElement (propertyOf f w s) other
 
+-- what is remembered of a packet: 0 nothing; 1 no child so far; of an rdf:Alt else 3 where its first rdf:li carries xml:lang
+unfoldable pub partOf : Kind → Frame → List ℕ → Part
+partOf Rdf f w = pick (eqb (has f PART) 0) ordinary (topLevel (pick (eqb (has f PART) 1) none (some (span w (at f TAIL) (at f END)))))
+partOf NodeElt f w = pick (eqb (has f PART) 0) ordinary (alternatives (pick (eqb (has f PART) 1) none (some (eqb (has f PART) 3))))
+partOf PropertyElt f w = ordinary
+partOf ParseTypeCollectionPropertyElt f w = ordinary
+partOf ParseTypeLiteralPropertyElt f w = ordinary
+partOf ParseTypeOtherPropertyElt f w = ordinary
+
 unfoldable pub elementOf : Frame → List Binding → List ℕ → Subject → Element
 elementOf f bound w s =
     record {
@@ -106,7 +115,7 @@ elementOf f bound w s =
       ownBase = optional (has f BASED) (span w (at f BASE) (at f TAG));
       ownTag = optional (has f TAGGED) (span w (at f TAG) (at f MAIN));
       kind = whatOf (f .kind) f w s;
-      part = ordinary;
+      part = partOf (f .kind) f w;
     }
 
 -- the subject of the element around element n

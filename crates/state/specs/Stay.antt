@@ -18,7 +18,7 @@ use Rattle.state_words.specs.declared.Frame.{Frame}
 use Rattle.state_words.specs.declared.Row.{Row}
 use Rattle.state_words.specs.Kept.{Kept, kept-less}
 use Rattle.state_words.specs.Words.{frameAt, rowAt, frame-kept, row-kept}
-use Rattle.state.specs.Meaning.{at, count, first, span, childSize, childFrom, childOf, childrenOf, bindingOf, bindingsOf, subjectOf, propertyOf, whatOf, elementOf, subjectBelow, framesOf, innerOf, innersOf}
+use Rattle.state.specs.Meaning.{at, count, first, span, childSize, childFrom, childOf, childrenOf, bindingOf, bindingsOf, subjectOf, propertyOf, whatOf, partOf, elementOf, subjectBelow, framesOf, innerOf, innersOf}
 use Rattle.state.specs.Valid.{chained, childrenOk, kindOk, nodeBelow, stands, framesOk, innersOk, ceiling, Rising, Sound, rising, top-sound, rest-ok, frames-on, top-inside, inners-rest, inners-on}
 
 pub span-kept : {w v : List ℕ} {lo hi : ℕ} → Kept w v lo hi → (a b : ℕ) → lo ≤ a → a ≤ b → b ≤ hi → span v a b ≡ span w a b
@@ -177,11 +177,21 @@ module _ {w v : List ℕ} {hi : ℕ} (k : Kept w v 0 hi) (f : Frame) (r : Rising
   what-kept ParseTypeLiteralPropertyElt s h = rw (property-kept s, span-kept k (at f TAIL) (at f END) (omega arith) (omega arith) (omega arith))
   what-kept ParseTypeOtherPropertyElt s h = rw (property-kept s)
 
+  part-kept : (q : Kind) → partOf q f v ≡ partOf q f w
+  unfolding partOf
+  part-kept Rdf = rw (span-kept k (at f TAIL) (at f END) (omega arith) (omega arith) (omega arith))
+  part-kept NodeElt = refl
+  part-kept PropertyElt = refl
+  part-kept ParseTypeCollectionPropertyElt = refl
+  part-kept ParseTypeLiteralPropertyElt = refl
+  part-kept ParseTypeOtherPropertyElt = refl
+
   pub element-kept : (bound : List Binding) (s : Subject) → kindOk (f .kind) f w ≡ true → elementOf f bound v s ≡ elementOf f bound w s
   unfolding elementOf
   element-kept bound s h =
       rw (
         what-kept (f .kind) s h,
+        part-kept (f .kind),
         span-kept k (at f NAME) (at f BINDINGS) (omega arith) (omega arith) (omega arith),
         span-kept k (at f BASE) (at f TAG) (omega arith) (omega arith) (omega arith),
         span-kept k (at f TAG) (at f MAIN) (omega arith) (omega arith) (omega arith),

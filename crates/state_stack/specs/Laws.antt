@@ -23,21 +23,21 @@ use Rattle.spec.specs.XmlLiteral.{takesXml}
 use Rattle.spec.specs.RdfXml.{takesText}
 use Rattle.spec.proofs.Booleans.{and-left, and-right}
 use Rattle.copy.specs.Copy.{part, storedAt, Wrote, part-inside, part-add, wrote-part, length-stored}
-use Rattle.state_words.specs.Parts.{NAME, BINDINGS, BASE, TAG, MAIN, ID, DATATYPE, TAIL, END, PLACES, BASED, TAGGED, BLANK, IDENTIFIED, TYPED, PENDING, COUNT, FIRST, MARKS, HEAD, FRAME, TABLE}
+use Rattle.state_words.specs.Parts.{NAME, BINDINGS, BASE, TAG, MAIN, ID, DATATYPE, TAIL, END, PLACES, BASED, TAGGED, BLANK, IDENTIFIED, TYPED, PENDING, PART, COUNT, FIRST, MARKS, HEAD, FRAME, TABLE}
 use Rattle.state_words.specs.declared.Kind.{Kind}
 use Rattle.state_words.specs.declared.Kind.the-variants.{Rdf, NodeElt, PropertyElt, ParseTypeCollectionPropertyElt, ParseTypeLiteralPropertyElt, ParseTypeOtherPropertyElt}
 use Rattle.state_words.specs.declared.Frame.{Frame}
 use Rattle.state_words.specs.Kept.{Kept, kept-all, kept-less, kept-before, kept-behind}
 use Rattle.state_words.specs.Words.{frameAt, rowAt, wordsOf, StoredFrame, load-frame, load-store, frame-wrote, row-there, length-words}
 use Rattle.state.specs.declared.Registers.{Registers}
-use Rattle.state.specs.Meaning.{at, has, count, first, span, objectOf, bindingOf, bindingsOf, subjectOf, whatOf, elementOf, subjectBelow, framesOf, startOf, elementsOf}
+use Rattle.state.specs.Meaning.{at, has, count, first, span, objectOf, bindingOf, bindingsOf, subjectOf, whatOf, partOf, elementOf, subjectBelow, framesOf, startOf, elementsOf}
 use Rattle.state.specs.Valid.{partsOk, chained, kindOk, emptyOr, nodeBelow, stands, Rising, Valid, rising, rises-up}
 use Rattle.state.specs.Tests.{positive}
 use Rattle.state.specs.Stay.{chained-on, chained-kept, bindings-kept, stands-kept, below-kept}
 use Rattle.state_stack.specs.declared.Changed.{Changed}
 use Rattle.state_stack.specs.Change.{Holds, On, pushed, popped, top-frame}
 use Rattle.state_stack.specs.Calls.{Pushes, mayPush, Pops, mayPop, Binds, mayBind, topFrame, sameKind, tailTo, counted, Tails, mayTail, Texts, Xmls, CountsLi, mayCount}
-use Rattle.state_stack.specs.Top.{Alike, alike-property, retailed, topped-change, topped-same, topped-flat}
+use Rattle.state_stack.specs.Top.{Alike, alike-property, retailed, asItWas, topped-change, topped-same, topped-flat}
 
 -- ---- bytes of a part among others
 
@@ -282,8 +282,9 @@ module _ {r : Registers} {fs bs is w s gs v : List ℕ} {from what : ℕ} {c : C
       → (Fresh (topFrame r fs) → Wrote w v from (from + length s) s → kindOk q (topFrame r fs) w ≡ true → kindOk q (tailTo (topFrame r fs) (from + length s) what) v ≡ true)
       → (Fresh (topFrame r fs) → Wrote w v from (from + length s) s → (u : Subject)
       → whatOf q (tailTo (topFrame r fs) (from + length s) what) v u ≡ onValue h (whatOf q (topFrame r fs) w u))
+      → ((f g : Frame) (u : List ℕ) → partOf q g v ≡ partOf q f u)
       → Holds (c .registers) gs bs is v (startOf r w) (changeValue h (elementsOf r fs bs is w)) (r .flags .rooted) (r .counts .labels)
-  tail-holds p y l q z ok eq =
+  tail-holds p y l q z ok eq plain =
       let m : mayTail r fs w from (length s) ≡ true = sym (p .answer) ∙ y in
       let t = may-tail r fs w from (length s) m in
       let to : ℕ = from + length s in
@@ -309,7 +310,9 @@ module _ {r : Registers} {fs bs is w s gs v : List ℕ} {from what : ℕ} {c : C
       ap (λ (g : Kind). kindOk g (tailTo f to what) v) kind ∙ ok′ new wr (sym (ap (λ (g : Kind). kindOk g f w) kind) ∙ tp .kind) in
       let wt : (o : Subject) → whatOf (f .kind) (tailTo f to what) v o ≡ onValue h (whatOf (f .kind) f w o) =
       λ o. ap (λ (g : Kind). whatOf g (tailTo f to what) v o) kind ∙ (eq′ new wr o ∙ ap (λ (g : Kind). onValue h (whatOf g f w o)) (sym kind)) in
-      let res = retailed x n (k .depth) (onValue h) al st (kept-less (kept-before wr) (omega arith) l′) (kept-less (kept-behind 65_536 wr) (t .room) (omega arith)) (p .sameBytes) (omega (arith, te)) (omega (arith, te, t .room)) kd wt in
+      let pt : partOf (f .kind) (tailTo f to what) v ≡ partOf (f .kind) f w =
+      ap (λ (g : Kind). partOf g (tailTo f to what) v) kind ∙ (plain f (tailTo f to what) w ∙ ap (λ (g : Kind). partOf g f w) (sym kind)) in
+      let res = retailed x n (k .depth) (onValue h) asItWas al st (kept-less (kept-before wr) (omega arith) l′) (kept-less (kept-behind 65_536 wr) (t .room) (omega arith)) (p .sameBytes) (omega (arith, te)) (omega (arith, te, t .room)) kd wt pt in
       rw (p .moved m, ← te, ← topped-change x n (k .depth) h) res
 
 pub by : {A : Type 0} (b : Bool) → (b ≡ true → A) → (b ≡ false → A) → A
@@ -376,12 +379,14 @@ module _ (f : Frame) (w t v : List ℕ) (n : Fresh f) (wr : Wrote w v (at f TAIL
 
 pub text-holds : {r : Registers} {fs bs is w t gs v : List ℕ} {c : Changed} → Valid r fs bs is w → Texts r fs w t c gs v → c .ok ≡ true
     → Holds (c .registers) gs bs is v (startOf r w) (changeValue (takesText t) (elementsOf r fs bs is w)) (r .flags .rooted) (r .counts .labels)
+unfolding partOf
 text-holds {r} {fs} {bs} {is} {w} {t} {gs} {v} {c} x p y =
     by (sameKind (topFrame r fs .kind) PropertyElt)
     (λ q.
     tail-holds x (takesText t) (p .tails q) y (omega arith) PropertyElt (is-property (topFrame r fs .kind) q)
     (λ n wr _. text-kind (topFrame r fs) w t v n wr)
-    (λ n wr u. text-what (topFrame r fs) w t v n wr u))
+    (λ n wr u. text-what (topFrame r fs) w t v n wr u)
+    (λ f g u. refl))
     (λ q. absurd (false≢true (sym (p .kept q .ok) ∙ y)))
 
 -- ---- XML text
@@ -427,12 +432,14 @@ top-deep r fs h =
 
 pub xml-holds : {r : Registers} {fs bs is w t gs v : List ℕ} {c : Changed} → Valid r fs bs is w → Xmls r fs w t c gs v → c .ok ≡ true
     → Holds (c .registers) gs bs is v (startOf r w) (changeValue (takesXml t) (elementsOf r fs bs is w)) (r .flags .rooted) (r .counts .labels)
+unfolding partOf
 xml-holds {r} {fs} {bs} {is} {w} {t} {gs} {v} {c} x p y =
     by (sameKind (topFrame r fs .kind) ParseTypeLiteralPropertyElt)
     (λ q.
     tail-holds x (takesXml t) (p .tails q) y (places q) ParseTypeLiteralPropertyElt (is-literal (topFrame r fs .kind) q)
     (λ n wr h. xml-kind (topFrame r fs) w t v n wr h)
-    (λ n wr u. xml-what (topFrame r fs) w t v n wr u))
+    (λ n wr u. xml-what (topFrame r fs) w t v n wr u)
+    (λ f g u. refl))
     (λ q.
     by (sameKind (topFrame r fs .kind) ParseTypeOtherPropertyElt)
     (λ o. dropped o)
@@ -494,6 +501,16 @@ module _ (f : Frame) (w : List ℕ) (a : length (f .at) ≡ PLACES) (b : length 
   unfolding whatOf G.counted subjectOf if_then_else_
   li-what i e s = rw (e, more, counted-alike f a b .isBlank)
 
+-- nothing is noted of it in a packet
+part-counted : (f : Frame) (w : List ℕ) (q : Kind) → partOf q (counted f) w ≡ partOf q f w
+unfolding partOf
+part-counted f w Rdf = rw (getD-set-other (f .has) COUNT PART (count f + 1) 0 (λ e. omega arith))
+part-counted f w NodeElt = rw (getD-set-other (f .has) COUNT PART (count f + 1) 0 (λ e. omega arith))
+part-counted f w PropertyElt = refl
+part-counted f w ParseTypeCollectionPropertyElt = refl
+part-counted f w ParseTypeLiteralPropertyElt = refl
+part-counted f w ParseTypeOtherPropertyElt = refl
+
 record Counted (r : Registers) (fs : List ℕ) : Type 0 where
   node : sameKind (topFrame r fs .kind) NodeElt ≡ true
   depth : 0 < r .counts .depth
@@ -527,7 +544,7 @@ li-may r fs n d l =
     node-differs e = false≢true (ap (λ (g : Kind). sameKind g NodeElt) (sym e))
 
 pub li-holds : {r : Registers} {fs bs is w gs : List ℕ} {b : Bool} → Valid r fs bs is w → r .counts .inner ≡ 0 → CountsLi r fs b gs → b ≡ true → (i : Bytes) → isLi i ≡ true
-    → (h : Part → Part) → h ordinary ≡ ordinary → Holds r gs bs is w (startOf r w) (countLi i h (elementsOf r fs bs is w)) (r .flags .rooted) (r .counts .labels)
+    → (h : Part → Part) → ((p : Part) → h p ≡ p) → Holds r gs bs is w (startOf r w) (countLi i h (elementsOf r fs bs is w)) (r .flags .rooted) (r .counts .labels)
 li-holds {r} {fs} {bs} {is} {w} {gs} {b} x z p y i li note o =
     let m : mayCount r fs ≡ true = sym (p .answer) ∙ y in
     let t = may-count r fs m in
@@ -548,8 +565,9 @@ li-holds {r} {fs} {bs} {is} {w} {gs} {b} x z p y i li note o =
     ap (λ (g : Kind). kindOk g (counted f) w) kind ∙ li-kind f w a h few (sym (ap (λ (g : Kind). kindOk g f w) kind) ∙ tp .kind) in
     let wt : (s : Subject) → whatOf (f .kind) (counted f) w s ≡ G.counted i (whatOf (f .kind) f w s) =
     λ s. ap (λ (g : Kind). whatOf g (counted f) w s) kind ∙ (li-what f w a h i li s ∙ ap (λ (g : Kind). G.counted i (whatOf g f w s)) (sym kind)) in
-    let res = retailed x n (k .depth) (G.counted i) al st kept-all kept-all refl (u .tail) (omega (arith, tp .ends, x .apart)) kd wt in
-    rw (← topped-flat x n (k .depth) z i note o) (rw (tp .ends) at res)
+    let pt : partOf (f .kind) (counted f) w ≡ note (partOf (f .kind) f w) = part-counted f w (f .kind) ∙ sym (o (partOf (f .kind) f w)) in
+    let res = retailed x n (k .depth) (G.counted i) note al st kept-all kept-all refl (u .tail) (omega (arith, tp .ends, x .apart)) kd wt pt in
+    rw (← topped-flat x n (k .depth) z i note) (rw (tp .ends) at res)
 
 -- what one more rdf:li leaves to the element that comes next: where it may stand, and the subject around it
 module _ {r : Registers} {fs gs : List ℕ} {b : Bool} (p : CountsLi r fs b gs) (y : b ≡ true) where

@@ -23,13 +23,13 @@ use Rattle.state_words.specs.declared.Frame.{Frame}
 use Rattle.state_words.specs.Kept.{Kept as Stays, kept-less, kept-before, kept-behind}
 use Rattle.state_words.specs.Words.{pick, frameAt, wordsOf, StoredFrame, load-frame}
 use Rattle.state.specs.declared.Registers.{Registers}
-use Rattle.state.specs.Meaning.{at, has, count, first, span, nodeOf, objectOf, childSize, childFrom, childOf, childrenOf, subjectOf, whatOf, elementOf, subjectBelow, framesOf, innersOf, startOf, elementsOf}
+use Rattle.state.specs.Meaning.{at, has, count, first, span, nodeOf, objectOf, childSize, childFrom, childOf, childrenOf, subjectOf, whatOf, partOf, elementOf, subjectBelow, framesOf, innersOf, startOf, elementsOf}
 use Rattle.state.specs.Valid.{emptyOr, childrenOk, kindOk, Rising, Valid, rising}
 use Rattle.state.specs.Stay.{children-on, children-ok-kept, children-kept, collected, collected-ok}
 use Rattle.state_stack.specs.declared.Changed.{Changed}
 use Rattle.state_stack.specs.Change.{Holds, poppedTo, popped, top-frame, top-element}
 use Rattle.state_stack.specs.Calls.{topFrame, sameKind, mayPop}
-use Rattle.state_stack.specs.Top.{Alike, alike-property, retailed, topped-change, topped-same}
+use Rattle.state_stack.specs.Top.{Alike, alike-property, retailed, asItWas, topped-change, topped-same}
 use Rattle.state_stack.specs.Laws.{Fresh, by, is-property, is-node, may-pop, top-deep, topmost, tail-alike, tail-end, tail-what, length-at, length-has, stored-frame, front-of, back-of}
 use Rattle.state_stack.specs.declared.nodes.Child.{Child}
 use Rattle.state_stack.specs.Take.{mayTake, mayChild, objectWord, blankByte, mainSize, objectFrame, childFrame, markOf, Taken, TakesNode, ClosesNode, mayClose, without, movable, childIn}
@@ -188,16 +188,26 @@ is-collection ParseTypeCollectionPropertyElt e = refl
 is-collection ParseTypeLiteralPropertyElt e = absurd (false≢true e)
 is-collection ParseTypeOtherPropertyElt e = absurd (false≢true e)
 
+-- a packet remembers nothing of properties
+property-ordinary : {k : Kind} → k ≡ PropertyElt → (f g : Frame) (w v : List ℕ) → partOf k f w ≡ partOf k g v
+unfolding partOf
+property-ordinary e f g w v = rw e
+
+collection-ordinary : {k : Kind} → k ≡ ParseTypeCollectionPropertyElt → (f g : Frame) (w v : List ℕ) → partOf k f w ≡ partOf k g v
+unfolding partOf
+collection-ordinary e f g w v = rw e
+
 module _ {r : Registers} {fs bs is w gs v : List ℕ} {n : Frame} {c : Changed} (x : Valid r fs bs is w) (flat : r .counts .inner ≡ 0) (t : TakesNode r fs w n c gs v) (y : c .ok ≡ true) where
   -- a frame stored on top, with bytes moved down
   stored-holds : (m : ℕ) (d : r .counts .depth ≡ suc m) {g : Frame} {to end : ℕ} {s : List ℕ} → Alike (frameAt fs m) g → m * FRAME + FRAME ≤ length fs → Taken r fs w g to end s c gs v → at g END ≡ end
       → at (frameAt fs m) TAIL ≤ to → at (frameAt fs m) TAIL ≤ end → end ≤ r .store .low → kindOk (frameAt fs m .kind) g v ≡ true
       → ((u : Subject) → whatOf (frameAt fs m .kind) g v u ≡ onValue (takesNode (subjectOf n w)) (whatOf (frameAt fs m .kind) (frameAt fs m) w u))
+      → partOf (frameAt fs m .kind) g v ≡ partOf (frameAt fs m .kind) (frameAt fs m) w
       → Holds (c .registers) gs bs is v (startOf r w) (changeValue (takesNode (subjectOf n w)) (elementsOf r fs bs is w)) (r .flags .rooted) (r .counts .labels)
-  stored-holds m d {g} {to} {end} {s} al room k e l l′ b kd wt =
+  stored-holds m d {g} {to} {end} {s} al room k e l l′ b kd wt pt =
       let st : StoredFrame fs m g gs true =
       stored-frame m room (al .places) (al .marks) (k .stored ∙ ap (λ (i : ℕ). storedAt fs (i * FRAME) (wordsOf g)) (omega (arith, d))) in
-      let res = retailed x m d (onValue (takesNode (subjectOf n w))) al st (kept-less (kept-before (k .wrote)) (omega arith) l) (kept-less (kept-behind 65_536 (k .wrote)) b (omega arith)) (wrote-same (k .wrote)) (omega (arith, e)) (omega (arith, e)) (ap (λ (q : Kind). kindOk q g v) (al .kind) ∙ kd) wt in
+      let res = retailed x m d (onValue (takesNode (subjectOf n w))) asItWas al st (kept-less (kept-before (k .wrote)) (omega arith) l) (kept-less (kept-behind 65_536 (k .wrote)) b (omega arith)) (wrote-same (k .wrote)) (omega (arith, e)) (omega (arith, e)) (ap (λ (q : Kind). kindOk q g v) (al .kind) ∙ kd) wt pt in
       rw (k .moved, ← e, ← topped-change x m d (takesNode (subjectOf n w))) res
 
   object-holds : sameKind (topFrame r fs .kind) PropertyElt ≡ true
@@ -223,7 +233,8 @@ module _ {r : Registers} {fs bs is w gs v : List ℕ} {n : Frame} {c : Changed} 
       (ap (λ (q : Kind). kindOk q (objectFrame f n) v) kind ∙ object-kind f n w v z (ta .wrote) fit)
       (λ u.
       ap (λ (q : Kind). whatOf q (objectFrame f n) v u) kind
-      ∙ (object-what f n w v z (ta .wrote) fit u ∙ ap (λ (q : Kind). onValue (takesNode (subjectOf n w)) (whatOf q f w u)) (sym kind))))
+      ∙ (object-what f n w v z (ta .wrote) fit u ∙ ap (λ (q : Kind). onValue (takesNode (subjectOf n w)) (whatOf q f w u)) (sym kind)))
+      (property-ordinary kind (objectFrame f n) f v w))
       (λ h. absurd (false≢true (sym (ob .kept h .ok) ∙ y)))
 
   child-holds : sameKind (topFrame r fs .kind) PropertyElt ≡ false → sameKind (topFrame r fs .kind) ParseTypeCollectionPropertyElt ≡ true
@@ -251,7 +262,8 @@ module _ {r : Registers} {fs bs is w gs v : List ℕ} {n : Frame} {c : Changed} 
       (ap (λ (q : Kind). kindOk q (childFrame f n) v) kind ∙ child-kind f n w v z fit (ta .wrote) ok)
       (λ u.
       ap (λ (q : Kind). whatOf q (childFrame f n) v u) kind
-      ∙ (child-what f n w v z fit (ta .wrote) ok u ∙ ap (λ (q : Kind). onValue (takesNode (subjectOf n w)) (whatOf q f w u)) (sym kind))))
+      ∙ (child-what f n w v z fit (ta .wrote) ok u ∙ ap (λ (q : Kind). onValue (takesNode (subjectOf n w)) (whatOf q f w u)) (sym kind)))
+      (collection-ordinary kind (childFrame f n) f v w))
       (λ h. absurd (false≢true (sym (ch .kept h .ok) ∙ y)))
 
   none-holds : sameKind (topFrame r fs .kind) PropertyElt ≡ false → sameKind (topFrame r fs .kind) ParseTypeCollectionPropertyElt ≡ false

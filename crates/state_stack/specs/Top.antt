@@ -9,7 +9,7 @@ use Rattle.spec.specs.Bytes.{Bytes, if_then_else_}
 use Rattle.spec.specs.Opening.{counted, countLi}
 use Rattle.spec.specs.Namespaces.{Binding}
 use Rattle.spec.specs.NTriples.{Subject}
-use Rattle.spec.specs.Document.{Value, Kind as What, Part, ordinary, Frame as Element, withKind, withPart, onValue, isXmlElement, changeValue}
+use Rattle.spec.specs.Document.{Value, Kind as What, Part, Frame as Element, withKind, withPart, onValue, isXmlElement, changeValue}
 use Rattle.state_words.specs.Parts.{NAME, BINDINGS, BASE, TAG, MAIN, ID, DATATYPE, TAIL, END, PLACES, BASED, TAGGED, BLANK, IDENTIFIED, TYPED, MARKS, FRAME}
 use Rattle.state_words.specs.declared.Kind.{Kind}
 use Rattle.state_words.specs.declared.Kind.the-variants.{Rdf, NodeElt, PropertyElt, ParseTypeCollectionPropertyElt, ParseTypeLiteralPropertyElt, ParseTypeOtherPropertyElt}
@@ -17,7 +17,7 @@ use Rattle.state_words.specs.declared.Frame.{Frame}
 use Rattle.state_words.specs.Kept.{Kept, kept-all, kept-less, kept-before}
 use Rattle.state_words.specs.Words.{frameAt, StoredFrame, frame-wrote, load-store}
 use Rattle.state.specs.declared.Registers.{Registers}
-use Rattle.state.specs.Meaning.{at, has, count, first, bindingsOf, propertyOf, whatOf, elementOf, subjectBelow, framesOf, innerOf, innersOf, startOf, elementsOf}
+use Rattle.state.specs.Meaning.{at, has, count, first, bindingsOf, propertyOf, whatOf, partOf, elementOf, subjectBelow, framesOf, innerOf, innersOf, startOf, elementsOf}
 use Rattle.state.specs.Valid.{partsOk, kindOk, Rising, Sound, Valid, rising, rises-up}
 use Rattle.state.specs.Stay.{span-kept, bindings-kept, stands-kept, below-kept}
 use Rattle.state_stack.specs.Change.{Holds, On, toppedTo, changed, top-frame, under, top-element}
@@ -72,13 +72,16 @@ alike-property {f} {g} {w} {v} a r k s =
       span-kept k (at f ID) (at f DATATYPE) (omega arith) (omega arith) (omega arith),
     )
 
-alike-element : {f g : Frame} {w v : List ℕ} → Alike f g → Rising f → Kept w v 0 (at f TAIL) → (K : What → What) (bound : List Binding) (s : Subject)
-    → whatOf (f .kind) g v s ≡ K (whatOf (f .kind) f w s) → elementOf g bound v s ≡ withKind (K (whatOf (f .kind) f w s)) (elementOf f bound w s)
-unfolding elementOf withKind
-alike-element {f} {g} {w} {v} a r k K bound s e =
+alike-element : {f g : Frame} {w v : List ℕ} → Alike f g → Rising f → Kept w v 0 (at f TAIL) → (K : What → What) (h : Part → Part) (bound : List Binding) (s : Subject)
+    → whatOf (f .kind) g v s ≡ K (whatOf (f .kind) f w s) → partOf (f .kind) g v ≡ h (partOf (f .kind) f w)
+    → elementOf g bound v s ≡ withPart (h (partOf (f .kind) f w)) (withKind (K (whatOf (f .kind) f w s)) (elementOf f bound w s))
+unfolding elementOf withKind withPart
+alike-element {f} {g} {w} {v} a r k K h bound s e d =
     let q : whatOf (g .kind) g v s ≡ K (whatOf (f .kind) f w s) = ap (λ (c : Kind). whatOf c g v s) (a .kind) ∙ e in
+    let p : partOf (g .kind) g v ≡ h (partOf (f .kind) f w) = ap (λ (c : Kind). partOf c g v) (a .kind) ∙ d in
     rw (
       q,
+      p,
       a .name,
       a .bindings,
       a .base,
@@ -94,20 +97,22 @@ alike-element {f} {g} {w} {v} a r k K bound s e =
 -- ---- the law
 
 module _ {r : Registers} {fs bs is w : List ℕ} (x : Valid r fs bs is w) (n : ℕ) (d : r .counts .depth ≡ suc n) where
-  -- the element on top with another kind
-  unfoldable pub topped : (What → What) → List Element
-  topped K =
+  -- the element on top with another kind, and another part in a packet
+  unfoldable pub topped : (What → What) → (Part → Part) → List Element
+  topped K h =
       innersOf is bs w (r .counts .inner) (r .counts .bindings)
-      ++ (withKind (K (whatOf (frameAt fs n .kind) (frameAt fs n) w (subjectBelow fs w n)))
-      (elementOf (frameAt fs n) (bindingsOf bs w (first (frameAt fs n)) (r .counts .outer - first (frameAt fs n))) w (subjectBelow fs w n))
+      ++ (withPart (h (partOf (frameAt fs n .kind) (frameAt fs n) w))
+      (withKind (K (whatOf (frameAt fs n .kind) (frameAt fs n) w (subjectBelow fs w n)))
+      (elementOf (frameAt fs n) (bindingsOf bs w (first (frameAt fs n)) (r .counts .outer - first (frameAt fs n))) w (subjectBelow fs w n)))
       ∷ framesOf fs bs w n (first (frameAt fs n)))
 
-  pub retailed : {gs v : List ℕ} {g : Frame} {q : Bool} (K : What → What) → Alike (frameAt fs n) g → StoredFrame fs n g gs q → Kept w v 0 (at (frameAt fs n) TAIL) → Kept w v (r .store .low) 65_536
+  pub retailed : {gs v : List ℕ} {g : Frame} {q : Bool} (K : What → What) (note : Part → Part) → Alike (frameAt fs n) g → StoredFrame fs n g gs q → Kept w v 0 (at (frameAt fs n) TAIL) → Kept w v (r .store .low) 65_536
       → length v ≡ length w → at (frameAt fs n) TAIL ≤ at g END → at g END ≤ r .store .low → kindOk (g .kind) g v ≡ true
       → ((s : Subject) → whatOf (frameAt fs n .kind) g v s ≡ K (whatOf (frameAt fs n .kind) (frameAt fs n) w s))
-      → Holds (toppedTo r (at g END)) gs bs is v (startOf r w) (topped K) (r .flags .rooted) (r .counts .labels)
+      → partOf (frameAt fs n .kind) g v ≡ note (partOf (frameAt fs n .kind) (frameAt fs n) w)
+      → Holds (toppedTo r (at g END)) gs bs is v (startOf r w) (topped K note) (r .flags .rooted) (r .counts .labels)
   unfolding topped
-  retailed {gs} {v} {g} {q} K a st k kl lv up lt ok what =
+  retailed {gs} {v} {g} {q} K note a st k kl lv up lt ok what noted =
       let t = top-frame x n d in
       let f : Frame = frameAt fs n in
       let u : Rising f = rising f (t .up) in
@@ -146,7 +151,7 @@ module _ {r : Registers} {fs bs is w : List ℕ} (x : Valid r fs bs is w) (n : �
       record {
         valid = h .valid;
         base = h .base;
-        elements = h .elements ∙ rw (s, b, alike-element a u k K (bindingsOf bs w (first f) (r .counts .outer - first f)) (subjectBelow fs w n) (what (subjectBelow fs w n)));
+        elements = h .elements ∙ rw (s, b, alike-element a u k K note (bindingsOf bs w (first f) (r .counts .outer - first f)) (subjectBelow fs w n) (what (subjectBelow fs w n)) noted);
         root = refl;
         count = refl;
       }
@@ -162,6 +167,10 @@ what-outside ParseTypeCollectionPropertyElt f w s = refl
 what-outside ParseTypeLiteralPropertyElt f w s = refl
 what-outside ParseTypeOtherPropertyElt f w s = refl
 
+-- nothing is noted
+abbrev pub asItWas : Part → Part
+asItWas p = p
+
 -- a change goes past the elements inside Literal content
 change-inners : (h : Value → Value) (is bs w : List ℕ) (n b : ℕ) (es : List Element) → changeValue h (innersOf is bs w n b ++ es) ≡ innersOf is bs w n b ++ changeValue h es
 unfolding changeValue innersOf innerOf isXmlElement if_then_else_
@@ -174,8 +183,8 @@ unfolding changeValue elementOf if_then_else_
 change-element h f bound w s es = rw (what-outside (f .kind) f w s)
 
 pub topped-change : {r : Registers} {fs bs is w : List ℕ} (x : Valid r fs bs is w) (n : ℕ) (d : r .counts .depth ≡ suc n) (h : Value → Value)
-    → topped x n d (onValue h) ≡ changeValue h (elementsOf r fs bs is w)
-unfolding topped elementsOf
+    → topped x n d (onValue h) asItWas ≡ changeValue h (elementsOf r fs bs is w)
+unfolding topped elementsOf withKind withPart elementOf
 topped-change {r} {fs} {bs} {is} {w} x n d h =
     let f : Frame = frameAt fs n in
     sym (
@@ -186,12 +195,12 @@ topped-change {r} {fs} {bs} {is} {w} x n d h =
 -- a kind that stays
 pub topped-same : {r : Registers} {fs bs is w : List ℕ} (x : Valid r fs bs is w) (n : ℕ) (d : r .counts .depth ≡ suc n) (K : What → What)
     → K (whatOf (frameAt fs n .kind) (frameAt fs n) w (subjectBelow fs w n)) ≡ whatOf (frameAt fs n .kind) (frameAt fs n) w (subjectBelow fs w n)
-    → topped x n d K ≡ elementsOf r fs bs is w
-unfolding topped elementsOf withKind elementOf
+    → topped x n d K asItWas ≡ elementsOf r fs bs is w
+unfolding topped elementsOf withKind withPart elementOf
 topped-same {r} {fs} {bs} {is} {w} x n d K e = rw (e, top-element x n d)
 
--- one more rdf:li, where nothing stands inside Literal content; nothing is remembered of an ordinary element
+-- one more child, where nothing stands inside Literal content
 pub topped-flat : {r : Registers} {fs bs is w : List ℕ} (x : Valid r fs bs is w) (n : ℕ) (d : r .counts .depth ≡ suc n) → r .counts .inner ≡ 0 → (i : Bytes) (h : Part → Part)
-    → h ordinary ≡ ordinary → topped x n d (counted i) ≡ countLi i h (elementsOf r fs bs is w)
-unfolding topped elementsOf innersOf countLi withKind withPart elementOf
-topped-flat {r} {fs} {bs} {is} {w} x n d z i h o = rw (z, top-element x n d, o)
+    → topped x n d (counted i) h ≡ countLi i h (elementsOf r fs bs is w)
+unfolding topped elementsOf innersOf countLi elementOf
+topped-flat {r} {fs} {bs} {is} {w} x n d z i h = rw (z, top-element x n d)

@@ -68,6 +68,10 @@ TYPED = IDENTIFIED + 1
 abbrev pub PENDING : ℕ
 PENDING = TYPED + 1
 
+-- what rdf:RDF or a node is in a packet: only properties have an object, so one word serves for both
+abbrev pub PART : ℕ
+PART = PENDING
+
 -- rdf:li of a node, children of a Collection
 abbrev pub COUNT : ℕ
 COUNT = PENDING + 1
