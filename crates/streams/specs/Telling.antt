@@ -54,14 +54,14 @@ length-shown (suc v) = length-decimal (suc v)
 
 -- the second number has room behind the first
 pub line-goes-on : {d e f : List ℕ} {what : Bytes} {to k : ℕ} {r : Bool} (v : ℕ)
-    → length d ≡ 160 → length what ≤ 64 → Put d 0 what e r
+    → length d ≡ 4_256 → length what ≤ 4_160 → Put d 0 what e r
     → Wrote e f (length what) to (ascii " after " ++ shown v) → k ≡ 18 → to + k + 20 ≤ length f
 unfolding ascii
 line-goes-on v h few p w e =
     omega (arith, p .same, wrote-same w, w .up, length-append (ascii " after ") (shown v), length-shown v)
 
 pub line-made : {d e f g h : List ℕ} {what : Bytes} {m to : ℕ} {r q : Bool} (events bytes : ℕ)
-    → length d ≡ 160 → length what ≤ 64 → Put d 0 what e r → Wrote e f (length what) m (ascii " after " ++ shown events)
+    → length d ≡ 4_256 → length what ≤ 4_160 → Put d 0 what e r → Wrote e f (length what) m (ascii " after " ++ shown events)
     → Wrote f g m to (ascii " whole events and " ++ shown bytes) → Put g to (ascii " bytes") h q
     → Wrote d h 0 (to + 6) (failureLine what events bytes)
 unfolding failureLine ascii
