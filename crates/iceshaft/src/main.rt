@@ -115,5 +115,7 @@ fn convert_one(source: i32, name: &[u8], based: bool, base: &[u8]) -> bool
     requires { ⌜ length (now name) ≤ 4_096 ⌝ }
 {
     let outcome = convert::document(source, based, base);
-    telling::tell(name, outcome)
+    let how = outcome.how;
+    telling::tell(name, outcome);
+    telling::goes_on(how)
 }

@@ -12,32 +12,31 @@ use libc::STDERR_FILENO;
 // Room for a name, and what is said of it.
 const LINE: usize = 4_160;
 
-// How the document of this name ended, told where it is not whole: whether the next is to be read. Behind a write that failed
-// nothing is written, and a start that is refused would be refused again.
-pub fn tell(name: &[u8], outcome: Outcome) -> bool
+// Is the next document to be read? Behind a write that failed nothing is written, and a start that is refused would be
+// refused again.
+pub fn goes_on(how: How) -> bool
+    ensures { λ on. ⌜ on ≡ goesOn how ⌝ }
+{
+    match how {
+        How::Done(_) => true,
+        How::Unwritten => false,
+        How::Unread => true,
+        How::Unstarted(_) => false,
+    }
+}
+
+// How the document of this name ended, where it is not whole.
+pub fn tell(name: &[u8], outcome: Outcome)
     requires { ⌜ (length (now name) ≤ 4_096) × Came outcome ⌝ }
-    ensures { λ on. ⌜ on ≡ goesOn (outcome .how) ⌝ }
 {
     let event = outcome.event;
     let bytes = outcome.bytes;
     let how = outcome.how;
     match how {
-        How::Done(number) => {
-            tell_refused(name, number, event);
-            true
-        }
-        How::Unwritten => {
-            tell_failed(name, b": write failed", event - 1, bytes);
-            false
-        }
-        How::Unread => {
-            tell_failed(name, b": read failed", event - 1, bytes);
-            true
-        }
-        How::Unstarted(number) => {
-            tell_unstarted(number);
-            false
-        }
+        How::Done(number) => tell_refused(name, number, event),
+        How::Unwritten => tell_failed(name, b": write failed", event - 1, bytes),
+        How::Unread => tell_failed(name, b": read failed", event - 1, bytes),
+        How::Unstarted(number) => tell_unstarted(number),
     }
 }
 

@@ -1,4 +1,4 @@
--- `telling::tell` meets its contract: a line for each way that a document ends.
+-- `telling::tell` is safe: behind a failure an event can be counted.
 use native.Mathlib.Omega.{arith}
 use Rattle.iceshaft.specs.Telling.{cut-event, unread-event}
 use borrow.Author.Needs.{needs}
