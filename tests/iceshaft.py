@@ -69,6 +69,7 @@ def arguments(t):
     t.trial('no argument', [], b'', b'iceshaft: --pyx is missing: PYX is all that it reads\n')
     t.trial('no --pyx', ['first.pyx'], b'', b'iceshaft: --pyx is missing: PYX is all that it reads\n')
     t.trial('unknown', ['--pyx', '--fast', 'first.pyx'], b'', b'iceshaft: unknown argument: --fast' + TAKES)
+    t.trial('unknown, the longest', ['--pyx', '-' * MOST], b'', b'iceshaft: unknown argument: ' + b'-' * MOST + TAKES)
     t.trial('- is none', ['--pyx', '-'], b'', b'iceshaft: unknown argument: -' + TAKES)
     t.trial('a switch behind a file', ['--pyx', 'last.pyx', '--base', BASE], b'', b'iceshaft: unknown argument: --base' + TAKES)
     t.trial('two bases', ['--pyx', '--base', BASE, '--base', BASE], b'', b'iceshaft: unknown argument: --base' + TAKES)
@@ -106,7 +107,9 @@ def main():
         folder = pathlib.Path(folder)
         for name in ('first.pyx', 'refused.pyx', 'last.pyx'):
             (folder / name).write_bytes((DATA / name).read_bytes())
-        tester = Tester(shlex.split(sys.argv[1]), folder)
+        # it runs in a folder of its own, so its files are named from the root
+        command = [os.path.abspath(word) if os.path.exists(word) else word for word in shlex.split(sys.argv[1])]
+        tester = Tester(command, folder)
         for part in (documents, arguments, faults):
             part(tester)
     print(f'{tester.passed} passed, {tester.failed} failed')

@@ -37,6 +37,10 @@ refusalLine name n k = name ++ (ascii ": refused " ++ (decimal n ++ (ascii " at 
 unfoldable pub startLine : ℕ → Bytes
 startLine n = ascii "iceshaft: refused " ++ (decimal n ++ ascii " at start\n")
 
+-- `iceshaft: unknown argument: --fast; it takes --pyx [--base IRI] [FILE..]`
+unfoldable pub unknownLine : Bytes → Bytes
+unknownLine word = ascii "iceshaft: unknown argument: " ++ (word ++ ascii "; it takes --pyx [--base IRI] [FILE..]\n")
+
 -- `iceshaft: argument 3 is longer than 4096 bytes`
 unfoldable pub longLine : ℕ → Bytes
 longLine i = ascii "iceshaft: argument " ++ (decimal i ++ ascii " is longer than 4096 bytes\n")
@@ -64,6 +68,13 @@ both-put {s = s} h p k =
     let z : 0 + length s ≡ length s = omega arith in
     then (rw z at (put-fits p (omega arith))) (put-fits k (omega (arith, p .same)))
 
+-- a word between two texts
+pub unknown-made : {d e f g : List ℕ} {word : Bytes} {r q t : Bool} → length d ≡ 4_192 → length word ≤ 4_096 → Put d 0 (ascii "iceshaft: unknown argument: ") e r → Put e 28 word f q
+    → Put f (28 + length word) (ascii "; it takes --pyx [--base IRI] [FILE..]\n") g t → Wrote d g 0 (28 + length word + 39) (unknownLine word)
+unfolding unknownLine ascii
+unknown-made room few p k l =
+    then (put-fits p (omega arith)) (then (put-fits k (omega (arith, p .same))) (put-fits l (omega (arith, p .same, k .same))))
+
 -- a text with a number, and one behind it
 pub number-told : {d e f : List ℕ} {to : ℕ} {q : Bool} (s t : Bytes) (n : ℕ) → length s + 20 + length t ≤ length d → Wrote d e 0 to (s ++ decimal n) → Put e to t f q
     → Wrote d f 0 (to + length t) (s ++ (decimal n ++ t))
@@ -72,12 +83,12 @@ number-told s t n h w k =
     simp append-assoc at (then w y)
 
 -- the second number of a refusal has room behind the first
-pub refusal-goes-on : {d e f : List ℕ} {name : Bytes} {to k : ℕ} {r : Bool} (n : ℕ) → length d ≡ 4_160 → length name ≤ 4_096 → Put d 0 name e r
+pub refusal-goes-on : {d e f : List ℕ} {name : Bytes} {to k : ℕ} {r : Bool} (n : ℕ) → length d ≡ 4_192 → length name ≤ 4_096 → Put d 0 name e r
     → Wrote e f (length name) to (ascii ": refused " ++ decimal n) → k ≡ 10 → to + k + 20 ≤ length f
 unfolding ascii
 refusal-goes-on n h few p w e = omega (arith, p .same, wrote-same w, w .up, length-append (ascii ": refused ") (decimal n), length-decimal n)
 
-pub refusal-made : {d e f g h : List ℕ} {name : Bytes} {m to : ℕ} {r q : Bool} (n k : ℕ) → length d ≡ 4_160 → length name ≤ 4_096 → Put d 0 name e r
+pub refusal-made : {d e f g h : List ℕ} {name : Bytes} {m to : ℕ} {r q : Bool} (n k : ℕ) → length d ≡ 4_192 → length name ≤ 4_096 → Put d 0 name e r
     → Wrote e f (length name) m (ascii ": refused " ++ decimal n) → Wrote f g m to (ascii " at event " ++ decimal k) → Put g to (ascii "\n") h q
     → Wrote d h 0 (to + 1) (refusalLine name n k)
 unfolding refusalLine ascii

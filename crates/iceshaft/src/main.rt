@@ -38,8 +38,10 @@ fn choose(count: usize) -> Looked
     settle(chosen)
 }
 
-// Argument `i`, by way of `word`.
-fn look_at(chosen: Chosen, i: usize, word: &mut [u8]) -> Looked {
+// Argument `i`, by way of `word`; one that is wrong is told.
+fn look_at(chosen: Chosen, i: usize, word: &mut [u8]) -> Looked
+    requires { ⌜ length (now word) ≤ 4_096 ⌝ }
+{
     let n = os::arg(i, word);
     if os::errno() == libc::ENAMETOOLONG {
         telling::tell_long(i);
@@ -49,7 +51,8 @@ fn look_at(chosen: Chosen, i: usize, word: &mut [u8]) -> Looked {
     match looked {
         Looked::On(next) => Looked::On(next),
         Looked::Wrong => {
-            streams::tell_unknown(b"iceshaft", i, b"it takes --pyx [--base IRI] [FILE..]");
+            streams::keep_to_line(word);
+            telling::tell_unknown(&word[..n]);
             Looked::Wrong
         }
     }
@@ -70,7 +73,7 @@ fn settle(chosen: Chosen) -> Looked
     Looked::On(chosen)
 }
 
-// The files, or standard input where there are none, all with the same base.
+// The files, or standard input where there are none, all with the same base. Argument 0 is the program's name, and no base.
 fn convert_all(chosen: Chosen, count: usize) {
     let mut base = [0u8; Chosen::MOST];
     let based = chosen.base > 0;

@@ -4,13 +4,13 @@ ghost use mathlib.Core.Path.{_≡_};
 ghost use mathlib.Core.List.{_++_};
 ghost use lib.ListN.{length};
 ghost use Rattle.copy.specs.Copy.{Wrote};
-ghost use Rattle.iceshaft.specs.Telling.{Came, goesOn, refusalLine, startLine, longLine};
+ghost use Rattle.iceshaft.specs.Telling.{Came, goesOn, refusalLine, startLine, unknownLine, longLine};
 use convert::How;
 use convert::Outcome;
 use libc::STDERR_FILENO;
 
 // Room for a name, and what is said of it.
-const LINE: usize = 4_160;
+const LINE: usize = 4_192;
 
 // Is the next document to be read? Behind a write that failed nothing is written, and a start that is refused would be
 // refused again.
@@ -53,7 +53,7 @@ fn tell_refused(name: &[u8], number: u8, event: usize)
 }
 
 fn refusal_line(line: &mut [u8], name: &[u8], number: u8, event: usize) -> usize
-    requires { ⌜ (length (now line) ≡ 4_160) × (length (now name) ≤ 4_096) ⌝ }
+    requires { ⌜ (length (now line) ≡ 4_192) × (length (now name) ≤ 4_096) ⌝ }
     ensures { λ n. ⌜ Wrote (now (line .entry)) (now (line .exit)) 0 n (refusalLine (now (name .entry)) number event) ⌝ }
 {
     copy::put(line, 0, name);
@@ -71,12 +71,35 @@ fn tell_unstarted(number: u8) {
 }
 
 fn start_line(line: &mut [u8], number: u8) -> usize
-    requires { ⌜ length (now line) ≡ 4_160 ⌝ }
+    requires { ⌜ length (now line) ≡ 4_192 ⌝ }
     ensures { λ n. ⌜ Wrote (now (line .entry)) (now (line .exit)) 0 n (startLine number) ⌝ }
 {
     let n = streams::put_number(line, 0, b"iceshaft: refused ", number as u64);
     copy::put(line, n, b" at start\n");
     n + 10
+}
+
+// An argument that is unknown where it stands.
+pub fn tell_unknown(word: &[u8])
+    requires { ⌜ length (now word) ≤ 4_096 ⌝ }
+{
+    let mut line = [0u8; LINE];
+    let n = unknown_line(&mut line, word);
+    tell_line(&line[..n]);
+}
+
+fn unknown_line(line: &mut [u8], word: &[u8]) -> usize
+    requires { ⌜ (length (now line) ≡ 4_192) × (length (now word) ≤ 4_096) ⌝ }
+    ensures { λ n. ⌜ Wrote (now (line .entry)) (now (line .exit)) 0 n (unknownLine (now (word .entry))) ⌝ }
+{
+    copy::put(line, 0, b"iceshaft: unknown argument: ");
+    copy::put(line, 28, word);
+    copy::put(
+        line,
+        28 + word.len(),
+        b"; it takes --pyx [--base IRI] [FILE..]\n",
+    );
+    28 + word.len() + 39
 }
 
 // An argument that is longer than is read.
@@ -87,7 +110,7 @@ pub fn tell_long(i: usize) {
 }
 
 fn long_line(line: &mut [u8], i: usize) -> usize
-    requires { ⌜ length (now line) ≡ 4_160 ⌝ }
+    requires { ⌜ length (now line) ≡ 4_192 ⌝ }
     ensures { λ n. ⌜ Wrote (now (line .entry)) (now (line .exit)) 0 n (longLine i) ⌝ }
 {
     let n = streams::put_number(line, 0, b"iceshaft: argument ", i as u64);
@@ -115,7 +138,7 @@ pub fn tell_unopened(name: &[u8])
 
 // The name and what is said of it, to the front of `line`: their length.
 fn named(line: &mut [u8], name: &[u8], what: &[u8]) -> usize
-    requires { ⌜ (length (now line) ≡ 4_160) × (length (now name) ≤ 4_096) × (length (now what) ≤ 64) ⌝ }
+    requires { ⌜ (length (now line) ≡ 4_192) × (length (now name) ≤ 4_096) × (length (now what) ≤ 64) ⌝ }
     ensures { λ n. ⌜ Wrote (now (line .entry)) (now (line .exit)) 0 n (now (name .entry) ++ now (what .entry)) ⌝ }
 {
     copy::put(line, 0, name);
