@@ -31,7 +31,7 @@ use Rattle.convert.specs.declared.Outcome.{Outcome}
 use Rattle.convert.specs.declared.How.{How}
 use Rattle.convert.specs.declared.How.the-variants.{Done, Unwritten, Unread, Unstarted}
 use Rattle.convert.specs.Way.{Spot, beginning, start, Leads, leads-here, leads-then, leads-end, leads-cut, leads-unfinished}
-use Rattle.convert.specs.Places.{firstPlace, spotAt, Within, Ready, Stands, Lengths, ComesBy, Comes, Refuses, ConvertsBy, Converts, Few, Cases, Turns}
+use Rattle.convert.specs.Places.{firstPlace, spotAt, Within, Ready, Stands, Lengths, ComesBy, Comes, ConvertsBy, Converts, Few, Cases, Turns}
 
 -- on its way from a document d; the turns that are left bound the events and bytes to come
 pub record Running (d : Doc) (p : Place) (turns : ℕ) (l : Lent) (input : List ℕ) : Type 0 where

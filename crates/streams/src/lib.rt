@@ -2,13 +2,13 @@
 // where it failed.
 ghost use Prim.Native.Nat.{_+_, _≤_, min};
 ghost use mathlib.Core.Path.{_≡_};
-ghost use mathlib.Core.List.{_++_};
+ghost use mathlib.Core.List.{_++_, map};
 ghost use lib.ListN.{length};
 ghost use Rattle.spec.specs.NTriples.{decimal};
 ghost use Rattle.copy.specs.Copy.{Wrote};
 ghost use Rattle.io.specs.Counts.{Counts};
 ghost use Rattle.streams.specs.Answers.{movedOf, waitsFor, bytesOf, gotOf, AtMost, begun, goesOn, afterWrite, printedOf, Prints, Fills};
-ghost use Rattle.streams.specs.Telling.{shown, failureLine};
+ghost use Rattle.streams.specs.Telling.{shown, failureLine, inLine};
 use label::Decimal;
 use libc::STDERR_FILENO;
 use libc::STDOUT_FILENO;
@@ -305,7 +305,9 @@ fn argument(i: usize, word: &mut [u8]) -> usize
 }
 
 // A word that is to be told in one line.
-pub fn keep_to_line(word: &mut [u8]) {
+pub fn keep_to_line(word: &mut [u8])
+    ensures { λ _. ⌜ now (word .exit) ≡ map inLine (now (word .entry)) ⌝ }
+{
     let mut i = 0;
     while i < word.len() {
         word[i] = in_line(word[i]);
@@ -314,6 +316,8 @@ pub fn keep_to_line(word: &mut [u8]) {
 }
 
 // A line end, or another control character, would break the line: a mark stands in its place.
-fn in_line(b: u8) -> u8 {
+fn in_line(b: u8) -> u8
+    ensures { λ r. ⌜ r ≡ inLine b ⌝ }
+{
     if b < b' ' { b'?' } else { b }
 }

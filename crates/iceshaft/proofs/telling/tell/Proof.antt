@@ -1,5 +1,4 @@
 -- `telling::tell` is safe: behind a failure an event can be counted.
-use native.Mathlib.Omega.{arith}
 use Rattle.iceshaft.specs.Telling.{cut-event, unread-event}
 use borrow.Author.Needs.{needs}
 use Rattle.iceshaft.proofs.telling.tell.Statement.{statement}

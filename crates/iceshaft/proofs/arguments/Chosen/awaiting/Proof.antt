@@ -1,6 +1,5 @@
 -- `Chosen::awaiting` meets its contract.
 use Rattle.iceshaft.specs.Arguments.{base-twice, base-once}
-use borrow.Author.Needs.{needs}
 use Rattle.iceshaft.proofs.arguments.Chosen.awaiting.Statement.{statement}
 use Rattle.iceshaft.proofs.arguments.Chosen.awaiting.Tie as tie
 

@@ -1,6 +1,5 @@
 -- `Chosen::with_file` meets its contract, by whether it is the first.
 use Rattle.iceshaft.specs.Arguments.{first-file, later-file}
-use borrow.Author.Needs.{needs}
 use Rattle.iceshaft.proofs.arguments.Chosen.with_file.Statement.{statement}
 use Rattle.iceshaft.proofs.arguments.Chosen.with_file.Tie as tie
 
