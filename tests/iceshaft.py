@@ -6,6 +6,7 @@ that are wrong; files that cannot be opened or read; an output that fails. Every
 """
 import os
 import pathlib
+import resource
 import shlex
 import subprocess
 import sys
@@ -28,7 +29,7 @@ COVER = b'<http://pictures.example/2026/#cover>'
 NODE = b'_:riog00000002'
 FIRST = triple(COVER, b'title', b'"Harbour at night"') + triple(COVER, b'creator', NODE) + triple(NODE, b'title', b'"Desk"')
 REFUSED = triple(b'<http://pictures.example/2026/0418.jpg>', b'title', b'"The line before the refusal"')
-LAST = triple(COVER, b'creator', NODE) + triple(NODE, b'title', b'"The same rdf:ID and the first label, in a document of its own"')
+LAST = triple(COVER, b'creator', NODE) + triple(NODE, b'title', b'"The same rdf:ID and the same label, in a document of its own"')
 
 
 class Tester:
@@ -81,6 +82,8 @@ def arguments(t):
     t.trial('the longest base', ['--pyx', '--base', long, 'refused.pyx'], REFUSED, b'refused.pyx: refused 16 at event 6\n')
     t.trial('a longer base', ['--pyx', '--base', long + 'a'], b'', b'iceshaft: refused 7 at start\n')
     t.trial('the longest argument', ['--pyx', 'a' * MOST], b'', b'a' * MOST + b': open failed: File name too long\n')
+    far = './' * 2000 + 'refused.pyx'
+    t.trial('a long name', ['--pyx', '--base', BASE, far], REFUSED, far.encode() + b': refused 16 at event 6\n')
     t.trial('a longer argument', ['--pyx', 'first.pyx', 'a' * (MOST + 1)], b'', b'iceshaft: argument 3 is longer than 4096 bytes\n')
 
 
@@ -94,6 +97,12 @@ def faults(t):
     with open('/dev/full', 'wb') as full:
         t.trial('a full device', [*based, 'first.pyx', 'missing.pyx', 'last.pyx'], b'',
                 b'first.pyx: write failed after 0 whole events and 0 bytes: No space left on device\n', stdout=full)
+    limit = len(FIRST) + 10
+    with open(t.folder / 'output', 'wb') as target:
+        t.trial('a file that may not grow', [*based, 'first.pyx', 'last.pyx', 'first.pyx'], b'',
+                b'last.pyx: write failed after 0 whole events and 10 bytes: File too large\n', stdout=target,
+                restore_signals=False, preexec_fn=lambda: resource.setrlimit(resource.RLIMIT_FSIZE, (limit, limit)))
+    t.judge('what it holds', (t.folder / 'output').read_bytes(), (FIRST + LAST)[:limit])
     t.trial('standard input closed', based, b'', b'standard input: read failed after 0 whole events and 0 bytes: Bad file descriptor\n',
             preexec_fn=lambda: os.close(0))
     t.trial('standard output closed', [*based, 'last.pyx', 'last.pyx'], b'',

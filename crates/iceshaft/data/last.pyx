@@ -5,7 +5,7 @@ Ardf:ID cover
 (dc:creator
 Ardf:parseType Resource
 (dc:title
--The same rdf:ID and the first label, in a document of its own
+-The same rdf:ID and the same label, in a document of its own
 )dc:title
 )dc:creator
 )rdf:Description
