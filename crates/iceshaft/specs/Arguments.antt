@@ -3,6 +3,7 @@ use Prim.Native.Nat.{ℕ, suc, _≤_, _<_}
 use mathlib.Core.Path.{_≡_, refl, sym, ap, _∙_}
 use mathlib.Core.Bool.{Bool, true, false}
 use mathlib.Core.List.{List, [], _∷_}
+use native.Mathlib.Omega.{arith}
 use lib.Dec.{eqb, ltb}
 use borrow.Author.Tests.{lt-ltb, le-ltb, eq-eqb, ne-eqb}
 use Rattle.spec.specs.Bytes.{Bytes, ascii, if_then_else_, same, begins}
@@ -83,7 +84,7 @@ unknown : all (ascii "--pyx" ∷ ascii "-" ∷ []) ≡ Wrong
 unfolding allFrom lookedOn looked switched if_then_else_ same begins ascii
 unknown = refl
 
--- ---- how the code comes to it
+-- ---- laws
 
 on-true : {A : Type 0} (x y : A) {b : Bool} → b ≡ true → (if b then x else y) ≡ x
 unfolding if_then_else_
@@ -92,6 +93,23 @@ on-true x y e = rw e
 on-false : {A : Type 0} (x y : A) {b : Bool} → b ≡ false → (if b then x else y) ≡ y
 unfolding if_then_else_
 on-false x y e = rw e
+
+-- Behind the first file every argument is a file, and says nothing more: the files are those from the first to the last argument.
+pub files-last : (c d : Chosen) (i : ℕ) (s : Bytes) → c .waits ≡ false → 0 < c .file → looked c i s ≡ On d → (begins (ascii "-") s ≡ false) × (d ≡ c)
+unfolding looked
+files-last c d i s w f e = go (begins (ascii "-") s) refl
+  where
+    go : (b : Bool) → begins (ascii "-") s ≡ b → (begins (ascii "-") s ≡ false) × (d ≡ c)
+    go true q =
+        let h : Wrong ≡ On d = sym (on-false _ _ w ∙ (on-true _ _ q ∙ on-true _ _ (lt-ltb 0 (c .file) f))) ∙ e in
+        let z : _≡_ {A = ℕ} 0 1 = cc in absurd (omega arith)
+    go false q =
+        let h : On (withFile c i) ≡ On d = sym (on-false _ _ w ∙ on-false _ _ q) ∙ e in
+        let same : withFile c i ≡ d = cc in
+        let kept : (if eqb (c .file) 0 then i else c .file) ≡ c .file = on-false _ _ (ne-eqb (c .file) 0 (λ z. omega (arith, z, f))) in
+        (q, sym same ∙ ap (λ n. record { pyx = c .pyx; base = c .base; file = n; waits = c .waits }) kept)
+
+-- ---- how the code comes to it
 
 module _ (c : Chosen) where
   pub base-twice : 0 < c .base → Wrong ≡ awaiting c
