@@ -23,7 +23,7 @@ use Rattle.spec.specs.Calls as calls
 use Rattle.spec.specs.Pyx2nt.{lastLine, pyx2nt}
 use Rattle.spec.specs.Feeding.{Run, ending, inFront, hostStep, Feeds, gets, does, ends, printed}
 use Rattle.theorems.specs.Calls.{number-positive, number-injective, Takes, step-takes}
-use Rattle.theorems.specs.Division.{pyx2nt-in-pieces}
+use Rattle.theorems.specs.Division.{printAll, program-in-pieces, pyx2nt-in-pieces}
 use Rattle.copy.specs.Copy.{wrote-front}
 use Rattle.state.specs.declared.Registers.{Registers}
 use Rattle.event.specs.Progress.{Lent, docIn}
@@ -124,7 +124,10 @@ prints-runs (reads p) = let r = prints-runs p in record { run = r .run; feeds = 
 prints-runs (refused e h) = refused-runs e h
 prints-runs (over e) = over-runs e
 
--- However its input comes in pieces, a program that goes this way prints what document 01's program prints of all of it.
+-- However its input comes in pieces, a program that goes this way prints what document 01's program prints of all of it: with a start base or without.
+pub prints-all : {ps : List Bytes} {d : Doc} {w : Bytes} → Prints 1 [] ps d w → w ≡ printAll (concat ps) d
+prints-all {ps} {d} p = let r = prints-runs p in r .prints ∙ sym (program-in-pieces d ps (r .run) (r .feeds))
+
 pub prints-pyx2nt : {ps : List Bytes} {w : Bytes} → Prints 1 [] ps (fresh baseMode option.none) w → w ≡ pyx2nt (concat ps)
 prints-pyx2nt {ps} p = let r = prints-runs p in r .prints ∙ sym (pyx2nt-in-pieces ps (r .run) (r .feeds))
 

@@ -22,11 +22,21 @@ use Rattle.spec.specs.RdfXml.{finish}
 use Rattle.spec.specs.Calls.{isOpen, markClosed, mayStart, started, callStart, finished, callFinish}
 use Rattle.spec.proofs.Booleans.{and-left, and-right}
 use Rattle.copy.specs.Copy.{Put, part, put-fits, wrote-part, wrote-none}
+use Rattle.state_words.specs.Parts.{TABLE}
 use Rattle.state_words.specs.Words.{pick}
+use Rattle.state_ids.specs.Ids.{idsOf}
+use Rattle.state.specs.declared.Registers.{Registers}
+use Rattle.state.specs.Valid.{Valid}
+use Rattle.state.specs.Live.{startedWith, started-means}
+use Rattle.state.specs.Live.{started as valid-fresh}
+use Rattle.event.specs.Progress.{Lent, docIn}
 use Rattle.reader_contract.specs.declared.State.{State}
 use Rattle.reader_contract.specs.declared.Answer.{Answer}
 use Rattle.reader_contract.specs.declared.Answer.the-variants.{Done, Refused}
 use Rattle.reader_contract.specs.declared.Report.{Report}
+use Rattle.reader.specs.declared.Begun.{Begun}
+use Rattle.reader.specs.declared.Begun.the-variants.{On}
+use Rattle.reader.specs.declared.Begun.the-variants as begun
 use Rattle.reader_contract.specs.Meaning.{baseOf, lawfulState, meaningOf, closedState, marked, meaning-closed, means-unlawful, means-closed, means-open, overIn, over-read, Fresh, fresh-means}
 use Rattle.reader_contract.specs.Meets.{Starts, Finishes, lengthsRight, refusing, doing, meets-refused, meets-marked}
 
@@ -109,49 +119,90 @@ unfolding sizeOfBase
 size-within true base = omega arith
 size-within false base = omega arith
 
-module _ (based : Bool) (base : Bytes) (s : State) (w i : List ℕ) {a : Answer} (h : Judges a (lengthsRight w i) based base) where
-  pub start-refused : {n : Refusal} {r : Report} → a ≡ Refused n → r ≡ refusing s n → Starts based base s w i r w
+-- accepted: the registers are those of a fresh document, and the base stands at the front of the work store
+pub record Opened (based : Bool) (base : Bytes) (w i : List ℕ) (r : Registers) (w′ : List ℕ) : Type 0 where
+  pub may : mayStart (lengthsRight w i) (baseOf based base) ≡ good tt
+  pub registers : r ≡ startedWith based (sizeOfBase based base)
+  pub stored : baseOf based (part w′ 0 (sizeOfBase based base)) ≡ baseOf based base
+
+-- refused, it changes nothing
+abbrev pub BeginsBy : Bool → Bytes → List ℕ → List ℕ → Begun → List ℕ → Type 0
+BeginsBy based base w i (On r) w′ = Opened based base w i r w′
+BeginsBy based base w i (begun.Refused n) w′ = (mayStart (lengthsRight w i) (baseOf based base) ≡ refuse n) × (w′ ≡ w)
+
+-- what a start did on lent stores
+pub record Begins (based : Bool) (base : Bytes) (w i : List ℕ) (b : Begun) (w′ : List ℕ) : Type 0 where
+  pub store : length w′ ≡ length w
+  pub cases : BeginsBy based base w i b w′
+
+-- what is known where it was accepted
+module _ (based : Bool) (base : Bytes) (w i : List ℕ) (h : mayStart (lengthsRight w i) (baseOf based base) ≡ good tt) where
+  may : Allowed (lengthsRight w i) based base
+  may = allowed (lengthsRight w i) based base h
+
+  store-whole : length w ≡ 65_536
+  unfolding workStoreBytes
+  store-whole = eqb-true (length w) 65_536 (and-left _ _ (may .lengths))
+
+  ids-whole : length i ≡ 32_768
+  unfolding idStoreBytes
+  ids-whole = eqb-true (length i) 32_768 (and-right (eqb (length w) workStoreBytes) _ (may .lengths))
+
+module _ (based : Bool) (base w i : List ℕ) {a : Answer} (h : Judges a (lengthsRight w i) based base) where
+  pub begin-refused : {n : Refusal} → a ≡ Refused n → Begins based base w i (begun.Refused n) w
+  begin-refused q = record { store = refl; cases = (sym (h .means) ∙ ap told q, refl) }
+
+  pub begin-done : {w′ : List ℕ} {n : ℕ} {z : Bool} {r : Registers} → a ≡ Done → n ≡ sizeOfBase based base → Put w 0 (take n base) w′ z → r ≡ startedWith based n
+      → Begins based base w i (On r) w′
+  begin-done {w′} q k p e =
+      let m : mayStart (lengthsRight w i) (baseOf based base) ≡ good tt = sym (h .means) ∙ ap told q in
+      let b = may based base w i m .short in
+      record {
+        store = p .same;
+        cases = record { may = m; registers = rw (← k) e; stored = base-stored based base w w′ (omega (arith, store-whole based base w i m)) (rw k at p) };
+      }
+
+-- a program goes on from there over tables of its own, with no rdf:ID
+module _ {based : Bool} {base w i : List ℕ} {r : Registers} (l : Lent) (o : Opened based base w i r (l .work)) where
+  pub opened-means : docIn r 0 l ≡ fresh baseMode (baseOf based base)
+  unfolding docIn idsOf
+  opened-means = rw (o .registers) (started-means based (sizeOfBase based base) (l .frames) (l .bindings) (l .inners) (l .work) ∙ ap (fresh baseMode) (o .stored))
+
+  pub opened-valid : length (l .frames) ≡ TABLE → length (l .bindings) ≡ 384 → length (l .inners) ≡ 192 → length (l .work) ≡ 65_536
+      → Valid r (l .frames) (l .bindings) (l .inners) (l .work)
+  opened-valid f b n k =
+      let s = may based base w i (o .may) .short in
+      rw (o .registers)
+      (valid-fresh based (sizeOfBase based base) (l .frames) (l .bindings) (l .inners) (l .work) f b n k (omega arith) (size-empty based base))
+
+module _ (based : Bool) (base : Bytes) (s : State) (w i : List ℕ) {b : Begun} {w′ : List ℕ} (h : Begins based base w i b w′) where
+  pub start-refused : {n : Refusal} {r : Report} → b ≡ begun.Refused n → r ≡ refusing s n → Starts based base s w i r w′
   unfolding callStart started
   start-refused {n} q e =
-      let m : mayStart (lengthsRight w i) (baseOf based base) ≡ refuse n = sym (h .means) ∙ ap told q in
-      rw e (record { meets = meets-refused {left = λ n. s} n (rw m) refl })
+      let m : BeginsBy based base w i (begun.Refused n) w′ = rw q at (h .cases) in
+      rw (e, m .1) (record { meets = meets-refused {left = λ n. s} n (rw (m .0)) refl })
 
-  module _ (q : a ≡ Done) where
-    may : Allowed (lengthsRight w i) based base
-    may = allowed (lengthsRight w i) based base (sym (h .means) ∙ ap told q)
-
-    store-whole : length w ≡ 65_536
-    unfolding workStoreBytes
-    store-whole = eqb-true (length w) 65_536 (and-left _ _ (may .lengths))
-
-    ids-whole : length i ≡ 32_768
-    unfolding idStoreBytes
-    ids-whole = eqb-true (length i) 32_768 (and-right (eqb (length w) workStoreBytes) _ (may .lengths))
-
-    module _ {w′ : List ℕ} {n : ℕ} {z : Bool} {s′ : State} (k : n ≡ sizeOfBase based base) (p : Put w 0 (take n base) w′ z) (f : Fresh based n s′) where
-      begun : meaningOf s′ w′ i ≡ isOpen (fresh baseMode (baseOf based base))
-      begun =
-          let b = may .short in
-          fresh-means w′ i f (p .same ∙ store-whole) ids-whole (omega arith) (rw k (size-empty based base))
-          ∙ ap (λ o. isOpen (fresh baseMode o)) (rw k (base-stored based base w w′ (omega (arith, store-whole)) (rw k at p)))
-
-      pub start-done : {r : Report} → r ≡ doing s′ → Starts based base s w i r w′
-      unfolding callStart started
-      start-done e =
-          let m : mayStart (lengthsRight w i) (baseOf based base) ≡ good tt = sym (h .means) ∙ ap told q in
-          rw e
-          (record {
-            meets = record {
-              store = p .same;
-              idStore = refl;
-              room = refl;
-              answer = rw m;
-              consumed = rw m;
-              wrote = rw m (wrote-none (omega arith));
-              behind = rw m begun;
-              kept = λ x y. let z : _≡_ {A = ℕ} 0 1 = cc in absurd (omega arith);
-            };
-          })
+  pub start-done : {g : Registers} {n : ℕ} {s′ : State} {r : Report} → b ≡ On g → n ≡ sizeOfBase based base → Fresh based n s′ → r ≡ doing s′ → Starts based base s w i r w′
+  unfolding callStart started
+  start-done {g} {n} {s′} q k f e =
+      let o : Opened based base w i g w′ = rw q at (h .cases) in
+      let m = o .may in
+      let short = may based base w i m .short in
+      let begun : meaningOf s′ w′ i ≡ isOpen (fresh baseMode (baseOf based base)) =
+      fresh-means w′ i f (h .store ∙ store-whole based base w i m) (ids-whole based base w i m) (omega (arith, k)) (rw k (size-empty based base)) ∙ ap (λ o. isOpen (fresh baseMode o)) (rw k (o .stored)) in
+      rw e
+      (record {
+        meets = record {
+          store = h .store;
+          idStore = refl;
+          room = refl;
+          answer = rw m;
+          consumed = rw m;
+          wrote = rw m (wrote-none (omega arith));
+          behind = rw m begun;
+          kept = λ x y. let z : _≡_ {A = ℕ} 0 1 = cc in absurd (omega arith);
+        };
+      })
 
 -- ---- finish
 

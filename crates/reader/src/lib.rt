@@ -2,7 +2,7 @@
 ghost use mathlib.Core.Path.{_≡_};
 ghost use Rattle.reader_contract.specs.Meaning.{lawfulState};
 ghost use Rattle.reader_contract.specs.Meets.{Starts, Steps, Finishes};
-ghost use Rattle.reader.specs.Starting.{Judges, sizeOfBase};
+ghost use Rattle.reader.specs.Starting.{Judges, sizeOfBase, Begins};
 
 pub mod feeding;
 pub mod parser;
@@ -17,18 +17,35 @@ use spec::Refusal;
 use state::Registers;
 use state_ids::IdTable;
 
+// What a start on lent stores comes to: the registers of the document that begins, or a refusal.
+pub enum Begun {
+    On(Registers),
+    Refused(Refusal),
+}
+
 // A document begins, with a start base or without. The ID store is emptied by a fresh table.
 pub fn start(state: State, based: bool, base: &[u8], work: &mut [u8], ids: &[u8]) -> Report
     ensures { λ r. ⌜ Starts based (now (base .entry)) state (now (work .entry)) (now (ids .entry)) r (now (work .exit)) ⌝ }
 {
+    let begun = begin(based, base, work, ids);
+    match begun {
+        Begun::Refused(why) => Report::refused(state, why),
+        Begun::On(_) => Report::done(State::fresh(based, base_size(based, base))),
+    }
+}
+
+// The same for a program that keeps tables of its own: the base at the front of the work store, and the registers.
+pub fn begin(based: bool, base: &[u8], work: &mut [u8], ids: &[u8]) -> Begun
+    ensures { λ b. ⌜ Begins based (now (base .entry)) (now (work .entry)) (now (ids .entry)) b (now (work .exit)) ⌝ }
+{
     let lengths = (work.len() == Registers::STORE) & (ids.len() == IdTable::BYTES);
     let answer = may_start(lengths, based, base);
     match answer {
-        Answer::Refused(why) => Report::refused(state, why),
+        Answer::Refused(why) => Begun::Refused(why),
         Answer::Done => {
             let n = base_size(based, base);
             copy::put(work, 0, &base[..n]);
-            Report::done(State::fresh(based, n))
+            Begun::On(Registers::started(based, n))
         }
     }
 }

@@ -1,11 +1,15 @@
 -- The line of a failure: what failed, and after how many events and bytes.
 use Prim.Native.Nat.{ℕ, zero, suc, _+_, _-_, _≤_, _<_}
-use mathlib.Core.Path.{_≡_, refl, sym, _∙_}
-use mathlib.Core.Bool.{Bool}
-use mathlib.Core.List.{List, _++_, append-assoc}
+use mathlib.Core.Path.{_≡_, refl, sym, ap, _∙_}
+use mathlib.Core.Bool.{Bool, cond}
+use mathlib.Core.List.{List, [], _∷_, _++_, map, append-assoc}
+use native.Mathlib.Numerals.{add-one}
+use native.Mathlib.Nat.{add-zero}
 use native.Mathlib.Omega.{arith}
-use lib.ListN.{length, take, drop, length-append, length-drop}
-use lib.Seq.{length-take-le}
+use lib.Dec.{ltb}
+use lib.ListN.{length, take, drop, getD, set, length-append, length-drop, length-set}
+use lib.Seq.{length-take-le, take-all, take-suc, drop-drop, drop-set-lt, take-suc-set, getD-drop}
+use borrow.Author.Tests.{lt-ltb, le-ltb}
 use Rattle.spec.specs.Bytes.{Bytes, ascii}
 use Rattle.spec.specs.NTriples.{decimal}
 use Rattle.copy.specs.Copy.{Put, Wrote, then, put-fits, rest-of, wrote-same}
@@ -20,6 +24,49 @@ shown (suc n) = decimal (suc n)
 unfoldable pub failureLine : Bytes → ℕ → ℕ → Bytes
 failureLine what events bytes =
     what ++ (ascii " after " ++ (shown events ++ (ascii " whole events and " ++ (shown bytes ++ ascii " bytes"))))
+
+-- a byte of a word that is told in one line: a mark stands for a control character
+unfoldable pub inLine : ℕ → ℕ
+inLine b = cond (ltb b 32) 63 b
+
+pub marked : (b : ℕ) → b < 32 → 63 ≡ inLine b
+unfolding inLine
+marked b h = rw (lt-ltb b 32 h)
+
+pub unmarked : (b : ℕ) → 32 ≤ b → b ≡ inLine b
+unfolding inLine
+unmarked b h = rw (le-ltb b 32 h)
+
+-- ---- a word, byte by byte: the first i are made fit, and those behind them are as they were
+
+pub record Kept (w : List ℕ) (w′ : List ℕ) (i : ℕ) : Type 0 where
+  pub room : length w′ ≡ length w
+  pub front : take i w′ ≡ map inLine (take i w)
+  pub behind : drop i w′ ≡ drop i w
+
+pub kept-first : {w : List ℕ} → Kept w w 0
+kept-first = record { room = refl; front = refl; behind = refl }
+
+map-append : (f : ℕ → ℕ) (s t : List ℕ) → map f (s ++ t) ≡ map f s ++ map f t
+map-append f [] t = refl
+map-append f (b ∷ s) t = rw (map-append f s t)
+
+module _ {w w′ : List ℕ} {i : ℕ} (k : Kept w w′ i) where
+  pub kept-next : {b : ℕ} → i < length w′ → b ≡ inLine (getD w′ i 0) → Kept w (set w′ i b) (i + 1)
+  kept-next {b} l e =
+      let same : getD w′ i 0 ≡ getD w i 0 = rw add-zero at (sym (getD-drop i w′ 0 0) ∙ ap (λ (x : List ℕ). getD x 0 0) (k .behind) ∙ getD-drop i w 0 0) in
+      record {
+        room = length-set w′ i b ∙ k .room;
+        front =
+            rw (add-one i) (take-suc-set w′ i b (omega arith)
+            ∙ rw (k .front, e, same, take-suc w i 0 (omega (arith, k .room)), map-append));
+        behind =
+            drop-set-lt (i + 1) w′ i b (omega arith)
+            ∙ (sym (drop-drop 1 i w′) ∙ ap (drop 1) (k .behind) ∙ drop-drop 1 i w);
+      }
+
+  pub kept-all : length w′ ≤ i → w′ ≡ map inLine w
+  kept-all l = sym (take-all i w′ l) ∙ (k .front ∙ ap (map inLine) (take-all i w (omega (arith, k .room))))
 
 -- ---- how they are written
 
@@ -54,14 +101,14 @@ length-shown (suc v) = length-decimal (suc v)
 
 -- the second number has room behind the first
 pub line-goes-on : {d e f : List ℕ} {what : Bytes} {to k : ℕ} {r : Bool} (v : ℕ)
-    → length d ≡ 160 → length what ≤ 64 → Put d 0 what e r
+    → length d ≡ 4_256 → length what ≤ 4_160 → Put d 0 what e r
     → Wrote e f (length what) to (ascii " after " ++ shown v) → k ≡ 18 → to + k + 20 ≤ length f
 unfolding ascii
 line-goes-on v h few p w e =
     omega (arith, p .same, wrote-same w, w .up, length-append (ascii " after ") (shown v), length-shown v)
 
 pub line-made : {d e f g h : List ℕ} {what : Bytes} {m to : ℕ} {r q : Bool} (events bytes : ℕ)
-    → length d ≡ 160 → length what ≤ 64 → Put d 0 what e r → Wrote e f (length what) m (ascii " after " ++ shown events)
+    → length d ≡ 4_256 → length what ≤ 4_160 → Put d 0 what e r → Wrote e f (length what) m (ascii " after " ++ shown events)
     → Wrote f g m to (ascii " whole events and " ++ shown bytes) → Put g to (ascii " bytes") h q
     → Wrote d h 0 (to + 6) (failureLine what events bytes)
 unfolding failureLine ascii

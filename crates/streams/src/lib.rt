@@ -1,23 +1,22 @@
-// Standard input and output of a program: what a call answered, tried again where nothing could be moved yet, told
+// The input and the standard output of a program: what a call answered, tried again where nothing could be moved yet, told
 // where it failed.
 ghost use Prim.Native.Nat.{_+_, _≤_, min};
 ghost use mathlib.Core.Path.{_≡_};
-ghost use mathlib.Core.List.{_++_};
+ghost use mathlib.Core.List.{_++_, map};
 ghost use lib.ListN.{length};
 ghost use Rattle.spec.specs.NTriples.{decimal};
 ghost use Rattle.copy.specs.Copy.{Wrote};
 ghost use Rattle.io.specs.Counts.{Counts};
 ghost use Rattle.streams.specs.Answers.{movedOf, waitsFor, bytesOf, gotOf, AtMost, begun, goesOn, afterWrite, printedOf, Prints, Fills};
-ghost use Rattle.streams.specs.Telling.{shown, failureLine};
+ghost use Rattle.streams.specs.Telling.{shown, failureLine, inLine};
 use label::Decimal;
 use libc::STDERR_FILENO;
-use libc::STDIN_FILENO;
 use libc::STDOUT_FILENO;
 
-// The line of a failure, and of that the most that says what failed.
-const LINE: usize = 160;
+// The line of a failure, and of that the most that says what failed: room for the longest path.
+const LINE: usize = 4_256;
 
-const WHAT: usize = 64;
+const WHAT: usize = 4_160;
 
 // The most of an argument that is told.
 const WORD: usize = 256;
@@ -30,7 +29,7 @@ pub enum Moved {
     Failed,
 }
 
-// What came from standard input: so many bytes, at least one; its end; or the read failed, and errno says why.
+// What came from the input: so many bytes, at least one; its end; or the read failed, and errno says why.
 pub enum Got {
     Bytes(usize),
     End,
@@ -212,24 +211,24 @@ fn try_write(text: &[u8]) -> Moved
     Moved::of(got, os::errno(), text.len())
 }
 
-// Standard input to the front of `into`, as soon as there is any. Into no room nothing can be read: that is an end too.
-pub fn read(into: &mut [u8]) -> Got
+// From a descriptor to the front of `into`, as soon as there is any. Into no room nothing can be read: that is an end too.
+pub fn read(from: i32, into: &mut [u8]) -> Got
     ensures { λ r. ⌜ Fills (length (now (into .entry))) r ⌝ }
 {
-    let mut moved = try_read(into);
+    let mut moved = try_read(from, into);
     let mut tries = Moved::TRIES;
     while moved.waits(tries) {
         tries -= 1;
         libc::sched_yield();
-        moved = try_read(into);
+        moved = try_read(from, into);
     }
     Got::of(moved)
 }
 
-fn try_read(into: &mut [u8]) -> Moved
+fn try_read(from: i32, into: &mut [u8]) -> Moved
     ensures { λ r. ⌜ AtMost (length (now (into .entry))) r ⌝ }
 {
-    let got = libc::read(STDIN_FILENO, into);
+    let got = libc::read(from, into);
     Moved::of(got, os::errno(), into.len())
 }
 
@@ -244,7 +243,7 @@ pub fn tell(what: &[u8], events: usize, bytes: usize) {
 
 // The line up to errno's text, to the front of `line`: its length.
 fn failure_line(line: &mut [u8], what: &[u8], events: u64, bytes: u64) -> usize
-    requires { ⌜ (length (now line) ≡ 160) × (length (now what) ≤ 64) ⌝ }
+    requires { ⌜ (length (now line) ≡ 4_256) × (length (now what) ≤ 4_160) ⌝ }
     ensures { λ n. ⌜ Wrote (now (line .entry)) (now (line .exit)) 0 n (failureLine (now (what .entry)) events bytes) ⌝ }
 {
     copy::put(line, 0, what);
@@ -305,7 +304,10 @@ fn argument(i: usize, word: &mut [u8]) -> usize
     n
 }
 
-fn keep_to_line(word: &mut [u8]) {
+// A word that is to be told in one line.
+pub fn keep_to_line(word: &mut [u8])
+    ensures { λ _. ⌜ now (word .exit) ≡ map inLine (now (word .entry)) ⌝ }
+{
     let mut i = 0;
     while i < word.len() {
         word[i] = in_line(word[i]);
@@ -314,6 +316,8 @@ fn keep_to_line(word: &mut [u8]) {
 }
 
 // A line end, or another control character, would break the line: a mark stands in its place.
-fn in_line(b: u8) -> u8 {
+fn in_line(b: u8) -> u8
+    ensures { λ r. ⌜ r ≡ inLine b ⌝ }
+{
     if b < b' ' { b'?' } else { b }
 }

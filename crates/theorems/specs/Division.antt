@@ -293,10 +293,18 @@ print-run zero k rest d h = absurd (omega arith)
 print-run (suc f) k [] d h = print-empty f k d
 print-run (suc f) k (b ∷ rest) d h = print-step f k b rest d h λ s d′. print-run f (suc k) s d′
 
--- what pyx2nt prints is the output of the run over all of its input, then the refusal if any
+-- all that a program prints of its input, from a document that begins
+abbrev pub printAll : Bytes → Doc → Bytes
+printAll s d = print (suc (length s)) 1 s (isOpen d)
+
+-- it is the output of the run over all of the input, then the refusal if any
+pub program-run : (s : Bytes) (d : Doc) → printAll s d ≡ printed 1 (programRun 1 s (isOpen d))
+program-run s d = print-run (suc (length s)) 1 s d (omega arith)
+
+-- pyx2nt begins without a base
 pub pyx2nt-run : (s : Bytes) → pyx2nt s ≡ printed 1 (programRun 1 s (isOpen (fresh baseMode none)))
 unfolding pyx2nt callStart started mayStart require_or_
-pyx2nt-run s = print-run (suc (length s)) 1 s (fresh baseMode none) (omega arith)
+pyx2nt-run s = program-run s (fresh baseMode none)
 
 -- ---- the theorems
 
@@ -314,6 +322,9 @@ room-does-not-matter room room′ k ps ps′ q n n′ e h g a b =
     let v : n′ ≡ run room′ k (concat ps) q = as-one-piece g ∙ ap (λ (s : Bytes). run room′ k s q) (sym e) in
     u ∙ (same-rooms (length (concat ps)) room room′ k (concat ps) q (λ z. a (ap (λ (x : Run). x .answer) u ∙ z)) (λ z. b (ap (λ (x : Run). x .answer) v ∙ z)) ∙ sym v)
 
--- So pyx2nt may print as it reads: in whatever pieces its input comes, it is to print what its steps give, then the refusal if any.
+-- So a program may print as it reads: in whatever pieces its input comes, it is to print what its steps give, then the refusal if any.
+pub program-in-pieces : (d : Doc) (ps : List Bytes) (n : Run) → Feeds (λ i. programRoom) 1 [] ps (isOpen d) n → printAll (concat ps) d ≡ printed 1 n
+program-in-pieces d ps n h = program-run (concat ps) d ∙ ap (printed 1) (sym (as-one-piece h))
+
 pub pyx2nt-in-pieces : (ps : List Bytes) (n : Run) → Feeds (λ i. programRoom) 1 [] ps (isOpen (fresh baseMode none)) n → pyx2nt (concat ps) ≡ printed 1 n
 pyx2nt-in-pieces ps n h = pyx2nt-run (concat ps) ∙ ap (printed 1) (sym (as-one-piece h))

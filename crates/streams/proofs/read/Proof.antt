@@ -9,16 +9,16 @@ use Rattle.streams.proofs.read.Statement.{statement}
 use Rattle.streams.proofs.read.Tie as tie
 
 abbrev Inv-loop : tie.InvT-loop
-Inv-loop into₀ moved₀ tries₀ into moved tries = AtMost (length into₀) moved × (length into ≡ length into₀)
+Inv-loop from into₀ moved₀ tries₀ into moved tries = AtMost (length into₀) moved × (length into ≡ length into₀)
 
 abbrev μ-loop : tie.MeasureT-loop
-μ-loop into₀ moved₀ tries₀ into moved tries = tries
+μ-loop from into₀ moved₀ tries₀ into moved tries = tries
 
 try-read-requires : tie.Need-try-read-requires Inv-loop μ-loop
 try-read-requires c κs = search needs
 
 loop-holds : tie.Need-loop-holds Inv-loop μ-loop
-loop-holds c = (let e : length (c .before .before .try-read .last .0) ≡ length (c .before .before .before .before .before .args .into .now) = search needs in rw e (c .before .before .try-read .ensures), refl)
+loop-holds c = (let e : length (c .before .before .try-read .last .1 .0) ≡ length (c .before .before .before .before .before .args .into .now) = search needs in rw e (c .before .before .try-read .ensures), refl)
 
 waits-requires : tie.Need-waits-requires Inv-loop μ-loop
 waits-requires c κs = search needs
@@ -36,16 +36,16 @@ loop-less : tie.Need-loop-less Inv-loop μ-loop
 loop-less c = omega (arith, tries-left _ (c .before .before .before .before .before .before .waits .ensures) (c .before .before .before .before .before .if1 .taken))
 
 loop-again : tie.Need-loop-again Inv-loop μ-loop
-loop-again c = (let e : length (c .before .before .before .before .before .before .before .loop .into) ≡ length (c .before .before .before .before .before .before .before .before .before .before .try-read .last .0) = c .before .before .before .before .before .before .before .loop .inv .1 in rw (← e) (c .before .before .try-read2 .ensures), let e : length (c .before .before .try-read2 .last .0) ≡ length (c .before .before .before .before .before .before .before .loop .into) = search needs in e ∙ c .before .before .before .before .before .before .before .loop .inv .1)
+loop-again c = (let e : length (c .before .before .before .before .before .before .before .loop .into) ≡ length (c .before .before .before .before .before .before .before .before .before .before .try-read .last .1 .0) = c .before .before .before .before .before .before .before .loop .inv .1 in rw (← e) (c .before .before .try-read2 .ensures), let e : length (c .before .before .try-read2 .last .1 .0) ≡ length (c .before .before .before .before .before .before .before .loop .into) = search needs in e ∙ c .before .before .before .before .before .before .before .loop .inv .1)
 
 of-requires : tie.Need-of-requires Inv-loop μ-loop
 of-requires c κs = search needs
 
 same-length : tie.Need-same-length Inv-loop μ-loop
-same-length c = let e : length (c .before .before .before .before .before .before .try-read .last .0) ≡ length (c .before .before .before .before .before .before .before .before .before .args .into .now) = search needs in c .before .before .before .loop .inv .1 ∙ e
+same-length c = let e : length (c .before .before .before .before .before .before .try-read .last .1 .0) ≡ length (c .before .before .before .before .before .before .before .before .before .args .into .now) = search needs in c .before .before .before .loop .inv .1 ∙ e
 
 returns : tie.Need-returns Inv-loop μ-loop
-returns c = let e : length (c .before .before .before .before .before .before .try-read .last .0) ≡ length (c .before .before .before .before .before .before .before .before .before .args .into .now) = search needs in rw (← e) (got-fills _ _ (c .of .ensures) (c .before .before .before .loop .inv .0))
+returns c = let e : length (c .before .before .before .before .before .before .try-read .last .1 .0) ≡ length (c .before .before .before .before .before .before .before .before .before .args .into .now) = search needs in rw (← e) (got-fills _ _ (c .of .ensures) (c .before .before .before .loop .inv .0))
 
 pub read-spec : {M : Type 1} → statement M
 read-spec =

@@ -16,10 +16,10 @@ slice-aggregate-failure-line : tie.Need-slice-aggregate-failure-line
 slice-aggregate-failure-line c = search needs
 
 slice-aggregate-failure-line-2 : tie.Need-slice-aggregate-failure-line-2
-slice-aggregate-failure-line-2 c = sym (length-take-le _ _ (omega (arith, c .before .before .least .ensures, min-le-left (length (c .before .before .before .before .args .what .now)) 64)))
+slice-aggregate-failure-line-2 c = sym (length-take-le _ _ (omega (arith, c .before .before .least .ensures, min-le-left (length (c .before .before .before .before .args .what .now)) 4_160)))
 
 failure-line-requires : tie.Need-failure-line-requires
-failure-line-requires c κs = (refl, omega (arith, c .before .before .least .ensures, min-le-right (length (c .before .before .before .before .args .what .now)) 64, length-take (c .before .before .least .result) (c .before .before .before .before .args .what .now), min-le-left (c .before .before .least .result) (length (c .before .before .before .before .args .what .now))))
+failure-line-requires c κs = (refl, omega (arith, c .before .before .least .ensures, min-le-right (length (c .before .before .before .before .args .what .now)) 4_160, length-take (c .before .before .least .result) (c .before .before .before .before .args .what .now), min-le-left (c .before .before .least .result) (length (c .before .before .before .before .args .what .now))))
 
 array-share-prefix-line : tie.Need-array-share-prefix-line
 array-share-prefix-line c = search needs
