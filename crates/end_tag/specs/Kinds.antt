@@ -7,10 +7,10 @@ use mathlib.Core.List.{List, [], _∷_, _++_}
 use native.Mathlib.Nat.{not-suc-le-zero}
 use native.Mathlib.Omega.{arith}
 use lib.ListN.{length}
-use borrow.Author.Tests.{eq-eqb, lt-ltb, le-leb, lt-leb}
+use borrow.Author.Tests.{eq-eqb, lt-ltb, le-leb, lt-leb, ne-eqb}
 use Rattle.spec.specs.Bytes.{Bytes, isEmpty, _>>_, require_or_}
 use Rattle.spec.specs.Numbers.{refuse, good}
-use Rattle.spec.specs.declared.Refusal.the-variants.{EmptyLiteral, LabelsSpent}
+use Rattle.spec.specs.declared.Refusal.the-variants.{EmptyLiteral, LabelsSpent, ProfileBroken}
 use Rattle.spec.specs.Limits.{mostLabels}
 use Rattle.spec.specs.NTriples.{Subject, node}
 use Rattle.spec.specs.Document.{collection, Property, Doc, withFrames, withLabels, languageInForce}
@@ -18,7 +18,7 @@ use Rattle.spec.specs.Productions.{statement}
 use Rattle.spec.specs.EndTag.{cells, headCell, endValue, endKind}
 use Rattle.state_words.specs.Parts.{TAIL, END}
 use Rattle.state_words.specs.declared.Kind.{Kind}
-use Rattle.state_words.specs.declared.Kind.the-variants.{Rdf, PropertyElt, ParseTypeCollectionPropertyElt, ParseTypeLiteralPropertyElt, ParseTypeOtherPropertyElt}
+use Rattle.state_words.specs.declared.Kind.the-variants.{Rdf, PropertyElt, ParseTypeCollectionPropertyElt, ParseTypeLiteralPropertyElt, ParseTypeOtherPropertyElt, Wrapper}
 use Rattle.state_words.specs.declared.Frame.{Frame}
 use Rattle.state_words.specs.Words.{frameAt, load-frame}
 use Rattle.state.specs.declared.Registers.{Registers}
@@ -110,27 +110,32 @@ same-top u n fs = refl
 
 -- ---- no lines
 
--- an element of kind q leaves nothing but the document without it
-pub record Silent (q : Kind) : Type 0 where
-  pub says : (f : Frame) (w : List ℕ) (s : Subject) (n : Bytes) (l : Option Bytes) (d : Doc) → endKind (whatOf q f w s) n l d ≡ good ([], d)
+-- an element of kind q, of this frame, leaves nothing but the document without it
+pub record Silent (q : Kind) (f : Frame) : Type 0 where
+  pub says : (w : List ℕ) (s : Subject) (n : Bytes) (l : Option Bytes) (d : Doc) → endKind (whatOf q f w s) n l d ≡ good ([], d)
 
-pub rdf-silent : Silent Rdf
+pub rdf-silent : (f : Frame) → Silent Rdf f
 unfolding whatOf endKind
-rdf-silent = record { says = λ f w s n l d. refl }
+rdf-silent f = record { says = λ w s n l d. refl }
 
-pub other-silent : Silent ParseTypeOtherPropertyElt
+pub other-silent : (f : Frame) → Silent ParseTypeOtherPropertyElt f
 unfolding whatOf endKind endValue
-other-silent = record { says = λ f w s n l d. refl }
+other-silent f = record { says = λ w s n l d. refl }
+
+-- the wrapper, once it has had its rdf:RDF
+pub wrapper-silent : (f : Frame) → (count f ≡ 0 → ⊥) → Silent Wrapper f
+unfolding whatOf endKind _>>_ require_or_
+wrapper-silent f h = record { says = λ w s n l d. rw (ne-eqb (count f) 0 h) }
 
 module _ {r : Registers} {fs w : List ℕ} {p : Changed} (o : Pops r fs p) where
-  pub silent-tells : {q : Kind} → Silent q → Tells q r (p .registers) fs w []
+  pub silent-tells : {q : Kind} → Silent q (topFrame r fs) → Tells q r (p .registers) fs w []
   silent-tells s =
       record {
         tells =
             λ bs is c.
             let e = o .moved (pops c) in
             record {
-              answer = λ ids. s .says (topFrame r fs) w _ _ _ (without r fs bs is w ids) ∙ rw (pop-doc c e ids);
+              answer = λ ids. s .says w _ _ _ (without r fs bs is w ids) ∙ rw (pop-doc c e ids);
               valid = pop-is c e .valid;
               mark = pop-mark c e;
             };
@@ -199,6 +204,11 @@ pub literal-empty : {r : Registers} {fs w out : List ℕ} {f : Frame} → f ≡ 
     → Ends ParseTypeLiteralPropertyElt r (Stop EmptyLiteral) fs w out fs w out
 unfolding whatOf endKind endValue _>>_ require_or_
 literal-empty x z = record { handles = λ bs is c. refused c EmptyLiteral (λ ids. rw (rw x at z)) }
+
+-- 19: it has had none
+pub wrapper-empty : {r : Registers} {fs w out : List ℕ} {f : Frame} → f ≡ topFrame r fs → count f ≡ 0 → Ends Wrapper r (Stop ProfileBroken) fs w out fs w out
+unfolding whatOf endKind _>>_ require_or_
+wrapper-empty {r} {fs} {w} {out} {f} x z = record { handles = λ bs is c. refused c ProfileBroken (λ ids. rw (← x, eq-eqb (count f) 0 z)) }
 
 pub labels-spent : {r : Registers} {fs w out : List ℕ} {f : Frame} → f ≡ topFrame r fs → 99_999_999 < r .counts .labels + count f
     → Ends ParseTypeCollectionPropertyElt r (Stop LabelsSpent) fs w out fs w out

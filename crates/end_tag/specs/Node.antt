@@ -18,7 +18,7 @@ use Rattle.spec.specs.EndTag.{takesNode, endKind}
 use Rattle.copy.specs.Copy.{part, length-part, wrote-none}
 use Rattle.state_words.specs.Parts.{NAME, MAIN, ID, TAIL, END, BLANK, PENDING, FRAME}
 use Rattle.state_words.specs.declared.Kind.{Kind}
-use Rattle.state_words.specs.declared.Kind.the-variants.{Rdf, NodeElt, PropertyElt, ParseTypeCollectionPropertyElt, ParseTypeLiteralPropertyElt, ParseTypeOtherPropertyElt}
+use Rattle.state_words.specs.declared.Kind.the-variants.{Rdf, NodeElt, PropertyElt, ParseTypeCollectionPropertyElt, ParseTypeLiteralPropertyElt, ParseTypeOtherPropertyElt, Wrapper}
 use Rattle.state_words.specs.declared.Frame.{Frame}
 use Rattle.state_words.specs.Words.{pick, loadFrame, load-frame}
 use Rattle.state.specs.declared.Registers.{Registers}
@@ -94,6 +94,7 @@ none-bytes PropertyElt f w s u p q = absurd (false≢true (sym p))
 none-bytes ParseTypeCollectionPropertyElt f w s u p q = absurd (false≢true (sym q))
 none-bytes ParseTypeLiteralPropertyElt f w s u p q = refl
 none-bytes ParseTypeOtherPropertyElt f w s u p q = refl
+none-bytes Wrapper f w s u p q = refl
 
 is-collection : (k : Kind) → sameKind k ParseTypeCollectionPropertyElt ≡ true → k ≡ ParseTypeCollectionPropertyElt
 is-collection Rdf e = absurd (false≢true e)
@@ -102,6 +103,7 @@ is-collection PropertyElt e = absurd (false≢true e)
 is-collection ParseTypeCollectionPropertyElt e = refl
 is-collection ParseTypeLiteralPropertyElt e = absurd (false≢true e)
 is-collection ParseTypeOtherPropertyElt e = absurd (false≢true e)
+is-collection Wrapper e = absurd (false≢true e)
 
 -- ---- held bytes behind a node
 

@@ -63,12 +63,13 @@ fn end_state(r: Registers, frames: &mut [u32], work: &mut [u8], out: &mut [u8]) 
         Kind::ParseTypeCollectionPropertyElt => end_collection(r, frames, work, out),
         Kind::ParseTypeLiteralPropertyElt => end_literal(r, frames, work, out),
         Kind::ParseTypeOtherPropertyElt => end_silent(r, frames),
+        Kind::Wrapper => end_wrapper(r, frames),
     }
 }
 
 // The element is gone, and that is all.
 fn end_silent(r: Registers, frames: &[u32]) -> Outcome
-    ensures { λ o. ⌜ ((q : Kind) (w out : List ℕ) → Silent q → Ends q r o (now (frames .entry)) w out (now (frames .entry)) w out) ⌝ }
+    ensures { λ o. ⌜ ((q : Kind) (w out : List ℕ) → Silent q (topFrame r (now (frames .entry))) → Ends q r o (now (frames .entry)) w out (now (frames .entry)) w out) ⌝ }
 {
     let p = state_stack::pop(r, frames);
     let behind = p.registers;
@@ -79,6 +80,18 @@ fn end_silent(r: Registers, frames: &[u32]) -> Outcome
         written: 0,
         registers: behind,
     })
+}
+
+// The wrapper has had its rdf:RDF, or 19.
+fn end_wrapper(r: Registers, frames: &[u32]) -> Outcome
+    ensures { λ o. ⌜ ((w out : List ℕ) → Ends Kind.Wrapper r o (now (frames .entry)) w out (now (frames .entry)) w out) ⌝ }
+{
+    let f = state_stack::top(r, frames);
+    let has = f.has;
+    if has[Frame::COUNT] == 0 {
+        return Outcome::Stop(Refusal::ProfileBroken);
+    }
+    end_silent(r, frames)
 }
 
 // The property around the node gets it. What is then held is judged first: a child of a Collection takes 4 bytes more.

@@ -10,7 +10,7 @@ use mathlib.Core.Bool.{Bool, true, false}
 use Rattle.spec.specs.NTriples.{Subject, named}
 use Rattle.spec.specs.Document as D
 use Rattle.state_words.specs.declared.Kind.{Kind}
-use Rattle.state_words.specs.declared.Kind.the-variants.{Rdf, NodeElt, PropertyElt, ParseTypeCollectionPropertyElt, ParseTypeLiteralPropertyElt, ParseTypeOtherPropertyElt}
+use Rattle.state_words.specs.declared.Kind.the-variants.{Rdf, NodeElt, PropertyElt, ParseTypeCollectionPropertyElt, ParseTypeLiteralPropertyElt, ParseTypeOtherPropertyElt, Wrapper}
 use Rattle.state_words.specs.declared.Frame.{Frame}
 use Rattle.state_words.specs.Words.{pick, frameAt, loadFrame, load-frame}
 use Rattle.state.specs.declared.Registers.{Registers}
@@ -26,6 +26,7 @@ placeOf PropertyElt = NodesOrText
 placeOf ParseTypeCollectionPropertyElt = Nodes
 placeOf ParseTypeLiteralPropertyElt = Xml
 placeOf ParseTypeOtherPropertyElt = Xml
+placeOf Wrapper = Outside
 
 unfoldable pub placeAt : Registers → List ℕ → Place
 placeAt r fs = pick (eqb (r .counts .inner) 0) (pick (eqb (r .counts .depth) 0) Outside (placeOf (loadFrame fs (r .counts .depth - 1) .kind))) Xml
@@ -48,6 +49,7 @@ kind-place PropertyElt f w s = refl
 kind-place ParseTypeCollectionPropertyElt f w s = refl
 kind-place ParseTypeLiteralPropertyElt f w s = refl
 kind-place ParseTypeOtherPropertyElt f w s = refl
+kind-place Wrapper f w s = refl
 
 -- the frame on top, if there is one
 abbrev pub topOf : Registers → List ℕ → Frame

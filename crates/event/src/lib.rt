@@ -65,5 +65,6 @@ fn place_of(kind: Kind) -> Place
         Kind::ParseTypeCollectionPropertyElt => Place::Nodes,
         Kind::ParseTypeLiteralPropertyElt => Place::Xml,
         Kind::ParseTypeOtherPropertyElt => Place::Xml,
+        Kind::Wrapper => Place::Outside,
     }
 }

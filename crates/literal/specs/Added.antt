@@ -19,7 +19,7 @@ use Rattle.copy.specs.Copy.{part, wrote-part}
 use Rattle.writer.specs.Put.{Put, most, counted, put-wrote}
 use Rattle.state_words.specs.Parts.{END, FRAME}
 use Rattle.state_words.specs.declared.Kind.{Kind}
-use Rattle.state_words.specs.declared.Kind.the-variants.{ParseTypeLiteralPropertyElt, ParseTypeOtherPropertyElt}
+use Rattle.state_words.specs.declared.Kind.the-variants.{ParseTypeLiteralPropertyElt, ParseTypeOtherPropertyElt, Wrapper}
 use Rattle.state_words.specs.Words.{pick}
 use Rattle.state.specs.declared.Registers.{Registers}
 use Rattle.state.specs.Meaning.{at, startOf, elementsOf}

@@ -11,7 +11,7 @@ use Rattle.spec.specs.NTriples.{Subject}
 use Rattle.spec.specs.Document.{default, collection, literal, other, Kind as What, rdfRDF, wrapper, nodeElement, propertyElement, xmlElement, Frame as Element, withKind, onValue, isXmlElement, changeValue, valueBytes, kindBytes, frameBytes}
 use Rattle.spec.specs.XmlLiteral.{takesXml}
 use Rattle.state_words.specs.declared.Kind.{Kind}
-use Rattle.state_words.specs.declared.Kind.the-variants.{Rdf, NodeElt, PropertyElt, ParseTypeCollectionPropertyElt, ParseTypeLiteralPropertyElt, ParseTypeOtherPropertyElt}
+use Rattle.state_words.specs.declared.Kind.the-variants.{Rdf, NodeElt, PropertyElt, ParseTypeCollectionPropertyElt, ParseTypeLiteralPropertyElt, ParseTypeOtherPropertyElt, Wrapper}
 use Rattle.state_words.specs.declared.Frame.{Frame}
 use Rattle.state_words.specs.Words.{frameAt, rowAt}
 use Rattle.state.specs.declared.Registers.{Registers}
@@ -85,6 +85,7 @@ literal-kind PropertyElt f w s = refl
 literal-kind ParseTypeCollectionPropertyElt f w s = refl
 literal-kind ParseTypeLiteralPropertyElt f w s = refl
 literal-kind ParseTypeOtherPropertyElt f w s = refl
+literal-kind Wrapper f w s = refl
 
 past-inners : (is bs w : List ℕ) (n b : ℕ) (es : List Element) → keepsXml (innersOf is bs w n b ++ es) ≡ keepsXml es
 unfolding keepsXml innersOf innerOf isXmlElement if_then_else_

@@ -80,7 +80,7 @@ module _ {x : Start} {r : Registers} {count used : ℕ} {fs bs is w ia il st out
 
   behind : planned ≡ step .1
   unfolding opened docIn docOf newElement newPart
-  behind = rw (g .name, g .bindings, g .base, g .ownTag, g .does .kind, g .does .labels, g .id)
+  behind = rw (g .name, g .bindings, g .base, g .ownTag, g .does .kind, g .does .part, g .does .labels, g .id)
 
   pub behind-fits : fits (step .1) ≡ true
   unfolding heldBytes L.all
@@ -113,7 +113,7 @@ module _ {x : Start} {r : Registers} {count used : ℕ} {fs bs is w ia il st out
     unfolding docIn noted
     act-done {q} {t} {fs′} {bs′} {w′} {ia′} {il′} {st′} c f o i =
         let room : leb (length (write (step .0))) (length out) ≡ true = rw (← lines-step) (sym (p .answer) ∙ f) in
-        let h = o .holds is (y .valid) (g .tag .iri) (g .li) (noted NoProfile (g .tag)) refl in
+        let h = o .holds is (y .valid) (g .tag .iri) (g .li) (noted NoProfile (g .tag)) (λ p. refl) in
         record {
           frameWords = o .frames;
           bindingWords = o .bindings;

@@ -1,18 +1,19 @@
 -- The element that a start tag outside Literal content opens: said by the decoded event, by what was made for it, and by where its parts are.
 use mathlib.Core.Path.{_≡_}
-use mathlib.Core.Bool.{Bool}
+use mathlib.Core.Bool.{Bool, false}
 use mathlib.Core.Option.{Option, none, some}
 use mathlib.Core.List.{List, []}
 use Prim.Native.Nat.{ℕ}
+use lib.Dec.{eqb}
 use lib.ListN.{take}
 use Rattle.spec.specs.Bytes.{Bytes}
 use Rattle.spec.specs.NTriples.{Subject, named, blank}
 use Rattle.spec.specs.Namespaces.{declared}
 use Rattle.spec.specs.Document.{default, collection, literal, other, Property}
-use Rattle.spec.specs.Document.{Kind as What, rdfRDF, nodeElement, propertyElement, ordinary, Frame as Element}
+use Rattle.spec.specs.Document.{Kind as What, rdfRDF, wrapper, nodeElement, propertyElement, Part, ordinary, topLevel, alternatives, Frame as Element}
 use Rattle.copy.specs.Copy.{part}
 use Rattle.state_words.specs.declared.Kind.{Kind}
-use Rattle.state_words.specs.declared.Kind.the-variants.{Rdf, NodeElt, PropertyElt, ParseTypeCollectionPropertyElt, ParseTypeLiteralPropertyElt, ParseTypeOtherPropertyElt}
+use Rattle.state_words.specs.declared.Kind.the-variants.{Rdf, NodeElt, PropertyElt, ParseTypeCollectionPropertyElt, ParseTypeLiteralPropertyElt, ParseTypeOtherPropertyElt, Wrapper}
 use Rattle.state_words.specs.Words.{pick}
 use Rattle.state.specs.Meaning.{objectOf}
 use Rattle.start_names.specs.Tag.{attributesOf}
@@ -48,6 +49,17 @@ kindIs PropertyElt p e a s = propertyElement (propertyIs p e a s) (default (mayb
 kindIs ParseTypeCollectionPropertyElt p e a s = propertyElement (propertyIs p e a s) (collection [])
 kindIs ParseTypeLiteralPropertyElt p e a s = propertyElement (propertyIs p e a s) (literal [])
 kindIs ParseTypeOtherPropertyElt p e a s = propertyElement (propertyIs p e a s) other
+kindIs Wrapper p e a s = wrapper false
+
+-- what it is in a packet: 0 nothing, 1 without a child so far
+unfoldable pub partIs : Kind → Parts → List ℕ → List ℕ → Part
+partIs Rdf p e a = pick (eqb (p .what) 0) ordinary (topLevel (pick (eqb (p .what) 1) none (some (textOf (p .object) e a))))
+partIs NodeElt p e a = pick (eqb (p .what) 0) ordinary (alternatives (pick (eqb (p .what) 1) none (some (eqb (p .what) 3))))
+partIs PropertyElt p e a = ordinary
+partIs ParseTypeCollectionPropertyElt p e a = ordinary
+partIs ParseTypeLiteralPropertyElt p e a = ordinary
+partIs ParseTypeOtherPropertyElt p e a = ordinary
+partIs Wrapper p e a = ordinary
 
 -- the element, whose name is the first m bytes of e and whose k attributes are where the words w say; s is the subject of the node around it
 unfoldable pub newElement : List ℕ → List ℕ → ℕ → ℕ → List ℕ → Parts → Subject → Element
@@ -58,7 +70,7 @@ newElement e w m k a p s =
       ownBase = maybe (p .base) e a;
       ownTag = maybe (p .tag) e a;
       kind = kindIs (p .kind) p e a s;
-      part = ordinary;
+      part = partIs (p .kind) p e a;
     }
 
 -- what a kind does not have is missing
@@ -69,6 +81,7 @@ Lacks PropertyElt p = p .what ≡ 0 → p .object ≡ Missing
 Lacks ParseTypeCollectionPropertyElt p = (p .datatype ≡ Missing) × (p .object ≡ Missing)
 Lacks ParseTypeLiteralPropertyElt p = (p .datatype ≡ Missing) × (p .object ≡ Missing)
 Lacks ParseTypeOtherPropertyElt p = (p .datatype ≡ Missing) × (p .object ≡ Missing)
+Lacks Wrapper p = (p .main ≡ Missing) × (p .id ≡ Missing) × (p .datatype ≡ Missing) × (p .object ≡ Missing)
 
 pub record Fitting (p : Parts) : Type 0 where
   pub lacks : Lacks (p .kind) p

@@ -10,23 +10,23 @@ use Rattle.spec.specs.Bytes.{Bytes, if_then_else_, sizeOf, total}
 use Rattle.spec.specs.Limits as L
 use Rattle.spec.specs.Namespaces.{Binding, declared}
 use Rattle.spec.specs.NTriples.{Subject, named}
-use Rattle.spec.specs.Document.{Kind as What, rdfRDF, wrapper, nodeElement, propertyElement, xmlElement, Part, ordinary, Frame as Element, withKind, withPart, kindBytes, bindingBytes, frameBytes, heldBytes}
+use Rattle.spec.specs.Document.{Kind as What, rdfRDF, wrapper, nodeElement, propertyElement, xmlElement, Part, Frame as Element, withKind, withPart, kindBytes, bindingBytes, frameBytes, heldBytes}
 use Rattle.spec.specs.Productions.{isLi}
 use Rattle.spec.specs.Opening.{counted, countLi}
 use Rattle.copy.specs.Copy.{part, Put, Wrote, put-fits, wrote-part}
 use Rattle.state_words.specs.Parts.{NAME, BINDINGS, BASE, END, FRAME, TABLE}
 use Rattle.state_words.specs.declared.Kind.{Kind}
-use Rattle.state_words.specs.declared.Kind.the-variants.{Rdf, NodeElt, PropertyElt, ParseTypeCollectionPropertyElt, ParseTypeLiteralPropertyElt, ParseTypeOtherPropertyElt}
+use Rattle.state_words.specs.declared.Kind.the-variants.{Rdf, NodeElt, PropertyElt, ParseTypeCollectionPropertyElt, ParseTypeLiteralPropertyElt, ParseTypeOtherPropertyElt, Wrapper}
 use Rattle.state_words.specs.declared.Frame.{Frame}
 use Rattle.state_words.specs.Words.{frameAt, load-frame}
 use Rattle.state_words.specs.Kept.{Kept, kept-all, kept-then, kept-less, kept-before}
 use Rattle.state.specs.declared.Registers.{Registers}
-use Rattle.state.specs.Meaning.{at, first, span, bindingsOf, whatOf, elementOf, subjectBelow, framesOf, innersOf, startOf, elementsOf, docOf}
+use Rattle.state.specs.Meaning.{at, first, span, bindingsOf, whatOf, partOf, elementOf, subjectBelow, framesOf, innersOf, startOf, elementsOf, docOf}
 use Rattle.state.specs.Valid.{isNode, nodeBelow, stands, Rising, Valid}
 use Rattle.state.specs.Held.{held}
 use Rattle.state.specs.Stay.{bindings-kept}
 use Rattle.state_stack.specs.declared.Changed.{Changed}
-use Rattle.state_stack.specs.Change.{Holds, flat, labelledTo, labelled-holds}
+use Rattle.state_stack.specs.Change.{Holds, flat, labelledTo, labelled-holds, top-frame}
 use Rattle.state_stack.specs.Calls.{frameOf, Pushes, mayPush, topFrame, CountsLi, mayCount}
 use Rattle.state_stack.specs.Laws.{Bound, New, push-holds, top-deep, Numbered, li-may, li-holds, li-stands, li-below}
 use Rattle.start_names.specs.Tag.{attributesOf}
@@ -35,7 +35,7 @@ use Rattle.start_element.specs.declared.Parts.{Parts}
 use Rattle.start_element.specs.Element.{newElement, Fitting}
 use Rattle.start_element.specs.Sizes.{partsBytes, Measures, measured}
 use Rattle.start_element.specs.Rows.{Fits, Entered}
-use Rattle.start_element.specs.Places.{Spread, Lays, marksOf, frameIs, lays-laid, lays-parts, lays-kind, lays-what, optional-is}
+use Rattle.start_element.specs.Places.{Spread, Lays, marksOf, frameIs, lays-laid, lays-parts, lays-kind, lays-what, lays-part, optional-is}
 
 -- ---- open
 
@@ -135,6 +135,7 @@ module _ {r : Registers} {fs bs w e s : List ℕ} {m k : ℕ} {a : List ℕ} {p 
                 optional-is e a (p .base),
                 optional-is e a (p .tag),
                 lays-what l (r .counts .outer) (p .kind) (y .fitting .lacks) t,
+                lays-part l (r .counts .outer) (p .kind),
               )
 
           ends-low : getD pl END 0 ≤ 49_152
@@ -213,8 +214,17 @@ ready-valid x z d b me ro f st =
       stood = st;
     }
 
--- any element may stand in a node
-pub stands-in : (r : Registers) (fs : List ℕ) → topFrame r fs .kind ≡ NodeElt → r .counts .depth ≤ 64 → length fs ≡ TABLE → (q : Kind) → stands q fs (r .counts .depth) ≡ true
+abbrev pub isWrapper : Kind → Bool
+isWrapper Rdf = false
+isWrapper NodeElt = false
+isWrapper PropertyElt = false
+isWrapper ParseTypeCollectionPropertyElt = false
+isWrapper ParseTypeLiteralPropertyElt = false
+isWrapper ParseTypeOtherPropertyElt = false
+isWrapper Wrapper = true
+
+-- any element but the wrapper may stand in a node
+pub stands-in : (r : Registers) (fs : List ℕ) → topFrame r fs .kind ≡ NodeElt → r .counts .depth ≤ 64 → length fs ≡ TABLE → (q : Kind) → isWrapper q ≡ false → stands q fs (r .counts .depth) ≡ true
 unfolding stands nodeBelow isNode
 stands-in r fs h d l = go
   where
@@ -226,13 +236,14 @@ stands-in r fs h d l = go
         let e : r .counts .depth ≡ suc (r .counts .depth - 1) = omega (arith, deep) in
         rw e (rw (← top-is r fs deep (omega (arith, deep)), h))
 
-    go : (q : Kind) → stands q fs (r .counts .depth) ≡ true
-    go Rdf = refl
-    go NodeElt = refl
-    go PropertyElt = node
-    go ParseTypeCollectionPropertyElt = node
-    go ParseTypeLiteralPropertyElt = node
-    go ParseTypeOtherPropertyElt = node
+    go : (q : Kind) → isWrapper q ≡ false → stands q fs (r .counts .depth) ≡ true
+    go Rdf u = refl
+    go NodeElt u = refl
+    go PropertyElt u = node
+    go ParseTypeCollectionPropertyElt u = node
+    go ParseTypeLiteralPropertyElt u = node
+    go ParseTypeOtherPropertyElt u = node
+    go Wrapper u = absurd (false≢true (sym u))
 
 -- an rdf:li counted holds no byte
 counted-bytes : (i : Bytes) (q : What) → kindBytes (counted i q) ≡ kindBytes q
@@ -264,7 +275,7 @@ pub record Granted (r : Registers) (fs bs w e s : List ℕ) (m k : ℕ) (a : Lis
 
 -- one more element, counted in the node around it where it is an rdf:li
 pub record Commits (r : Registers) (fs bs w e s : List ℕ) (m k : ℕ) (a : List ℕ) (p : Parts) (li : Bool) (labels : ℕ) (q : Registers) (gs cs v : List ℕ) : Type 0 where
-  pub holds : (is : List ℕ) → Valid r fs bs is w → (i : Bytes) → isLi i ≡ li → (h : Part → Part) → h ordinary ≡ ordinary
+  pub holds : (is : List ℕ) → Valid r fs bs is w → (i : Bytes) → isLi i ≡ li → (h : Part → Part) → ((p : Part) → h p ≡ p)
       → Holds q gs cs is v (startOf r w) (newElement e s m k a p (subjectBelow fs w (r .counts .depth)) ∷ countLi i h (elementsOf r fs bs is w)) true labels
   pub closed : q .flags .closed ≡ r .flags .closed
   pub frames : length gs ≡ length fs
@@ -283,28 +294,32 @@ counts-not n = record { yes = λ y. absurd (false≢true (sym n ∙ y)); no = λ
 pub counts-does : {r : Registers} {fs gs : List ℕ} {li b : Bool} → li ≡ true → CountsLi r fs b gs → CountsIf r fs li gs
 counts-does y c = record { yes = λ _. rw (c .answer) at c; no = λ n. absurd (false≢true (sym n ∙ y)); same = c .same }
 
--- an element that is no rdf:li is not counted, nor noted in an ordinary one
-module _ (i : Bytes) (n : isLi i ≡ false) (h : Part → Part) (o : h ordinary ≡ ordinary) where
-  not-counted : (q : Kind) (f : Frame) (w : List ℕ) (s : Subject) → counted i (whatOf q f w s) ≡ whatOf q f w s
-  unfolding counted whatOf if_then_else_
-  not-counted Rdf f w s = refl
-  not-counted NodeElt f w s = rw n
-  not-counted PropertyElt f w s = refl
-  not-counted ParseTypeCollectionPropertyElt f w s = refl
-  not-counted ParseTypeLiteralPropertyElt f w s = refl
-  not-counted ParseTypeOtherPropertyElt f w s = refl
+-- an element that is no rdf:li is not counted, nor noted; the wrapper, which would count it, stands nowhere
+module _ (i : Bytes) (n : isLi i ≡ false) (h : Part → Part) (o : (p : Part) → h p ≡ p) where
+  not-counted : (q : Kind) (f : Frame) (w : List ℕ) (s : Subject) (fs : List ℕ) (n : ℕ) → stands q fs n ≡ true → counted i (whatOf q f w s) ≡ whatOf q f w s
+  unfolding counted whatOf stands if_then_else_
+  not-counted Rdf f w s fs m t = refl
+  not-counted NodeElt f w s fs m t = rw n
+  not-counted PropertyElt f w s fs m t = refl
+  not-counted ParseTypeCollectionPropertyElt f w s fs m t = refl
+  not-counted ParseTypeLiteralPropertyElt f w s fs m t = refl
+  not-counted ParseTypeOtherPropertyElt f w s fs m t = refl
+  not-counted Wrapper f w s fs m t = absurd (false≢true t)
 
-  not-noted : (f : Frame) (bound : List Binding) (w : List ℕ) (s : Subject) (es : List Element) → countLi i h (elementOf f bound w s ∷ es) ≡ elementOf f bound w s ∷ es
+  not-noted : (f : Frame) (bound : List Binding) (w : List ℕ) (s : Subject) (es : List Element) (fs : List ℕ) (n : ℕ) → stands (f .kind) fs n ≡ true
+      → countLi i h (elementOf f bound w s ∷ es) ≡ elementOf f bound w s ∷ es
   unfolding countLi withKind withPart elementOf
-  not-noted f bound w s es = rw (not-counted (f .kind) f w s, o)
+  not-noted f bound w s es fs m t = rw (not-counted (f .kind) f w s fs m t, o (partOf (f .kind) f w))
 
-  no-li : (r : Registers) (fs bs is w : List ℕ) → r .counts .inner ≡ 0 → countLi i h (elementsOf r fs bs is w) ≡ elementsOf r fs bs is w
-  unfolding elementsOf innersOf framesOf countLi
-  no-li r fs bs is w z = rw z (outer (r .counts .depth) (r .counts .outer))
+  no-li : {r : Registers} {fs bs is w : List ℕ} → Valid r fs bs is w → r .counts .inner ≡ 0 → countLi i h (elementsOf r fs bs is w) ≡ elementsOf r fs bs is w
+  unfolding elementsOf innersOf framesOf
+  no-li {r} {fs} {bs} {is} {w} x z = go (r .counts .depth) refl
     where
-      outer : (n b : ℕ) → countLi i h (framesOf fs bs w n b) ≡ framesOf fs bs w n b
-      outer zero b = refl
-      outer (suc n) b = not-noted (frameAt fs n) (bindingsOf bs w (first (frameAt fs n)) (b - first (frameAt fs n))) w (subjectBelow fs w n) (framesOf fs bs w n (first (frameAt fs n)))
+      go : (d : ℕ) → r .counts .depth ≡ d → countLi i h (elementsOf r fs bs is w) ≡ elementsOf r fs bs is w
+      go zero e = rw (z, e) (unfold countLi in refl)
+      go (suc n) e =
+          rw (z, e)
+          (not-noted (frameAt fs n) (bindingsOf bs w (first (frameAt fs n)) (r .counts .outer - first (frameAt fs n))) w (subjectBelow fs w n) (framesOf fs bs w n (first (frameAt fs n))) fs n (top-frame x n e .stood))
 
 module _ {r : Registers} {fs bs w e s : List ℕ} {m k : ℕ} {a : List ℕ} {p : Parts} {li : Bool} {labels : ℕ} (y : Granted r fs bs w e s m k a p li labels)
     {fs1 : List ℕ} (c : CountsIf r fs li fs1) where
@@ -330,7 +345,7 @@ module _ {r : Registers} {fs bs w e s : List ℕ} {m k : ℕ} {a : List ℕ} {p 
       stays false t = rw (c .no t)
 
   module _ {q : Registers} {gs cs v : List ℕ} (o : Opens r fs1 bs w e s m k a p q gs cs v) where
-    opened-holds : (is : List ℕ) → Valid r fs bs is w → (i : Bytes) → isLi i ≡ li → (note : Part → Part) → note ordinary ≡ ordinary
+    opened-holds : (is : List ℕ) → Valid r fs bs is w → (i : Bytes) → isLi i ≡ li → (note : Part → Part) → ((p : Part) → note p ≡ p)
         → Holds q gs cs is v (startOf r w) (newElement e s m k a p (subjectBelow fs w (r .counts .depth)) ∷ countLi i note (elementsOf r fs bs is w)) true (r .counts .labels)
     opened-holds is x i j note none-noted = go li refl
       where
@@ -342,7 +357,7 @@ module _ {r : Registers} {fs bs w e s : List ℕ} {m k : ℕ} {a : List ℕ} {p 
         go false t =
             let h : Holds q gs cs is v (startOf r w) (newElement e s m k a p (subjectBelow fs w (r .counts .depth)) ∷ elementsOf r fs bs is w) true (r .counts .labels) =
             rw (c .no t) at (o .holds is (rw (c .no t) x)) in
-            rw (no-li i (j ∙ t) note none-noted r fs bs is w (y .ready .inner)) h
+            rw (no-li i (j ∙ t) note none-noted x (y .ready .inner)) h
 
     pub commits : {q′ : Registers} → q′ ≡ labelledTo q labels → Commits r fs bs w e s m k a p li labels q′ gs cs v
     commits {q′} e′ =

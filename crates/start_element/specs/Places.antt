@@ -13,17 +13,17 @@ use Rattle.spec.specs.NTriples.{Subject, blank}
 use Rattle.copy.specs.Copy.{Put, Wrote, then, put-fits, wrote-none, wrote-same}
 use Rattle.state_words.specs.Parts.{NAME, BINDINGS, BASE, TAG, MAIN, ID, DATATYPE, TAIL, END, PLACES}
 use Rattle.state_words.specs.declared.Kind.{Kind}
-use Rattle.state_words.specs.declared.Kind.the-variants.{Rdf, NodeElt, PropertyElt, ParseTypeCollectionPropertyElt, ParseTypeLiteralPropertyElt, ParseTypeOtherPropertyElt}
+use Rattle.state_words.specs.declared.Kind.the-variants.{Rdf, NodeElt, PropertyElt, ParseTypeCollectionPropertyElt, ParseTypeLiteralPropertyElt, ParseTypeOtherPropertyElt, Wrapper}
 use Rattle.state_words.specs.declared.Frame.{Frame}
 use Rattle.state_words.specs.Words.{pick}
-use Rattle.state.specs.Meaning.{at, optional, nodeOf, childrenOf, subjectOf, propertyOf, whatOf}
+use Rattle.state.specs.Meaning.{at, optional, nodeOf, childrenOf, subjectOf, propertyOf, whatOf, partOf}
 use Rattle.state.specs.Valid.{emptyOr, partsOk, childrenOk, kindOk}
 use Rattle.state_stack.specs.Laid.{Laid, laid}
 use Rattle.state_stack.specs.Calls.{frameOf}
 use Rattle.start_element.specs.declared.Source.{Source}
 use Rattle.start_element.specs.declared.Source.the-variants.{Missing, Own, Made}
 use Rattle.start_element.specs.declared.Parts.{Parts}
-use Rattle.start_element.specs.Element.{textOf, maybe, nodeIs, propertyIs, kindIs, Lacks}
+use Rattle.start_element.specs.Element.{textOf, maybe, nodeIs, propertyIs, kindIs, partIs, Lacks}
 use Rattle.start_element.specs.Sizes.{partsBytes, missing-size}
 
 -- ---- the parts, written
@@ -210,6 +210,9 @@ module _ {w v e a : List ℕ} {p : Parts} {name bound from : ℕ} {at′ : List 
   lays-kind Rdf z =
       eq-eqb (getD at′ MAIN 0) (getD at′ END 0)
       (omega (arith, l .idAt, l .typeAt, l .tailAt, l .endAt, missing-size e a (z .0), missing-size e a (z .1), missing-size e a (z .2), missing-size e a (z .3)))
+  lays-kind Wrapper z =
+      eq-eqb (getD at′ MAIN 0) (getD at′ END 0)
+      (omega (arith, l .idAt, l .typeAt, l .tailAt, l .endAt, missing-size e a (z .0), missing-size e a (z .1), missing-size e a (z .2), missing-size e a (z .3)))
   lays-kind NodeElt z =
       rw (eq-eqb (getD at′ ID 0) (getD at′ END 0) (omega (arith, l .typeAt, l .tailAt, l .endAt, missing-size e a (z .0), missing-size e a (z .1), missing-size e a (z .2))))
   lays-kind PropertyElt z = object-or (p .what) z
@@ -234,3 +237,14 @@ module _ {w v e a : List ℕ} {p : Parts} {name bound from : ℕ} {at′ : List 
   lays-what ParseTypeCollectionPropertyElt z s = rw (property-is s)
   lays-what ParseTypeLiteralPropertyElt z s = rw (property-is s, lays-laid .tailPart, missing-text e a (z .1))
   lays-what ParseTypeOtherPropertyElt z s = rw (property-is s)
+  lays-what Wrapper z s = refl
+
+  pub lays-part : (q : Kind) → partOf q (frameIs p at′ b) v ≡ partIs q p e a
+  unfolding partOf partIs
+  lays-part Rdf = rw (lays-laid .tailPart)
+  lays-part NodeElt = refl
+  lays-part PropertyElt = refl
+  lays-part ParseTypeCollectionPropertyElt = refl
+  lays-part ParseTypeLiteralPropertyElt = refl
+  lays-part ParseTypeOtherPropertyElt = refl
+  lays-part Wrapper = refl

@@ -15,7 +15,7 @@ use Rattle.spec.specs.Document.{noObject, nodeObject, textObject, subjectBytes,
 use Rattle.copy.specs.Copy.{part}
 use Rattle.copy.specs.Texts.{after-drop}
 use Rattle.state_words.specs.declared.Kind.{Kind}
-use Rattle.state_words.specs.declared.Kind.the-variants.{Rdf, NodeElt, PropertyElt, ParseTypeCollectionPropertyElt, ParseTypeLiteralPropertyElt, ParseTypeOtherPropertyElt}
+use Rattle.state_words.specs.declared.Kind.the-variants.{Rdf, NodeElt, PropertyElt, ParseTypeCollectionPropertyElt, ParseTypeLiteralPropertyElt, ParseTypeOtherPropertyElt, Wrapper}
 use Rattle.state_words.specs.Words.{pick}
 use Rattle.state.specs.Meaning.{objectOf}
 use Rattle.start_names.specs.Tag.{startAt, sizeAt, valueSizeAt, nameAt, valueAt, attributeAt, attributesFrom, attributesOf, attributes-all, attributes-more, attributes-end}
@@ -159,6 +159,7 @@ module _ (p : Parts) (e a : List ℕ) (s : Subject) where
       omega (arith, maybe-size (p .id) e a, maybe-size (p .datatype) e a, object-size (p .what) (textOf (p .object) e a) (λ z. missing-size e a (l z)))
   kind-size ParseTypeCollectionPropertyElt l = omega (arith, maybe-size (p .id) e a, missing-size e a (l .0), missing-size e a (l .1))
   kind-size ParseTypeLiteralPropertyElt l = omega (arith, maybe-size (p .id) e a, missing-size e a (l .0), missing-size e a (l .1))
+  kind-size Wrapper l = omega (arith, missing-size e a (l .0), missing-size e a (l .1), missing-size e a (l .2), missing-size e a (l .3))
   kind-size ParseTypeOtherPropertyElt l = omega (arith, maybe-size (p .id) e a, missing-size e a (l .0), missing-size e a (l .1))
 
 -- the bytes of a new element, whatever the subject around it

@@ -9,20 +9,20 @@ use lib.Dec.{eqb}
 use Rattle.spec.specs.Bytes.{Bytes, if_then_else_, orElse, isSome, isEmpty}
 use Rattle.spec.specs.NTriples.{Subject, named, blank, label}
 use Rattle.spec.specs.Document.{Object, noObject, nodeObject, default, collection, literal, other, Property}
-use Rattle.spec.specs.Document.{Kind as What, rdfRDF, nodeElement, propertyElement, Frame as Element}
+use Rattle.spec.specs.Document.{Kind as What, rdfRDF, nodeElement, propertyElement, ordinary, Frame as Element}
 use Rattle.spec.specs.Namespaces.{declared}
 use Rattle.spec.specs.StartTag.{Tag}
 use Rattle.spec.specs.Productions.{Opened, subjectOf, noParseType, asCollection, asResource, asLiteral, asOther, hasNode}
 use Rattle.copy.specs.Copy.{part}
 use Rattle.state_words.specs.declared.Kind.{Kind}
-use Rattle.state_words.specs.declared.Kind.the-variants.{Rdf, NodeElt, PropertyElt, ParseTypeCollectionPropertyElt, ParseTypeLiteralPropertyElt, ParseTypeOtherPropertyElt}
+use Rattle.state_words.specs.declared.Kind.the-variants.{Rdf, NodeElt, PropertyElt, ParseTypeCollectionPropertyElt, ParseTypeLiteralPropertyElt, ParseTypeOtherPropertyElt, Wrapper}
 use Rattle.state_words.specs.Words.{pick}
 use Rattle.state.specs.Meaning.{objectOf}
 use Rattle.start_names.specs.Tag.{attributesOf}
 use Rattle.start_element.specs.declared.Source.{Source}
 use Rattle.start_element.specs.declared.Source.the-variants.{Missing, Own, Made}
 use Rattle.start_element.specs.declared.Parts.{Parts}
-use Rattle.start_element.specs.Element.{textOf, maybe, nodeIs, propertyIs, kindIs, newElement, Lacks, Fitting}
+use Rattle.start_element.specs.Element.{textOf, maybe, nodeIs, propertyIs, kindIs, partIs, newElement, Lacks, Fitting}
 use Rattle.start_rules.specs.Judged.{nodeSubject, nodeOpened, propertyIn, labelsBehind, takesLabel, propertyOpened}
 use Rattle.start_rules.specs.Judged as J
 use Rattle.start_plan.specs.declared.Given.{Given}
@@ -48,21 +48,23 @@ lacking-object g u = lacking (g .resource) (g .node) u
 -- s: the subject of the node around
 pub record Does (p : Plan) (e a : List ℕ) (s : Subject) (o : Opened) : Type 0 where
   pub kind : kindIs (p .parts .kind) (p .parts) e a s ≡ o .kind
+  pub part : partIs (p .parts .kind) (p .parts) e a ≡ ordinary
   pub labels : p .labels ≡ o .labels
   pub fitting : Fitting (p .parts)
 
 module _ (g : Given) (e a : List ℕ) (s : Subject) where
   pub does-root : (n : ℕ) → Does (rootPlan g n) e a s (record { lines = []; kind = rdfRDF; labels = n })
-  unfolding kindIs
-  does-root n = record { kind = refl; labels = refl; fitting = record { lacks = (refl, refl, refl, refl) } }
+  unfolding kindIs partIs
+  does-root n = record { kind = refl; part = refl; labels = refl; fitting = record { lacks = (refl, refl, refl, refl) } }
 
   -- the label that was made is the next
   module _ {t : Tag} (y : Says g e a t) (n : ℕ) where
     pub does-node : part a 6144 12 ≡ label (suc n) → Does (nodePlan g (suc n)) e a s (nodeOpened t n)
-    unfolding kindIs nodeOpened nodeSubject
+    unfolding kindIs partIs nodeOpened nodeSubject
     does-node m =
         record {
           kind = ap (λ (x : Subject). nodeElement x 0) (node-subject e a (label (suc n)) m g y);
+          part = refl;
           labels = refl;
           fitting = record { lacks = (refl, refl, refl) };
         }
@@ -80,23 +82,23 @@ module _ (g : Given) (e a : List ℕ) (s : Subject) where
           made f h q = rw (f, h, q)
 
       pub does-collection : Does (heldPlan ParseTypeCollectionPropertyElt g main n) e a s (propertyOpened asCollection t p n)
-      unfolding kindIs propertyOpened
+      unfolding kindIs partIs propertyOpened
       does-collection =
-          record { kind = ap (λ (x : Property). propertyElement x (collection [])) (property ParseTypeCollectionPropertyElt Missing Missing 0 false); labels = refl; fitting = record { lacks = (refl, refl) } }
+          record { kind = ap (λ (x : Property). propertyElement x (collection [])) (property ParseTypeCollectionPropertyElt Missing Missing 0 false); part = refl; labels = refl; fitting = record { lacks = (refl, refl) } }
 
       pub does-literal : Does (heldPlan ParseTypeLiteralPropertyElt g main n) e a s (propertyOpened asLiteral t p n)
-      unfolding kindIs propertyOpened
+      unfolding kindIs partIs propertyOpened
       does-literal =
-          record { kind = ap (λ (x : Property). propertyElement x (literal [])) (property ParseTypeLiteralPropertyElt Missing Missing 0 false); labels = refl; fitting = record { lacks = (refl, refl) } }
+          record { kind = ap (λ (x : Property). propertyElement x (literal [])) (property ParseTypeLiteralPropertyElt Missing Missing 0 false); part = refl; labels = refl; fitting = record { lacks = (refl, refl) } }
 
       pub does-other : Does (heldPlan ParseTypeOtherPropertyElt g main n) e a s (propertyOpened asOther t p n)
-      unfolding kindIs propertyOpened
+      unfolding kindIs partIs propertyOpened
       does-other =
-          record { kind = ap (λ (x : Property). propertyElement x other) (property ParseTypeOtherPropertyElt Missing Missing 0 false); labels = refl; fitting = record { lacks = (refl, refl) } }
+          record { kind = ap (λ (x : Property). propertyElement x other) (property ParseTypeOtherPropertyElt Missing Missing 0 false); part = refl; labels = refl; fitting = record { lacks = (refl, refl) } }
 
       pub does-resource : part a 6144 12 ≡ label (suc n) → Does (resourcePlan g (suc n)) e a s (propertyOpened asResource t p n)
-      unfolding kindIs propertyOpened nodeIs textOf
-      does-resource m = record { kind = ap (λ (x : Bytes). nodeElement (blank x) 0) m; labels = refl; fitting = record { lacks = (refl, refl, refl) } }
+      unfolding kindIs partIs propertyOpened nodeIs textOf
+      does-resource m = record { kind = ap (λ (x : Bytes). nodeElement (blank x) 0) m; part = refl; labels = refl; fitting = record { lacks = (refl, refl, refl) } }
 
       -- a default property: u says whether it has property attributes; where it takes a label, that was made
       module _ (u : Bool) (q : u ≡ not (isEmpty (t .attributes))) (m : takesLabel noParseType (isSome (t .resource)) (isSome (t .nodeID)) u ≡ true → part a 6144 12 ≡ label (suc n)) where
@@ -104,11 +106,12 @@ module _ (g : Given) (e a : List ℕ) (s : Subject) where
         with-object : {o : Object} {labels : ℕ} → objectOf (objectIn g u .what) (textOf (objectIn g u .source) e a) ≡ o
             → propertyOpened noParseType t p n .kind ≡ propertyElement p (default (t .datatype) o) → labels ≡ propertyOpened noParseType t p n .labels
             → Does (defaultPlan g main u labels) e a s (propertyOpened noParseType t p n)
-        unfolding kindIs objectIn
+        unfolding kindIs partIs objectIn
         with-object {o} {labels} f h l =
             record {
               kind =
                   rw (y .datatype, f, property PropertyElt (g .datatype) (objectIn g u .source) (objectIn g u .what) false) (sym h);
+              part = refl;
               labels = l;
               fitting = record { lacks = lacking (g .resource) (g .node) u };
             }

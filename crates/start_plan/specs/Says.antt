@@ -14,7 +14,7 @@ use Rattle.spec.specs.StartTag.{Tag}
 use Rattle.spec.specs.Productions.{subjectOf}
 use Rattle.copy.specs.Copy.{part}
 use Rattle.state_words.specs.declared.Kind.{Kind}
-use Rattle.state_words.specs.declared.Kind.the-variants.{Rdf, NodeElt, PropertyElt, ParseTypeCollectionPropertyElt, ParseTypeLiteralPropertyElt, ParseTypeOtherPropertyElt}
+use Rattle.state_words.specs.declared.Kind.the-variants.{Rdf, NodeElt, PropertyElt, ParseTypeCollectionPropertyElt, ParseTypeLiteralPropertyElt, ParseTypeOtherPropertyElt, Wrapper}
 use Rattle.state_words.specs.Words.{pick}
 use Rattle.state.specs.Meaning.{objectOf}
 use Rattle.start_names.specs.Tag.{attributesOf}

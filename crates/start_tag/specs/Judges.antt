@@ -17,7 +17,7 @@ use Rattle.spec.specs.declared.Refusal.the-variants.{OverLimit}
 use Rattle.spec.specs.Limits.{mostHeldBytes, mostNameBytes}
 use Rattle.spec.specs.Namespaces.{Binding}
 use Rattle.spec.specs.Pyx as P
-use Rattle.spec.specs.Document.{ordinary, Frame as Element, Kind as What, frameBytes, placeIn}
+use Rattle.spec.specs.Document.{Part, Frame as Element, Kind as What, frameBytes, placeIn}
 use Rattle.spec.specs.StartTag as S
 use Rattle.spec.specs.Productions.{Opened, elementType, isLi}
 use Rattle.spec.specs.Xmp.{startsWrapper, keeps}
@@ -182,11 +182,11 @@ module _ {t : Tag} {r : Registers} {count used : ℕ} {fs bs is w ia il st e v :
 
   element-is : elementOf (y .tells .is) o ≡ newElement e v m k b (p .parts) (subjectBelow fs w (r .counts .depth))
   unfolding newElement
-  element-is = made (y .tells .name) (y .tells .bindings) (sym base-says) (sym tag-says-own) (sym (d .kind))
+  element-is = made (y .tells .name) (y .tells .bindings) (sym base-says) (sym tag-says-own) (sym (d .kind)) (sym (d .part))
     where
-      made : {n₁ n₂ : Bytes} {b₁ b₂ : List Binding} {x₁ x₂ z₁ z₂ : Option Bytes} {k₁ k₂ : What} → n₁ ≡ n₂ → b₁ ≡ b₂ → x₁ ≡ x₂ → z₁ ≡ z₂ → k₁ ≡ k₂
-          → _≡_ {A = Element} (record { name = n₁; bindings = b₁; ownBase = x₁; ownTag = z₁; kind = k₁; part = ordinary }) (record { name = n₂; bindings = b₂; ownBase = x₂; ownTag = z₂; kind = k₂; part = ordinary })
-      made p₁ p₂ p₃ p₄ p₅ = rw (p₁, p₂, p₃, p₄, p₅)
+      made : {n₁ n₂ : Bytes} {b₁ b₂ : List Binding} {x₁ x₂ z₁ z₂ : Option Bytes} {k₁ k₂ : What} {q₁ q₂ : Part} → n₁ ≡ n₂ → b₁ ≡ b₂ → x₁ ≡ x₂ → z₁ ≡ z₂ → k₁ ≡ k₂ → q₁ ≡ q₂
+          → _≡_ {A = Element} (record { name = n₁; bindings = b₁; ownBase = x₁; ownTag = z₁; kind = k₁; part = q₁ }) (record { name = n₂; bindings = b₂; ownBase = x₂; ownTag = z₂; kind = k₂; part = q₂ })
+      made p₁ p₂ p₃ p₄ p₅ p₆ = rw (p₁, p₂, p₃, p₄, p₅, p₆)
 
   id-short : (i : Bytes) → y .tells .is .id ≡ some i → length i ≤ mostNameBytes
   id-short = short-id (shorts (y .tells .is) (sym (y .tells .short) ∙ short))

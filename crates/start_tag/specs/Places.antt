@@ -19,7 +19,7 @@ use Rattle.spec.specs.StartTag as S
 use Rattle.spec.specs.Productions.{isLi, openNode, openRoot}
 use Rattle.spec.proofs.Bytes.{same-true}
 use Rattle.state_words.specs.declared.Kind.{Kind}
-use Rattle.state_words.specs.declared.Kind.the-variants.{Rdf, NodeElt, PropertyElt, ParseTypeCollectionPropertyElt, ParseTypeLiteralPropertyElt, ParseTypeOtherPropertyElt}
+use Rattle.state_words.specs.declared.Kind.the-variants.{Rdf, NodeElt, PropertyElt, ParseTypeCollectionPropertyElt, ParseTypeLiteralPropertyElt, ParseTypeOtherPropertyElt, Wrapper}
 use Rattle.state_words.specs.Kept.{kept-all}
 use Rattle.state_words.specs.Words.{pick, frameAt, loadFrame, load-frame}
 use Rattle.state.specs.declared.Registers.{Registers}
@@ -104,6 +104,7 @@ in-node PropertyElt h = absurd (let z : _≡_ {A = ℕ} 0 1 = cc in omega arith)
 in-node ParseTypeCollectionPropertyElt h = absurd (let z : _≡_ {A = ℕ} 0 1 = cc in omega arith)
 in-node ParseTypeLiteralPropertyElt h = absurd (let z : _≡_ {A = ℕ} 0 1 = cc in omega arith)
 in-node ParseTypeOtherPropertyElt h = absurd (let z : _≡_ {A = ℕ} 0 1 = cc in omega arith)
+in-node Wrapper h = absurd (let z : _≡_ {A = ℕ} 0 1 = cc in omega arith)
 
 -- where properties stand, a node is on top
 record OnNode (r : Registers) (fs w : List ℕ) : Type 0 where

@@ -24,7 +24,7 @@ use Rattle.spec.specs.Productions.{Opened, tagLines, elementType, isLi, propert
 use Rattle.copy.specs.Copy.{part, Wrote, wrote-part, wrote-same}
 use Rattle.label.specs.Digits.{length-decimal}
 use Rattle.state_words.specs.Parts.{TABLE}
-use Rattle.state_words.specs.declared.Kind.the-variants.{NodeElt, ParseTypeCollectionPropertyElt, ParseTypeLiteralPropertyElt, ParseTypeOtherPropertyElt}
+use Rattle.state_words.specs.declared.Kind.the-variants.{NodeElt, ParseTypeCollectionPropertyElt, ParseTypeLiteralPropertyElt, ParseTypeOtherPropertyElt, Wrapper}
 use Rattle.state_words.specs.Kept.{Kept, kept-all, kept-then, kept-before, kept-behind, kept-less}
 use Rattle.state_words.specs.Words.{pick}
 use Rattle.state.specs.declared.Registers.{Registers}
@@ -46,7 +46,7 @@ use Rattle.ntriples.specs.Terms as N
 use Rattle.start_element.specs.declared.Source.{Source}
 use Rattle.start_element.specs.declared.Source.the-variants.{Made}
 use Rattle.start_element.specs.Element.{textOf, maybe, nodeIs, Fitting}
-use Rattle.start_element.specs.Laws.{stands-in}
+use Rattle.start_element.specs.Laws.{isWrapper, stands-in}
 use Rattle.start_plan.specs.declared.Given.{Given}
 use Rattle.start_plan.specs.declared.Plan.{Plan}
 use Rattle.start_plan.specs.declared.Start.{Start}
@@ -72,6 +72,14 @@ propertyPlan parse.Collection g p u n = heldPlan ParseTypeCollectionPropertyElt 
 propertyPlan parse.Resource g p u n = resourcePlan g n
 propertyPlan parse.Literal g p u n = heldPlan ParseTypeLiteralPropertyElt g p n
 propertyPlan parse.Other g p u n = heldPlan ParseTypeOtherPropertyElt g p n
+
+-- none is the wrapper
+no-wrapper : (q : ParseType) (g : Given) (p : Source) (u : Bool) (n : ℕ) → isWrapper (propertyPlan q g p u n .parts .kind) ≡ false
+no-wrapper parse.Absent g p u n = refl
+no-wrapper parse.Collection g p u n = refl
+no-wrapper parse.Resource g p u n = refl
+no-wrapper parse.Literal g p u n = refl
+no-wrapper parse.Other g p u n = refl
 
 -- takes: is a label made for it? c: how many rdf:li its node has had
 pub record MakesProperty (x : Start) (t : Tag) (q : ParseType) (takes li : Bool) (c labels : ℕ) (e v : List ℕ) (k : ℕ) (a b : List ℕ) : Type 0 where
@@ -298,7 +306,7 @@ module _ {t : Tag} {r : Registers} {fs e v : List ℕ} {k : ℕ} {a : List ℕ} 
             rw is-so
             (waits y (opens y at) s (mk .keeps) (rd .event) (mk .gives) (base-of p (mk .parts) (mk .property) (t .properties) _) (tag-of p (mk .parts) (mk .property) (t .properties) _) (does-as p refl) li true (mk .property)
             (sym (ap not (not-description (y .tells .is .iri) (good-property (y .tells .is) (subjectBelow fs w (r .counts .depth)) c (r .counts .labels) (sym (asked y at) ∙ opens y at)))))
-            (sym is-li) (λ u. record { kind = kd; few = numbers u }) few-labels (stands-in r fs kd dp fw (the-plan .parts .kind))
+            (sym is-li) (λ u. record { kind = kd; few = numbers u }) few-labels (stands-in r fs kd dp fw (the-plan .parts .kind) (no-wrapper p (mk .parts) (mk .property) (t .properties) _))
             (lines-as p refl (startBy the-plan t li true (mk .property)) refl stated
             ∙ ap (told (the-plan .lines) (mainOf (startBy the-plan t li true (mk .property)) e b) (objectOf (startBy the-plan t li true (mk .property)) e b) (y .tells .is .language) (y .tells .is .attributes) (y .tells .is .type) (elementType (y .tells .is .iri))) (sym stated)))
           where

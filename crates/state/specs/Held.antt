@@ -17,7 +17,7 @@ use Rattle.spec.proofs.Booleans.{and-left, and-right}
 use Rattle.copy.specs.Copy.{part, length-part}
 use Rattle.state_words.specs.Parts.{NAME, BINDINGS, BASE, TAG, MAIN, ID, DATATYPE, TAIL, END, BASED, TAGGED, BLANK, IDENTIFIED, TYPED, PENDING}
 use Rattle.state_words.specs.declared.Kind.{Kind}
-use Rattle.state_words.specs.declared.Kind.the-variants.{Rdf, NodeElt, PropertyElt, ParseTypeCollectionPropertyElt, ParseTypeLiteralPropertyElt, ParseTypeOtherPropertyElt}
+use Rattle.state_words.specs.declared.Kind.the-variants.{Rdf, NodeElt, PropertyElt, ParseTypeCollectionPropertyElt, ParseTypeLiteralPropertyElt, ParseTypeOtherPropertyElt, Wrapper}
 use Rattle.state_words.specs.declared.Frame.{Frame}
 use Rattle.state_words.specs.Words.{pick, frameAt, rowAt}
 use Rattle.state.specs.declared.Registers.{Registers}
@@ -102,6 +102,7 @@ module _ (w : List ℕ) (f : Frame) (r : Rising f) (p : Parts f) (l : at f END �
   size-kind : (q : Kind) (s : Subject) → kindOk q f w ≡ true → at f MAIN + kindBytes (whatOf q f w s) ≡ at f END
   unfolding whatOf kindOk kindBytes valueBytes propertyOf subjectOf
   size-kind Rdf s h = omega (arith, eqb-true (at f MAIN) (at f END) h)
+  size-kind Wrapper s h = omega (arith, eqb-true (at f MAIN) (at f END) h)
   size-kind NodeElt s h =
       omega (
         arith,

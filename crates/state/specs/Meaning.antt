@@ -1,5 +1,6 @@
 -- What registers, tables and work store mean: a document of `spec`.
 use Prim.Native.Nat.{ℕ, zero, suc, _+_, _-_, _*_}
+use mathlib.Core.Bool.{not}
 use mathlib.Core.Option.{Option, none, some}
 use mathlib.Core.List.{List, [], _∷_, _++_}
 use lib.Dec.{eqb}
@@ -8,12 +9,12 @@ use Rattle.spec.specs.Bytes.{Bytes}
 use Rattle.spec.specs.Namespaces.{Binding}
 use Rattle.spec.specs.NTriples.{Subject, named, blank}
 use Rattle.spec.specs.Document.{Object, noObject, nodeObject, textObject, default, collection, literal, other, Property, Doc}
-use Rattle.spec.specs.Document.{Kind as What, rdfRDF, nodeElement, propertyElement, xmlElement, Part, ordinary, topLevel, alternatives, Frame as Element}
+use Rattle.spec.specs.Document.{Kind as What, rdfRDF, wrapper, nodeElement, propertyElement, xmlElement, Part, ordinary, topLevel, alternatives, Frame as Element}
 use Rattle.spec.specs.Modes.{baseMode}
 use Rattle.copy.specs.Copy.{part}
 use Rattle.state_words.specs.Parts.{NAME, BINDINGS, BASE, TAG, MAIN, ID, DATATYPE, TAIL, END, BASED, TAGGED, BLANK, IDENTIFIED, TYPED, PENDING, PART, COUNT, FIRST}
 use Rattle.state_words.specs.declared.Kind.{Kind}
-use Rattle.state_words.specs.declared.Kind.the-variants.{Rdf, NodeElt, PropertyElt, ParseTypeCollectionPropertyElt, ParseTypeLiteralPropertyElt, ParseTypeOtherPropertyElt}
+use Rattle.state_words.specs.declared.Kind.the-variants.{Rdf, NodeElt, PropertyElt, ParseTypeCollectionPropertyElt, ParseTypeLiteralPropertyElt, ParseTypeOtherPropertyElt, Wrapper}
 use Rattle.state_words.specs.declared.Frame.{Frame}
 use Rattle.state_words.specs.declared.Row.{Row}
 use Rattle.state_words.specs.Words.{pick, frameAt, rowAt}
@@ -29,7 +30,7 @@ at f k = getD (f .at) k 0
 abbrev pub has : Frame → ℕ → ℕ
 has f k = getD (f .has) k 0
 
--- rdf:li of a node, children of a Collection
+-- rdf:li of a node, children of a Collection, rdf:RDF of the wrapper
 abbrev pub count : Frame → ℕ
 count f = has f COUNT
 
@@ -97,6 +98,7 @@ whatOf PropertyElt f w s =
 whatOf ParseTypeCollectionPropertyElt f w s = propertyElement (propertyOf f w s) (collection (childrenOf w (count f) (at f END)))
 whatOf ParseTypeLiteralPropertyElt f w s = propertyElement (propertyOf f w s) (literal (span w (at f TAIL) (at f END)))
 whatOf ParseTypeOtherPropertyElt f w s = propertyElement (propertyOf f w s) other
+whatOf Wrapper f w s = wrapper (not (eqb (count f) 0))
 
 -- what is remembered of a packet: 0 nothing; 1 no child so far; of an rdf:Alt else 3 where its first rdf:li carries xml:lang
 unfoldable pub partOf : Kind → Frame → List ℕ → Part
@@ -106,6 +108,7 @@ partOf PropertyElt f w = ordinary
 partOf ParseTypeCollectionPropertyElt f w = ordinary
 partOf ParseTypeLiteralPropertyElt f w = ordinary
 partOf ParseTypeOtherPropertyElt f w = ordinary
+partOf Wrapper f w = ordinary
 
 unfoldable pub elementOf : Frame → List Binding → List ℕ → Subject → Element
 elementOf f bound w s =

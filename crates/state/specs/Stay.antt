@@ -13,7 +13,7 @@ use Rattle.spec.specs.Namespaces.{Binding}
 use Rattle.copy.specs.Copy.{part}
 use Rattle.state_words.specs.Parts.{NAME, BINDINGS, BASE, TAG, MAIN, ID, DATATYPE, TAIL, END, FRAME}
 use Rattle.state_words.specs.declared.Kind.{Kind}
-use Rattle.state_words.specs.declared.Kind.the-variants.{Rdf, NodeElt, PropertyElt, ParseTypeCollectionPropertyElt, ParseTypeLiteralPropertyElt, ParseTypeOtherPropertyElt}
+use Rattle.state_words.specs.declared.Kind.the-variants.{Rdf, NodeElt, PropertyElt, ParseTypeCollectionPropertyElt, ParseTypeLiteralPropertyElt, ParseTypeOtherPropertyElt, Wrapper}
 use Rattle.state_words.specs.declared.Frame.{Frame}
 use Rattle.state_words.specs.declared.Row.{Row}
 use Rattle.state_words.specs.Kept.{Kept, kept-less}
@@ -152,6 +152,7 @@ module _ {w v : List ℕ} {hi : ℕ} (k : Kept w v 0 hi) (f : Frame) (r : Rising
       collected-ok f v (record { typed = c .typed; children = children-ok-kept k (at f TAIL) (count f) (at f END) (omega arith) b (c .children) })
   kind-kept ParseTypeLiteralPropertyElt h = h
   kind-kept ParseTypeOtherPropertyElt h = h
+  kind-kept Wrapper h = h
 
   pub subject-kept : subjectOf f v ≡ subjectOf f w
   unfolding subjectOf
@@ -176,6 +177,7 @@ module _ {w v : List ℕ} {hi : ℕ} (k : Kept w v 0 hi) (f : Frame) (r : Rising
       rw (property-kept s, children-kept k (at f TAIL) (count f) (at f END) (omega arith) b (collected f w h .children))
   what-kept ParseTypeLiteralPropertyElt s h = rw (property-kept s, span-kept k (at f TAIL) (at f END) (omega arith) (omega arith) (omega arith))
   what-kept ParseTypeOtherPropertyElt s h = rw (property-kept s)
+  what-kept Wrapper s h = refl
 
   part-kept : (q : Kind) → partOf q f v ≡ partOf q f w
   unfolding partOf
@@ -185,6 +187,7 @@ module _ {w v : List ℕ} {hi : ℕ} (k : Kept w v 0 hi) (f : Frame) (r : Rising
   part-kept ParseTypeCollectionPropertyElt = refl
   part-kept ParseTypeLiteralPropertyElt = refl
   part-kept ParseTypeOtherPropertyElt = refl
+  part-kept Wrapper = refl
 
   pub element-kept : (bound : List Binding) (s : Subject) → kindOk (f .kind) f w ≡ true → elementOf f bound v s ≡ elementOf f bound w s
   unfolding elementOf
@@ -214,6 +217,7 @@ stands-kept {fs} {gs} n k q = go q
     go ParseTypeCollectionPropertyElt = below n k
     go ParseTypeLiteralPropertyElt = below n k
     go ParseTypeOtherPropertyElt = below n k
+    go Wrapper = refl
 
 -- the subject of the element around
 pub below-kept : {fs gs w v : List ℕ} (bs : List ℕ) (base n top b : ℕ) → Kept fs gs 0 (n * FRAME) → Kept w v 0 top → framesOk fs bs w base n top b ≡ true → subjectBelow gs v n ≡ subjectBelow fs w n

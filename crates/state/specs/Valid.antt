@@ -10,7 +10,7 @@ use Rattle.spec.specs.Limits.{mostLabels, mostOpenElements, mostBindings, workS
 use Rattle.spec.proofs.Booleans.{and-left, and-right}
 use Rattle.state_words.specs.Parts.{NAME, BINDINGS, BASE, TAG, MAIN, ID, DATATYPE, TAIL, END, BASED, TAGGED, IDENTIFIED, TYPED, PENDING, FRAME, TABLE}
 use Rattle.state_words.specs.declared.Kind.{Kind}
-use Rattle.state_words.specs.declared.Kind.the-variants.{Rdf, NodeElt, PropertyElt, ParseTypeCollectionPropertyElt, ParseTypeLiteralPropertyElt, ParseTypeOtherPropertyElt}
+use Rattle.state_words.specs.declared.Kind.the-variants.{Rdf, NodeElt, PropertyElt, ParseTypeCollectionPropertyElt, ParseTypeLiteralPropertyElt, ParseTypeOtherPropertyElt, Wrapper}
 use Rattle.state_words.specs.declared.Frame.{Frame}
 use Rattle.state_words.specs.declared.Row.{Row}
 use Rattle.state_words.specs.Words.{pick, frameAt, rowAt}
@@ -52,6 +52,7 @@ kindOk PropertyElt f w = emptyOr (has f PENDING) (at f TAIL) (at f END)
 kindOk ParseTypeCollectionPropertyElt f w = eqb (at f DATATYPE) (at f TAIL) && childrenOk w (at f TAIL) (count f) (at f END)
 kindOk ParseTypeLiteralPropertyElt f w = eqb (at f DATATYPE) (at f TAIL)
 kindOk ParseTypeOtherPropertyElt f w = eqb (at f DATATYPE) (at f END)
+kindOk Wrapper f w = eqb (at f MAIN) (at f END)
 
 unfoldable pub isNode : Kind → Bool
 isNode Rdf = false
@@ -60,13 +61,14 @@ isNode PropertyElt = false
 isNode ParseTypeCollectionPropertyElt = false
 isNode ParseTypeLiteralPropertyElt = false
 isNode ParseTypeOtherPropertyElt = false
+isNode Wrapper = false
 
 -- is the element around element n a node?
 unfoldable pub nodeBelow : List ℕ → ℕ → Bool
 nodeBelow fs zero = false
 nodeBelow fs (suc n) = isNode (frameAt fs n .kind)
 
--- a property stands in a node
+-- a property stands in a node; the wrapper stands nowhere, as long as all documents are in the base mode
 unfoldable pub stands : Kind → List ℕ → ℕ → Bool
 stands Rdf fs n = true
 stands NodeElt fs n = true
@@ -74,6 +76,7 @@ stands PropertyElt fs n = nodeBelow fs n
 stands ParseTypeCollectionPropertyElt fs n = nodeBelow fs n
 stands ParseTypeLiteralPropertyElt fs n = nodeBelow fs n
 stands ParseTypeOtherPropertyElt fs n = nodeBelow fs n
+stands Wrapper fs n = false
 
 -- element n, which ends at top, with bindings up to b
 unfoldable pub elementOk : List ℕ → List ℕ → List ℕ → ℕ → ℕ → ℕ → Bool

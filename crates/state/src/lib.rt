@@ -403,6 +403,7 @@ fn kind_ok(f: Frame, work: &[u8]) -> bool
         }
         Kind::ParseTypeLiteralPropertyElt => at[Frame::DATATYPE] == at[Frame::TAIL],
         Kind::ParseTypeOtherPropertyElt => at[Frame::DATATYPE] == at[Frame::END],
+        Kind::Wrapper => at[Frame::MAIN] == at[Frame::END],
     }
 }
 
@@ -416,6 +417,7 @@ fn is_node(kind: Kind) -> bool
         Kind::ParseTypeCollectionPropertyElt => false,
         Kind::ParseTypeLiteralPropertyElt => false,
         Kind::ParseTypeOtherPropertyElt => false,
+        Kind::Wrapper => false,
     }
 }
 
@@ -432,7 +434,7 @@ fn node_below(frames: &[u32], n: usize) -> bool
     is_node(kind)
 }
 
-// A property stands in a node.
+// A property stands in a node; the wrapper stands nowhere, as long as all documents are in the base mode.
 fn stands(kind: Kind, frames: &[u32], n: usize) -> bool
     requires { ⌜ n * FRAME ≤ length (now frames) ⌝ }
     ensures { λ r. ⌜ r ≡ stands kind (now (frames .entry)) n ⌝ }
@@ -444,6 +446,7 @@ fn stands(kind: Kind, frames: &[u32], n: usize) -> bool
         Kind::ParseTypeCollectionPropertyElt => node_below(frames, n),
         Kind::ParseTypeLiteralPropertyElt => node_below(frames, n),
         Kind::ParseTypeOtherPropertyElt => node_below(frames, n),
+        Kind::Wrapper => false,
     }
 }
 

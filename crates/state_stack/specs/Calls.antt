@@ -12,7 +12,7 @@ use Rattle.spec.specs.Limits.{mostOpenElements, workStoreBytes, mostLabels}
 use Rattle.copy.specs.Copy.{storedAt, Put, then, put-fits, wrote-same}
 use Rattle.state_words.specs.Parts.{NAME, TAIL, END, PENDING, COUNT, FRAME}
 use Rattle.state_words.specs.declared.Kind.{Kind}
-use Rattle.state_words.specs.declared.Kind.the-variants.{Rdf, NodeElt, PropertyElt, ParseTypeCollectionPropertyElt, ParseTypeLiteralPropertyElt, ParseTypeOtherPropertyElt}
+use Rattle.state_words.specs.declared.Kind.the-variants.{Rdf, NodeElt, PropertyElt, ParseTypeCollectionPropertyElt, ParseTypeLiteralPropertyElt, ParseTypeOtherPropertyElt, Wrapper}
 use Rattle.state_words.specs.declared.Frame.{Frame}
 use Rattle.state_words.specs.Words.{pick, kindNumber, noFrame, loadFrame, wordsOf, StoredFrame, StoredRow}
 use Rattle.state.specs.declared.Registers.{Registers}
@@ -276,6 +276,7 @@ two-kinds PropertyElt p q = false≢true p
 two-kinds ParseTypeCollectionPropertyElt p q = false≢true p
 two-kinds ParseTypeLiteralPropertyElt p q = false≢true q
 two-kinds ParseTypeOtherPropertyElt p q = false≢true p
+two-kinds Wrapper p q = false≢true p
 
 pub nothing : {r : Registers} {fs w : List ℕ} → Nothing r fs w (record { ok = false; registers = r }) fs w
 nothing = record { ok = refl; registers = refl; words = refl; bytes = refl }

@@ -25,7 +25,7 @@ use Rattle.spec.proofs.Booleans.{and-left, and-right}
 use Rattle.copy.specs.Copy.{part, storedAt, Wrote, part-inside, part-add, wrote-part, length-stored}
 use Rattle.state_words.specs.Parts.{NAME, BINDINGS, BASE, TAG, MAIN, ID, DATATYPE, TAIL, END, PLACES, BASED, TAGGED, BLANK, IDENTIFIED, TYPED, PENDING, PART, COUNT, FIRST, MARKS, HEAD, FRAME, TABLE}
 use Rattle.state_words.specs.declared.Kind.{Kind}
-use Rattle.state_words.specs.declared.Kind.the-variants.{Rdf, NodeElt, PropertyElt, ParseTypeCollectionPropertyElt, ParseTypeLiteralPropertyElt, ParseTypeOtherPropertyElt}
+use Rattle.state_words.specs.declared.Kind.the-variants.{Rdf, NodeElt, PropertyElt, ParseTypeCollectionPropertyElt, ParseTypeLiteralPropertyElt, ParseTypeOtherPropertyElt, Wrapper}
 use Rattle.state_words.specs.declared.Frame.{Frame}
 use Rattle.state_words.specs.Kept.{Kept, kept-all, kept-less, kept-before, kept-behind}
 use Rattle.state_words.specs.Words.{frameAt, rowAt, wordsOf, StoredFrame, load-frame, load-store, frame-wrote, row-there, length-words}
@@ -326,6 +326,7 @@ is-property PropertyElt e = refl
 is-property ParseTypeCollectionPropertyElt e = absurd (false≢true e)
 is-property ParseTypeLiteralPropertyElt e = absurd (false≢true e)
 is-property ParseTypeOtherPropertyElt e = absurd (false≢true e)
+is-property Wrapper e = absurd (false≢true e)
 
 pub is-literal : (k : Kind) → sameKind k ParseTypeLiteralPropertyElt ≡ true → k ≡ ParseTypeLiteralPropertyElt
 is-literal Rdf e = absurd (false≢true e)
@@ -334,6 +335,7 @@ is-literal PropertyElt e = absurd (false≢true e)
 is-literal ParseTypeCollectionPropertyElt e = absurd (false≢true e)
 is-literal ParseTypeLiteralPropertyElt e = refl
 is-literal ParseTypeOtherPropertyElt e = absurd (false≢true e)
+is-literal Wrapper e = absurd (false≢true e)
 
 pub is-other : (k : Kind) → sameKind k ParseTypeOtherPropertyElt ≡ true → k ≡ ParseTypeOtherPropertyElt
 is-other Rdf e = absurd (false≢true e)
@@ -342,6 +344,7 @@ is-other PropertyElt e = absurd (false≢true e)
 is-other ParseTypeCollectionPropertyElt e = absurd (false≢true e)
 is-other ParseTypeLiteralPropertyElt e = absurd (false≢true e)
 is-other ParseTypeOtherPropertyElt e = refl
+is-other Wrapper e = absurd (false≢true e)
 
 pub is-node : (k : Kind) → sameKind k NodeElt ≡ true → k ≡ NodeElt
 is-node Rdf e = absurd (false≢true e)
@@ -350,6 +353,7 @@ is-node PropertyElt e = absurd (false≢true e)
 is-node ParseTypeCollectionPropertyElt e = absurd (false≢true e)
 is-node ParseTypeLiteralPropertyElt e = absurd (false≢true e)
 is-node ParseTypeOtherPropertyElt e = absurd (false≢true e)
+is-node Wrapper e = absurd (false≢true e)
 
 -- ---- text
 
@@ -510,6 +514,7 @@ part-counted f w PropertyElt = refl
 part-counted f w ParseTypeCollectionPropertyElt = refl
 part-counted f w ParseTypeLiteralPropertyElt = refl
 part-counted f w ParseTypeOtherPropertyElt = refl
+part-counted f w Wrapper = refl
 
 record Counted (r : Registers) (fs : List ℕ) : Type 0 where
   node : sameKind (topFrame r fs .kind) NodeElt ≡ true
@@ -597,6 +602,7 @@ module _ {r : Registers} {fs gs : List ℕ} {b : Bool} (p : CountsLi r fs b gs) 
   li-stands ParseTypeCollectionPropertyElt = li-node
   li-stands ParseTypeLiteralPropertyElt = li-node
   li-stands ParseTypeOtherPropertyElt = li-node
+  li-stands Wrapper = refl
 
   pub li-below : (w : List ℕ) → subjectBelow gs w (r .counts .depth) ≡ subjectBelow fs w (r .counts .depth)
   unfolding subjectBelow subjectOf

@@ -18,7 +18,7 @@ use Rattle.spec.specs.EndTag.{takesNode}
 use Rattle.copy.specs.Copy.{part, storedAt, Wrote, wrote-part, wrote-same, length-part, getD-part}
 use Rattle.state_words.specs.Parts.{NAME, BINDINGS, BASE, TAG, MAIN, ID, DATATYPE, TAIL, END, PLACES, BASED, TAGGED, BLANK, IDENTIFIED, TYPED, COUNT, FIRST, MARKS, FRAME}
 use Rattle.state_words.specs.declared.Kind.{Kind}
-use Rattle.state_words.specs.declared.Kind.the-variants.{Rdf, NodeElt, PropertyElt, ParseTypeCollectionPropertyElt, ParseTypeLiteralPropertyElt, ParseTypeOtherPropertyElt}
+use Rattle.state_words.specs.declared.Kind.the-variants.{Rdf, NodeElt, PropertyElt, ParseTypeCollectionPropertyElt, ParseTypeLiteralPropertyElt, ParseTypeOtherPropertyElt, Wrapper}
 use Rattle.state_words.specs.declared.Frame.{Frame}
 use Rattle.state_words.specs.Kept.{Kept as Stays, kept-less, kept-before, kept-behind}
 use Rattle.state_words.specs.Words.{pick, frameAt, wordsOf, StoredFrame, load-frame}
@@ -175,6 +175,7 @@ node-stays PropertyElt f w s u p q = absurd (false≢true (sym p))
 node-stays ParseTypeCollectionPropertyElt f w s u p q = absurd (false≢true (sym q))
 node-stays ParseTypeLiteralPropertyElt f w s u p q = refl
 node-stays ParseTypeOtherPropertyElt f w s u p q = refl
+node-stays Wrapper f w s u p q = refl
 
 none-open : (r : Registers) (fs bs is w : List ℕ) → r .counts .inner ≡ 0 → r .counts .depth ≡ 0 → elementsOf r fs bs is w ≡ []
 unfolding elementsOf innersOf framesOf
@@ -187,6 +188,7 @@ is-collection PropertyElt e = absurd (false≢true e)
 is-collection ParseTypeCollectionPropertyElt e = refl
 is-collection ParseTypeLiteralPropertyElt e = absurd (false≢true e)
 is-collection ParseTypeOtherPropertyElt e = absurd (false≢true e)
+is-collection Wrapper e = absurd (false≢true e)
 
 -- a packet remembers nothing of properties
 property-ordinary : {k : Kind} → k ≡ PropertyElt → (f g : Frame) (w v : List ℕ) → partOf k f w ≡ partOf k g v

@@ -12,7 +12,7 @@ use Rattle.spec.specs.NTriples.{Subject}
 use Rattle.spec.specs.Document.{Value, Kind as What, Part, Frame as Element, withKind, withPart, onValue, isXmlElement, changeValue}
 use Rattle.state_words.specs.Parts.{NAME, BINDINGS, BASE, TAG, MAIN, ID, DATATYPE, TAIL, END, PLACES, BASED, TAGGED, BLANK, IDENTIFIED, TYPED, MARKS, FRAME}
 use Rattle.state_words.specs.declared.Kind.{Kind}
-use Rattle.state_words.specs.declared.Kind.the-variants.{Rdf, NodeElt, PropertyElt, ParseTypeCollectionPropertyElt, ParseTypeLiteralPropertyElt, ParseTypeOtherPropertyElt}
+use Rattle.state_words.specs.declared.Kind.the-variants.{Rdf, NodeElt, PropertyElt, ParseTypeCollectionPropertyElt, ParseTypeLiteralPropertyElt, ParseTypeOtherPropertyElt, Wrapper}
 use Rattle.state_words.specs.declared.Frame.{Frame}
 use Rattle.state_words.specs.Kept.{Kept, kept-all, kept-less, kept-before}
 use Rattle.state_words.specs.Words.{frameAt, StoredFrame, frame-wrote, load-store}
@@ -166,6 +166,7 @@ what-outside PropertyElt f w s = refl
 what-outside ParseTypeCollectionPropertyElt f w s = refl
 what-outside ParseTypeLiteralPropertyElt f w s = refl
 what-outside ParseTypeOtherPropertyElt f w s = refl
+what-outside Wrapper f w s = refl
 
 -- nothing is noted
 abbrev pub asItWas : Part → Part

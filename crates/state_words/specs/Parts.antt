@@ -72,7 +72,7 @@ PENDING = TYPED + 1
 abbrev pub PART : ℕ
 PART = PENDING
 
--- rdf:li of a node, children of a Collection
+-- rdf:li of a node, children of a Collection, rdf:RDF of the wrapper
 abbrev pub COUNT : ℕ
 COUNT = PENDING + 1
 

@@ -13,7 +13,7 @@ use Rattle.copy.specs.Copy.{part, storedAt, Put, Wrote, then, wrote-one, wrote-
 use Rattle.state_words.specs.Parts.{PLACES, MARKS, HEAD, FRAME}
 use Rattle.state_words.specs.Kept.{Kept}
 use Rattle.state_words.specs.declared.Kind.{Kind}
-use Rattle.state_words.specs.declared.Kind.the-variants.{Rdf, NodeElt, PropertyElt, ParseTypeCollectionPropertyElt, ParseTypeLiteralPropertyElt, ParseTypeOtherPropertyElt}
+use Rattle.state_words.specs.declared.Kind.the-variants.{Rdf, NodeElt, PropertyElt, ParseTypeCollectionPropertyElt, ParseTypeLiteralPropertyElt, ParseTypeOtherPropertyElt, Wrapper}
 use Rattle.state_words.specs.declared.Frame.{Frame}
 use Rattle.state_words.specs.declared.Row.{Row}
 
@@ -26,7 +26,7 @@ pick false a b = b
 unfoldable pub kindOf : ℕ → Kind
 kindOf n =
     pick (eqb n 0) Rdf (pick (eqb n 1) NodeElt (pick (eqb n 2) PropertyElt
-    (pick (eqb n 3) ParseTypeCollectionPropertyElt (pick (eqb n 4) ParseTypeLiteralPropertyElt ParseTypeOtherPropertyElt))))
+    (pick (eqb n 3) ParseTypeCollectionPropertyElt (pick (eqb n 4) ParseTypeLiteralPropertyElt (pick (eqb n 5) ParseTypeOtherPropertyElt Wrapper)))))
 
 abbrev pub kindNumber : Kind → ℕ
 kindNumber Rdf = 0
@@ -35,6 +35,7 @@ kindNumber PropertyElt = 2
 kindNumber ParseTypeCollectionPropertyElt = 3
 kindNumber ParseTypeLiteralPropertyElt = 4
 kindNumber ParseTypeOtherPropertyElt = 5
+kindNumber Wrapper = 6
 
 pub kind-back : (k : Kind) → kindOf (kindNumber k) ≡ k
 unfolding kindOf
@@ -44,6 +45,7 @@ kind-back PropertyElt = refl
 kind-back ParseTypeCollectionPropertyElt = refl
 kind-back ParseTypeLiteralPropertyElt = refl
 kind-back ParseTypeOtherPropertyElt = refl
+kind-back Wrapper = refl
 
 -- ---- frames
 

@@ -3,7 +3,7 @@ ghost use mathlib.Core.Path.{_≡_};
 ghost use Rattle.state_words.specs.Words.{kindOf, kindNumber, loadFrame, StoredFrame, noFrame, loadRow, StoredRow};
 use copy::words;
 
-// What an open element outside Literal content is: the states of the Rust's parser.
+// What an open element outside Literal content is: the states of the Rust's parser, and the wrapper of document 02.
 pub enum Kind {
     Rdf,
     NodeElt,
@@ -11,6 +11,8 @@ pub enum Kind {
     ParseTypeCollectionPropertyElt,
     ParseTypeLiteralPropertyElt,
     ParseTypeOtherPropertyElt,
+    // x:xmpmeta around rdf:RDF, in an XMP packet
+    Wrapper,
 }
 
 // An open element outside Literal content. `at` has where its parts start in the work store, end to end, and where the last one ends;
@@ -39,7 +41,8 @@ impl Kind {
             2 => Kind::PropertyElt,
             3 => Kind::ParseTypeCollectionPropertyElt,
             4 => Kind::ParseTypeLiteralPropertyElt,
-            _ => Kind::ParseTypeOtherPropertyElt,
+            5 => Kind::ParseTypeOtherPropertyElt,
+            _ => Kind::Wrapper,
         }
     }
 
@@ -53,6 +56,7 @@ impl Kind {
             Kind::ParseTypeCollectionPropertyElt => 3,
             Kind::ParseTypeLiteralPropertyElt => 4,
             Kind::ParseTypeOtherPropertyElt => 5,
+            Kind::Wrapper => 6,
         }
     }
 }

@@ -18,7 +18,7 @@ use Rattle.spec.specs.RdfXml.{onEvent, onText, isBlank, takesText}
 use Rattle.copy.specs.Copy.{storedAt, length-stored}
 use Rattle.state_words.specs.Parts.{TAIL, END, PENDING, FRAME}
 use Rattle.state_words.specs.declared.Kind.{Kind}
-use Rattle.state_words.specs.declared.Kind.the-variants.{Rdf, NodeElt, PropertyElt, ParseTypeCollectionPropertyElt, ParseTypeLiteralPropertyElt, ParseTypeOtherPropertyElt}
+use Rattle.state_words.specs.declared.Kind.the-variants.{Rdf, NodeElt, PropertyElt, ParseTypeCollectionPropertyElt, ParseTypeLiteralPropertyElt, ParseTypeOtherPropertyElt, Wrapper}
 use Rattle.state_words.specs.declared.Frame.{Frame}
 use Rattle.state_words.specs.Words.{pick, frameAt, loadFrame, noFrame, wordsOf, length-words}
 use Rattle.state.specs.declared.Registers.{Registers}
@@ -97,6 +97,7 @@ property-top r fs h = go (eqb (r .counts .inner) 0) (eqb (r .counts .depth) 0) (
     kind ParseTypeCollectionPropertyElt q = absurd (false≢true (ap isText q))
     kind ParseTypeLiteralPropertyElt q = absurd (false≢true (ap isText q))
     kind ParseTypeOtherPropertyElt q = absurd (false≢true (ap isText q))
+    kind Wrapper q = absurd (false≢true (ap isText q))
 
     go : (a b : Bool) (f : Frame) → pick a (pick b Outside (placeOf (f .kind))) Xml ≡ NodesOrText → sameKind (pick b noFrame f .kind) PropertyElt ≡ true
     go false b f q = absurd (false≢true (ap isText q))

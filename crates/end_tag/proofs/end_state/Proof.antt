@@ -47,11 +47,17 @@ enum-told-6 c = search needs
 end-silent-requires-2 : tie.Need-end-silent-requires-2
 end-silent-requires-2 c κs = search needs
 
+enum-told-7 : tie.Need-enum-told-7
+enum-told-7 c = search needs
+
+end-wrapper-requires : tie.Need-end-wrapper-requires
+end-wrapper-requires c κs = search needs
+
 same-length : tie.Need-same-length
 same-length c = search needs
 
 returns : tie.Need-returns
-returns c = ends-as (c .before .before .before .before .top .ensures) (c .before .before .enum-told .given .1) (c .end-silent .ensures Rdf _ _ rdf-silent)
+returns c = ends-as (c .before .before .before .before .top .ensures) (c .before .before .enum-told .given .1) (c .end-silent .ensures Rdf _ _ (rdf-silent _))
 
 same-length-2 : tie.Need-same-length-2
 same-length-2 c = c .before .before .before .frames .given
@@ -102,7 +108,13 @@ same-length-13 : tie.Need-same-length-13
 same-length-13 c = search needs
 
 returns-6 : tie.Need-returns-6
-returns-6 c = ends-as (c .before .before .before .before .top .ensures) (c .before .before .enum-told6 .given .1) (c .end-silent2 .ensures ParseTypeOtherPropertyElt _ _ other-silent)
+returns-6 c = ends-as (c .before .before .before .before .top .ensures) (c .before .before .enum-told6 .given .1) (c .end-silent2 .ensures ParseTypeOtherPropertyElt _ _ (other-silent _))
+
+same-length-14 : tie.Need-same-length-14
+same-length-14 c = search needs
+
+returns-7 : tie.Need-returns-7
+returns-7 c = ends-as (c .before .before .before .before .top .ensures) (c .before .before .enum-told7 .given .1) (c .end-wrapper .ensures _ _)
 
 pub end-state-spec : {M : Type 1} → statement M
 end-state-spec =
@@ -121,6 +133,8 @@ end-state-spec =
     end-literal-requires
     enum-told-6
     end-silent-requires-2
+    enum-told-7
+    end-wrapper-requires
     same-length
     returns
     same-length-2
@@ -139,4 +153,6 @@ end-state-spec =
     same-length-12
     returns-5
     same-length-13
-    returns-6)
+    returns-6
+    same-length-14
+    returns-7)

@@ -102,6 +102,15 @@ array-read-result-6 c = search needs
 array-read-result-7 : tie.Need-array-read-result-7
 array-read-result-7 c = search needs
 
+enum-told-7 : tie.Need-enum-told-7
+enum-told-7 c = search needs
+
+array-read-result-8 : tie.Need-array-read-result-8
+array-read-result-8 c = search needs
+
+array-read-result-9 : tie.Need-array-read-result-9
+array-read-result-9 c = search needs
+
 returns-3 : tie.Need-returns-3
 unfolding kindOk
 returns-3 c = rw (c .enum-told .given .1)
@@ -125,6 +134,10 @@ returns-7 c = rw (c .enum-told5 .given .1)
 returns-8 : tie.Need-returns-8
 unfolding kindOk
 returns-8 c = rw (c .enum-told6 .given .1)
+
+returns-9 : tie.Need-returns-9
+unfolding kindOk
+returns-9 c = rw (c .enum-told7 .given .1)
 
 pub kind-ok-spec : {M : Type 1} → statement M
 kind-ok-spec =
@@ -161,9 +174,13 @@ kind-ok-spec =
     enum-told-6
     array-read-result-6
     array-read-result-7
+    enum-told-7
+    array-read-result-8
+    array-read-result-9
     returns-3
     returns-4
     returns-5
     returns-6
     returns-7
-    returns-8)
+    returns-8
+    returns-9)

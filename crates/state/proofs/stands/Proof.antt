@@ -34,6 +34,9 @@ enum-told-6 c = search needs
 node-below-requires-4 : tie.Need-node-below-requires-4
 node-below-requires-4 c κs = search needs
 
+enum-told-7 : tie.Need-enum-told-7
+enum-told-7 c = search needs
+
 returns : tie.Need-returns
 unfolding stands
 returns c = search needs
@@ -58,6 +61,10 @@ returns-6 : tie.Need-returns-6
 unfolding stands
 returns-6 c = rw (c .before .enum-told6 .given .1) (c .node-below4 .ensures)
 
+returns-7 : tie.Need-returns-7
+unfolding stands
+returns-7 c = search needs
+
 pub stands-spec : {M : Type 1} → statement M
 stands-spec =
     tie.close
@@ -72,9 +79,11 @@ stands-spec =
     node-below-requires-3
     enum-told-6
     node-below-requires-4
+    enum-told-7
     returns
     returns-2
     returns-3
     returns-4
     returns-5
-    returns-6)
+    returns-6
+    returns-7)
