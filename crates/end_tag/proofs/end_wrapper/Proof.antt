@@ -15,7 +15,7 @@ array-read-if1 : tie.Need-array-read-if1
 array-read-if1 c = search needs
 
 returns : tie.Need-returns
-returns c = λ w out. wrapper-empty (c .before .top .ensures) (c .if1 .taken)
+returns c = λ w out. wrapper-empty (c .before .before .top .ensures) (c .if1 .taken)
 
 end-silent-requires : tie.Need-end-silent-requires
 end-silent-requires c κs = search needs
