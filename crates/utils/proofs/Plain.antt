@@ -3,7 +3,7 @@ use mathlib.Core.Path.{_≡_, refl, sym, ap, _∙_}
 use mathlib.Core.Logic.{⊎-elim}
 use mathlib.Core.Bool.{Bool, true, _&&_}
 use mathlib.Core.List.{[], _∷_, _++_}
-use Prim.Native.Nat.{ℕ, suc, _+_, _-_, _<_, _≤_}
+use Prim.Native.Nat.{ℕ, zero, suc, _+_, _-_, _<_, _≤_}
 use native.Mathlib.Omega.{arith}
 use native.Mathlib.Numerals.{add-one}
 use native.Mathlib.Nat.{add-zero}
@@ -19,7 +19,7 @@ use Rattle.utils.specs.Plain.{plain, plainText}
 use Rattle.utils.specs.Walking.{Walked, Steps}
 use Rattle.utils.proofs.Tools.{and-true, and-assoc}
 use Rattle.utils.proofs.Decoding.{front-one}
-use Rattle.utils.proofs.Walking.{ByCharacter, step-passes, walked-more}
+use Rattle.utils.proofs.Walking.{ByCharacter, to-end, step-passes, walked-more}
 use Rattle.utils.proofs.Names.{char-high}
 
 -- a plain byte stands for itself, and passes
@@ -46,6 +46,12 @@ plain-text b h =
     (λ (e : eqb b 10 ≡ true). plain-line-feed b (eqb-true b 10 e))
     (or-cases (leb 32 b && ltb b 128) (eqb b 10) h)
 
+every-drop : (q : ℕ → Bool) (k : ℕ) (t : Bytes) → every q t ≡ true → every q (drop k t) ≡ true
+unfolding every
+every-drop q zero t h = h
+every-drop q (suc k) [] h = h
+every-drop q (suc k) (a ∷ t) h = every-drop q k t (and-right (q a) (every q t) h)
+
 module _ {f : Bytes → Bool} {p : ℕ → Bool} (b : ByCharacter f p) where
   plain-steps : {s : Bytes} → 0 < length s → plain p (getD s 0 0) ≡ true → Steps f f 1 s
   plain-steps l h = let q = plain-front p l h in step-passes b (q .0) (q .1)
@@ -71,9 +77,18 @@ module _ {f : Bytes → Bool} {p : ℕ → Bool} (b : ByCharacter f p) where
           rest = w .rest ∙ ap f (sym (take-append-drop n (drop i s))) ∙ past (take n (drop i s)) (drop n (drop i s)) h ∙ ap f (drop-drop n i s);
         }
 
--- `&s[i..i + 8]`
-pub block : (s : Bytes) (i : ℕ) → take (i + 8 - i) (drop i s) ≡ take 8 (drop i s)
-block s i = let e : i + 8 - i ≡ 8 = omega arith in rw e
+    -- the last n bytes at once, some of which may be passed already
+    pub walked-last : (n : ℕ) {s : Bytes} {i : ℕ} → Walked f s i → length s - n ≤ i → every q (drop (length s - n) s) ≡ true → Walked f s (length s)
+    walked-last n {s} {i} w l h =
+        let last = length s - n in
+        let d : last + (i - last) ≡ i = omega arith in
+        let e : i + (length s - i) ≡ length s = omega (arith, w .within) in
+        let t : every q (drop i s) ≡ true = rw (← d, ← drop-drop (i - last) last s) (every-drop q (i - last) (drop last s) h) in
+        rw e at (walked-block (length s - i) w (omega (arith, w .within)) (rw to-end t))
+
+-- `&s[i..i + n]`
+pub block : (s : Bytes) (i n : ℕ) → take (i + n - i) (drop i s) ≡ take n (drop i s)
+block s i n = let e : i + n - i ≡ n = omega arith in rw e
 
 -- ---- a test of each byte with no branch: `all` is the answer for the first `j` bytes
 

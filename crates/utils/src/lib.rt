@@ -1,7 +1,7 @@
 // UTF-8, and the characters and names of XML: utils.rs and the end of parser.rs.
 ghost use mathlib.Core.Path.{_≡_};
 ghost use mathlib.Core.Bool.{true};
-ghost use Prim.Native.Nat.{_<_, _≤_};
+ghost use Prim.Native.Nat.{_+_, _<_, _≤_};
 ghost use lib.ListN.{length};
 ghost use Rattle.spec.specs.Bytes.{ascii, upTo, among, every, inRanges};
 ghost use Rattle.spec.specs.Utf8.{leadingOnes, goesOn, isScalar, asCharacters};
@@ -194,6 +194,7 @@ pub fn is_text(s: &[u8]) -> bool
                 return false;
             }
             i += n;
+            i += skip_behind(&s[i..]);
         }
     }
     true
@@ -286,29 +287,75 @@ fn sequence(s: &[u8], n: usize, bits: u32, low: u32) -> Decoded
     }
 }
 
-// How many bytes stand at the front in blocks of eight plain ones.
+// How many plain bytes stand at the front, as far as blocks of sixteen show it. The last block may begin in the one before it.
 fn skip_plain(s: &[u8]) -> usize
     ensures { λ r. ⌜ Walked (asCharacters (every isChar)) (now (s .entry)) r ⌝ }
 {
+    if s.len() < 16 {
+        return skip_short(s);
+    }
+    let last = s.len() - 16;
     let mut i = 0;
-    while 8 <= s.len() - i {
-        let end = i + 8;
+    while i < last {
+        let end = i + 16;
         if !is_plain_block(&s[i..end]) {
             return i;
         }
         i = end;
     }
+    if is_plain_block(&s[last..]) {
+        return s.len();
+    }
     i
 }
 
-// Are eight bytes plain? No branch inside the loop, so that the eight are tested at once.
+// The same behind a character that is not plain, where a plain one follows: in many scripts none does.
+fn skip_behind(s: &[u8]) -> usize
+    ensures { λ r. ⌜ Walked (asCharacters (every isChar)) (now (s .entry)) r ⌝ }
+{
+    if s.len() == 0 {
+        return 0;
+    }
+    if is_plain(s[0]) {
+        return skip_plain(s);
+    }
+    0
+}
+
+// Of fewer than sixteen bytes: all, where they are plain and at least four, or none.
+fn skip_short(s: &[u8]) -> usize
+    requires { ⌜ length (now s) < 16 ⌝ }
+    ensures { λ r. ⌜ Walked (asCharacters (every isChar)) (now (s .entry)) r ⌝ }
+{
+    if 8 <= s.len() {
+        return skip_halves(s, 8);
+    }
+    if 4 <= s.len() {
+        return skip_halves(s, 4);
+    }
+    0
+}
+
+// All bytes where the first `n` and the last `n` of them are plain, or none. The two may overlap.
+fn skip_halves(s: &[u8], n: usize) -> usize
+    requires { ⌜ n ≤ length (now s) ⌝ }
+    requires { ⌜ length (now s) ≤ n + n ⌝ }
+    ensures { λ r. ⌜ Walked (asCharacters (every isChar)) (now (s .entry)) r ⌝ }
+{
+    let last = s.len() - n;
+    if is_plain_block(&s[..n]) & is_plain_block(&s[last..]) {
+        return s.len();
+    }
+    0
+}
+
+// Are all bytes plain? No branch inside the loop, so that those of a block are tested at once.
 fn is_plain_block(block: &[u8]) -> bool
-    requires { ⌜ length (now block) ≡ 8 ⌝ }
     ensures { λ r. ⌜ r ≡ every plainText (now (block .entry)) ⌝ }
 {
     let mut all = true;
     let mut j = 0;
-    while j < 8 {
+    while j < block.len() {
         all = all & is_plain(block[j]);
         j += 1;
     }
