@@ -90,9 +90,12 @@ module _ {s d : Bytes} {n : ℕ} (f : Fits s d n) (h : 0 < n) where
   line-end : getD s n 0 ≡ 10
   line-end = eqb-true (getD s n 0) 10 (rw (← f .line) at (upTo-stop isEnd s (rw (← f .line) (f .ended))))
 
-  module _ {e : List ℕ} (w : List ℕ) (m : (isQName (take (n - 1) (drop 1 s)) ≡ false) × (e ≡ d)) where
+  module _ {e : List ℕ} (w : List ℕ) (m : (isQName (take (n - 1) (drop 1 s)) ≡ false) × Kept d e (0 + length (take (n - 1) (drop 1 s)))) where
+    nameless-kept : Kept d e (length s)
+    nameless-kept = kept-more (m .1) (omega (arith, title-size, f .ended))
+
     pub opening-nameless : (ls : List Bytes) → Says Malformed (readOpening (take n s) ls) false (length s) d e w w
-    opening-nameless ls = decoded refl (open-no-name (take (n - 1) (drop 1 s)) ls (take n s) (drop-take s n h) (m .0)) (rw (m .1) kept-all) refl
+    opening-nameless ls = decoded refl (open-no-name (take (n - 1) (drop 1 s)) ls (take n s) (drop-take s n h) (m .0)) nameless-kept refl
 
   module _ {c : ℕ} {e : List ℕ} (m : Name c (take (n - 1) (drop 1 s)) d e 0) where
     title-there : take (n - 1) e ≡ take (n - 1) (drop 1 s)
@@ -186,10 +189,10 @@ module _ {s d : Bytes} {n : ℕ} (f : Fits s d n) where
     unfolding readLines readClosing if_then_else_ begins after ascii
     lines-closing e = by-first ∙ rw e
 
-    pub closing-nameless : {e : List ℕ} (w : List ℕ) → getD s 0 0 ≡ 41 → (isQName (take (n - 1) (drop 1 s)) ≡ false) × (e ≡ d)
+    pub closing-nameless : {e : List ℕ} (w : List ℕ) → getD s 0 0 ≡ 41 → (isQName (take (n - 1) (drop 1 s)) ≡ false) × Kept d e (0 + length (take (n - 1) (drop 1 s)))
         → Says Malformed (readLines (linesOf s)) false (length s) d e w w
     unfolding P.name _>>=_ _>>_ require_or_
-    closing-nameless w e m = decoded refl (lines-closing e ∙ rw (m .0)) (rw (m .1) kept-all) refl
+    closing-nameless w e m = decoded refl (lines-closing e ∙ rw (m .0)) (nameless-kept f h w m) refl
 
     pub closing-good : {c : ℕ} {e : List ℕ} (w : List ℕ) → getD s 0 0 ≡ 41 → Name c (take (n - 1) (drop 1 s)) d e 0
         → Says (Closing (n - 1)) (readLines (linesOf s)) false (length s) d e w w

@@ -11,7 +11,7 @@ ghost use Rattle.spec.specs.Pyx as escapes;
 ghost use Rattle.copy.specs.Copy.{Put};
 ghost use Rattle.pyx.specs.First.{Cuts, inLine, atLineEnd};
 ghost use Rattle.pyx.specs.Lines.{linesOf, spaced};
-ghost use Rattle.pyx.specs.Names.{Colons, Named};
+ghost use Rattle.pyx.specs.Names.{Colons, Named, PlainNamed, Spelled, Spells};
 ghost use Rattle.pyx.specs.Escapes.{Nexts, Unescapes, dataOf};
 ghost use Rattle.pyx.specs.Attributes.{Reads, Behind, Lays, Small, row};
 ghost use Rattle.pyx.specs.Decode.{Says, Decodes, Fits};
@@ -366,8 +366,67 @@ fn put_data(line: &[u8], scratch: &mut [u8], at: usize) -> Unescaped
     unescape(&line[1..], scratch, at)
 }
 
-// A name into the scratch, and where its colon is.
+// A name into the scratch, and where its colon is. Most are of ASCII alone.
 fn put_name(name: &[u8], scratch: &mut [u8], at: usize) -> Colon
+    requires { ⌜ at + length (now name) ≤ length (now scratch) ⌝ }
+    ensures { λ r. ⌜ Named r (now (name .entry)) (now (scratch .entry)) (now (scratch .exit)) at ⌝ }
+{
+    match put_plain_name(name, scratch, at) {
+        Colon::NotName => put_any_name(name, scratch, at),
+        Colon::At(c) => Colon::At(c),
+    }
+}
+
+// A name in ASCII, checked and copied in one pass. `part` is where its prefix or its local name begins.
+fn put_plain_name(name: &[u8], scratch: &mut [u8], at: usize) -> Colon
+    requires { ⌜ at + length (now name) ≤ length (now scratch) ⌝ }
+    ensures { λ r. ⌜ PlainNamed r (now (name .entry)) (now (scratch .entry)) (now (scratch .exit)) at ⌝ }
+{
+    let mut part = 0;
+    let mut i = 0;
+    while i < name.len() {
+        match next_part(name, i, part) {
+            Colon::NotName => return Colon::NotName,
+            Colon::At(p) => {
+                scratch[at + i] = name[i];
+                part = p;
+                i += 1;
+            }
+        }
+    }
+    if i == part {
+        return Colon::NotName;
+    }
+    Colon::At(part)
+}
+
+// Where the part of a name in ASCII begins behind its byte at `i`, if this may stand there.
+fn next_part(name: &[u8], i: usize, part: usize) -> Colon
+    requires { ⌜ i < length (now name) ⌝ }
+    requires { ⌜ Spelled (now name) i part ⌝ }
+    ensures { λ r. ⌜ Spells r (now (name .entry)) i ⌝ }
+{
+    let b = name[i];
+    if utils::is_plain_start(b) {
+        return Colon::At(part);
+    }
+    if i == part {
+        return Colon::NotName;
+    }
+    if b == 58 {
+        if part == 0 {
+            return Colon::At(i + 1);
+        }
+        return Colon::NotName;
+    }
+    if utils::is_plain_name(b) {
+        return Colon::At(part);
+    }
+    Colon::NotName
+}
+
+// Any name, checked and then copied.
+fn put_any_name(name: &[u8], scratch: &mut [u8], at: usize) -> Colon
     requires { ⌜ at + length (now name) ≤ length (now scratch) ⌝ }
     ensures { λ r. ⌜ Named r (now (name .entry)) (now (scratch .entry)) (now (scratch .exit)) at ⌝ }
 {

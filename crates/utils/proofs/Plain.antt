@@ -8,19 +8,21 @@ use native.Mathlib.Omega.{arith}
 use native.Mathlib.Numerals.{add-one}
 use native.Mathlib.Nat.{add-zero}
 use lib.Dec.{eqb, leb, ltb}
-use lib.ListN.{length, take, drop, getD, length-drop, take-append-drop, drop-of-length-le}
+use lib.ListN.{length, take, drop, getD, List·getD-append, length-drop, take-append-drop, drop-of-length-le}
 use lib.Seq.{drop-cons, drop-drop, getD-drop}
 use borrow.Author.Tests.{le-leb, lt-ltb, leb-true, ltb-true, eqb-true}
 use Rattle.spec.specs.Bytes.{Bytes, byte, every, between, inRanges}
-use Rattle.spec.specs.XmlNames.{isChar}
+use Rattle.spec.specs.XmlNames.{isChar, isNameStart, isNameChar, isNCName}
 use Rattle.spec.proofs.Booleans.{and-left, and-right, or-cases}
 use Rattle.utils.specs.Decoding.{Front}
+use Rattle.utils.specs.Names.{other, startsNC, goesOnNC, PlainPart}
 use Rattle.utils.specs.Plain.{plain, plainText}
 use Rattle.utils.specs.Walking.{Walked, Steps}
 use Rattle.utils.proofs.Tools.{and-true, and-assoc}
+use Rattle.utils.proofs.Front.{every-append}
 use Rattle.utils.proofs.Decoding.{front-one}
-use Rattle.utils.proofs.Walking.{ByCharacter, to-end, step-passes, walked-more}
-use Rattle.utils.proofs.Names.{char-high}
+use Rattle.utils.proofs.Walking.{ByCharacter, to-end, step-passes, walked-begins, walked-more, walked-passes}
+use Rattle.utils.proofs.Names.{char-high, rest-by, nc-starts}
 
 -- a plain byte stands for itself, and passes
 pub plain-front : (p : ℕ → Bool) {s : Bytes} → 0 < length s → plain p (getD s 0 0) ≡ true → (Front (getD s 0 0) 1 s) × (p (getD s 0 0) ≡ true)
@@ -86,6 +88,10 @@ module _ {f : Bytes → Bool} {p : ℕ → Bool} (b : ByCharacter f p) where
         let t : every q (drop i s) ≡ true = rw (← d, ← drop-drop (i - last) last s) (every-drop q (i - last) (drop last s) h) in
         rw e at (walked-block (length s - i) w (omega (arith, w .within)) (rw to-end t))
 
+    -- all bytes are plain
+    pub past-all : (s : Bytes) → every q s ≡ true → f s ≡ true
+    past-all s h = sym (walked-passes (walked-last (length s) (walked-begins f s) (omega arith) (let z : length s - length s ≡ 0 = omega arith in rw z h)) b (omega arith))
+
 -- `&s[i..i + n]`
 pub block : (s : Bytes) (i n : ℕ) → take (i + n - i) (drop i s) ≡ take n (drop i s)
 block s i n = let e : i + n - i ≡ n = omega arith in rw e
@@ -111,3 +117,32 @@ module _ {p : ℕ → Bool} {s : Bytes} {j : ℕ} {all : Bool} (g : Gathered p s
   pub gathered-done : length s ≤ j → all ≡ every p s
   unfolding every
   gathered-done h = sym (g .rest ∙ rw (drop-of-length-le s h) (and-true all))
+
+-- ---- a part of a name, byte by byte
+
+plain-starts-on : (b : ℕ) → plain startsNC b ≡ true → plain goesOnNC b ≡ true
+unfolding plain startsNC goesOnNC isNameChar
+plain-starts-on b h =
+    let p = and-right (ltb b 128) (isNameStart b && other b) h in
+    rw (and-left (ltb b 128) (isNameStart b && other b) h, and-left (isNameStart b) (other b) p, and-right (isNameStart b) (other b) p)
+
+pub part-none : PlainPart []
+unfolding every
+part-none = record { on = refl; starts = λ l. absurd (omega arith) }
+
+module _ {t : Bytes} (b : ℕ) (h : PlainPart t) where
+  longer : plain goesOnNC b ≡ true → every (plain goesOnNC) (t ++ (b ∷ [])) ≡ true
+  unfolding every
+  longer e = every-append (plain goesOnNC) t (b ∷ []) ∙ rw (h .on, e)
+
+  pub part-on : 0 < length t → plain goesOnNC b ≡ true → PlainPart (t ++ (b ∷ []))
+  part-on l e = record { on = longer e; starts = λ _. rw (List·getD-append t (b ∷ []) 0 0 l) (h .starts l) }
+
+pub part-start : (t : Bytes) (b : ℕ) → PlainPart t → plain startsNC b ≡ true → PlainPart (t ++ (b ∷ []))
+part-start [] b h e = record { on = longer b h (plain-starts-on b e); starts = λ _. e }
+part-start (a ∷ t) b h e = part-on b h (omega arith) (plain-starts-on b e)
+
+pub part-name : {t : Bytes} → PlainPart t → 0 < length t → isNCName t ≡ true
+part-name {t} h l =
+    let q = plain-front startsNC l (h .starts l) in
+    nc-starts (q .0) (q .1) .rest (omega arith) ∙ past-all rest-by (plain goesOnNC) (λ a e. e) (drop 1 t) (every-drop (plain goesOnNC) 1 t (h .on))

@@ -450,21 +450,24 @@ fn nc_char(s: &[u8]) -> usize
     }
 }
 
-// In ASCII, what may start an NCName by the table: a letter or `_`.
-fn is_plain_start(b: u8) -> bool
+// In ASCII, what may start an NCName by the table: a letter or `_`. Small letters first, being the most.
+pub fn is_plain_start(b: u8) -> bool
     ensures { λ r. ⌜ r ≡ plain startsNC b ⌝ }
-{
-    ((97 <= b) & (b <= 122)) | ((65 <= b) & (b <= 90)) | (b == 95)
-}
-
-// In ASCII, what may go on with an NCName by the table: a letter, digit, `-`, `.` or `_`. Small letters first, being the most.
-fn is_plain_name(b: u8) -> bool
-    ensures { λ r. ⌜ r ≡ plain goesOnNC b ⌝ }
 {
     if (97 <= b) & (b <= 122) {
         return true;
     }
-    is_plain_start(b) | ((48 <= b) & (b <= 57)) | (b == 45) | (b == 46)
+    ((65 <= b) & (b <= 90)) | (b == 95)
+}
+
+// In ASCII, what may go on with an NCName by the table: a letter, digit, `-`, `.` or `_`.
+pub fn is_plain_name(b: u8) -> bool
+    ensures { λ r. ⌜ r ≡ plain goesOnNC b ⌝ }
+{
+    if is_plain_start(b) {
+        return true;
+    }
+    ((48 <= b) & (b <= 57)) | (b == 45) | (b == 46)
 }
 
 // How many bytes stand before the first colon.
