@@ -1,6 +1,6 @@
 // Where events come in: the first event of the input, and its lines decoded.
 ghost use mathlib.Core.Path.{_≡_};
-ghost use mathlib.Core.Bool.{false};
+ghost use mathlib.Core.Bool.{true, false};
 ghost use Prim.Native.Nat.{_+_, _*_, _<_, _≤_};
 ghost use lib.ListN.{length, take, drop, getD};
 ghost use lib.Dec.{eqb};
@@ -10,7 +10,7 @@ ghost use Rattle.spec.specs.Pyx.{readLines, readOpening};
 ghost use Rattle.spec.specs.Pyx as escapes;
 ghost use Rattle.copy.specs.Copy.{Put};
 ghost use Rattle.pyx.specs.First.{Cuts, inLine, atLineEnd};
-ghost use Rattle.pyx.specs.Lines.{linesOf, spaced};
+ghost use Rattle.pyx.specs.Lines.{linesOf, spaced, Begins, PlainLine};
 ghost use Rattle.pyx.specs.Names.{Colons, Named, PlainNamed, Spelled, Spells};
 ghost use Rattle.pyx.specs.Escapes.{Nexts, Unescapes, dataOf};
 ghost use Rattle.pyx.specs.Attributes.{Reads, Behind, Lays, Small, row};
@@ -34,6 +34,13 @@ pub enum Event {
     Closing(usize),
     Opening(usize, usize, usize),
     Crowded,
+}
+
+// An event with a line that begins with a space, one that is no text or has no line, or how long its first line is.
+enum FirstLine {
+    Spaced,
+    Wrong,
+    Held(usize),
 }
 
 // No name, or a name with the place of its colon plus 1, or 0.
@@ -121,17 +128,11 @@ pub fn decode(event: &[u8], scratch: &mut [u8], spans: &mut [u32]) -> Event
     if event.len() > scratch.len() {
         return Event::NoScratch;
     }
-    let n = copy::find(event, 10);
-    if has_spaced(event, n) {
-        return Event::NoScratch;
+    match first_line(event) {
+        FirstLine::Spaced => Event::NoScratch,
+        FirstLine::Wrong => Event::Malformed,
+        FirstLine::Held(n) => by_first_line(event, n, scratch, spans),
     }
-    if !utils::is_text(event) {
-        return Event::Malformed;
-    }
-    if n == event.len() {
-        return Event::Malformed;
-    }
-    by_first_line(event, n, scratch, spans)
 }
 
 // May a line that begins with `b` go on with an event that begins with `c`?
@@ -168,6 +169,40 @@ fn at_line_end(seen: usize, last: bool, c: u8) -> First
         return First::Wait;
     }
     First::Whole(seen)
+}
+
+// The first line of an event. Most are one line in ASCII, which one look at their bytes shows.
+fn first_line(event: &[u8]) -> FirstLine
+    ensures { λ r. ⌜ Begins r (now (event .entry)) ⌝ }
+{
+    if is_plain_line(event) {
+        return FirstLine::Held(event.len() - 1);
+    }
+    let n = copy::find(event, 10);
+    if has_spaced(event, n) {
+        return FirstLine::Spaced;
+    }
+    if !utils::is_text(event) {
+        return FirstLine::Wrong;
+    }
+    if n == event.len() {
+        return FirstLine::Wrong;
+    }
+    FirstLine::Held(n)
+}
+
+// Is an event surely one line in ASCII without control characters?
+fn is_plain_line(event: &[u8]) -> bool
+    ensures { λ r. ⌜ (r ≡ true → PlainLine (now (event .entry))) ⌝ }
+{
+    if event.len() == 0 {
+        return false;
+    }
+    let n = event.len() - 1;
+    if event[n] == 10 {
+        return utils::is_printable(&event[..n]);
+    }
+    false
 }
 
 // Does a line behind the first, which has `n` bytes, begin with a space? No event of `first_event` has such a line, and one line alone has none behind it.

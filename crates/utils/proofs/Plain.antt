@@ -12,16 +12,17 @@ use lib.ListN.{length, take, drop, getD, List·getD-append, length-drop, take-ap
 use lib.Seq.{drop-cons, drop-drop, getD-drop}
 use borrow.Author.Tests.{le-leb, lt-ltb, leb-true, ltb-true, eqb-true}
 use Rattle.spec.specs.Bytes.{Bytes, byte, every, between, inRanges}
+use Rattle.spec.specs.Utf8.{asCharacters}
 use Rattle.spec.specs.XmlNames.{isChar, isNameStart, isNameChar, isNCName}
 use Rattle.spec.proofs.Booleans.{and-left, and-right, or-cases}
 use Rattle.utils.specs.Decoding.{Front}
 use Rattle.utils.specs.Names.{other, startsNC, goesOnNC, PlainPart}
-use Rattle.utils.specs.Plain.{plain, plainText}
+use Rattle.utils.specs.Plain.{plain, plainText, printable}
 use Rattle.utils.specs.Walking.{Walked, Steps}
 use Rattle.utils.proofs.Tools.{and-true, and-assoc}
 use Rattle.utils.proofs.Front.{every-append}
 use Rattle.utils.proofs.Decoding.{front-one}
-use Rattle.utils.proofs.Walking.{ByCharacter, to-end, step-passes, walked-begins, walked-more, walked-passes}
+use Rattle.utils.proofs.Walking.{ByCharacter, every-by, to-end, step-passes, walked-begins, walked-more, walked-passes}
 use Rattle.utils.proofs.Names.{char-high, rest-by, nc-starts}
 
 -- a plain byte stands for itself, and passes
@@ -54,6 +55,28 @@ every-drop q zero t h = h
 every-drop q (suc k) [] h = h
 every-drop q (suc k) (a ∷ t) h = every-drop q k t (and-right (q a) (every q t) h)
 
+-- from a byte on, and so from a later one
+every-later : (q : ℕ → Bool) (s : Bytes) {last i : ℕ} → last ≤ i → every q (drop last s) ≡ true → every q (drop i s) ≡ true
+every-later q s {last} {i} l h =
+    let d : last + (i - last) ≡ i = omega arith in
+    rw (← d, ← drop-drop (i - last) last s) (every-drop q (i - last) (drop last s) h)
+
+-- a test of each byte by blocks: one of n bytes, and the last n, some of which may be passed already
+module _ (q : ℕ → Bool) (n : ℕ) {s : Bytes} {i : ℕ} (w : Walked (every q) s i) where
+  pub every-block : i + n ≤ length s → every q (take n (drop i s)) ≡ true → Walked (every q) s (i + n)
+  every-block l h =
+      record {
+        within = l;
+        rest = w .rest ∙ ap (every q) (sym (take-append-drop n (drop i s))) ∙ every-append q (take n (drop i s)) (drop n (drop i s)) ∙ rw (h, drop-drop n i s);
+      }
+
+  pub every-last : length s - n ≤ i → every q (drop (length s - n) s) ≡ true → every q s ≡ true
+  every-last l h = w .rest ∙ every-later q s l h
+
+plain-printable : (b : ℕ) → printable b ≡ true → plain isChar b ≡ true
+unfolding printable byte
+plain-printable b e = plain-high b (leb-true 32 b (and-left (leb 32 b) (ltb b 128) e)) (ltb-true b 128 (and-right (leb 32 b) (ltb b 128) e))
+
 module _ {f : Bytes → Bool} {p : ℕ → Bool} (b : ByCharacter f p) where
   plain-steps : {s : Bytes} → 0 < length s → plain p (getD s 0 0) ≡ true → Steps f f 1 s
   plain-steps l h = let q = plain-front p l h in step-passes b (q .0) (q .1)
@@ -82,15 +105,19 @@ module _ {f : Bytes → Bool} {p : ℕ → Bool} (b : ByCharacter f p) where
     -- the last n bytes at once, some of which may be passed already
     pub walked-last : (n : ℕ) {s : Bytes} {i : ℕ} → Walked f s i → length s - n ≤ i → every q (drop (length s - n) s) ≡ true → Walked f s (length s)
     walked-last n {s} {i} w l h =
-        let last = length s - n in
-        let d : last + (i - last) ≡ i = omega arith in
         let e : i + (length s - i) ≡ length s = omega (arith, w .within) in
-        let t : every q (drop i s) ≡ true = rw (← d, ← drop-drop (i - last) last s) (every-drop q (i - last) (drop last s) h) in
-        rw e at (walked-block (length s - i) w (omega (arith, w .within)) (rw to-end t))
+        rw e at (walked-block (length s - i) w (omega (arith, w .within)) (rw to-end (every-later q s l h)))
 
     -- all bytes are plain
     pub past-all : (s : Bytes) → every q s ≡ true → f s ≡ true
     past-all s h = sym (walked-passes (walked-last (length s) (walked-begins f s) (omega arith) (let z : length s - length s ≡ 0 = omega arith in rw z h)) b (omega arith))
+
+-- n such bytes and a line feed are a text
+pub printable-line : (s : Bytes) (n : ℕ) → n < length s → length s ≤ n + 1 → every printable (take n s) ≡ true → getD s n 0 ≡ 10 → true ≡ asCharacters (every isChar) s
+printable-line s n l m h e =
+    let z : 0 + n ≡ n = omega arith in
+    let w = rw z at (walked-block (every-by isChar) printable plain-printable n (walked-begins (asCharacters (every isChar)) s) (omega arith) h) in
+    walked-passes (walked-plain (every-by isChar) w l (plain-line-feed (getD s n 0) e)) (every-by isChar) m
 
 -- `&s[i..i + n]`
 pub block : (s : Bytes) (i n : ℕ) → take (i + n - i) (drop i s) ≡ take n (drop i s)

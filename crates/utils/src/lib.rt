@@ -10,7 +10,7 @@ ghost use Rattle.spec.specs.RdfXml.{isBlank};
 ghost use Rattle.utils.specs.Decoding.{Decodes, Begins, joins};
 ghost use Rattle.utils.specs.Ranges.{ranges, ascendingFrom};
 ghost use Rattle.utils.specs.Names.{nameOf, isNCRest, startsNC, goesOnNC};
-ghost use Rattle.utils.specs.Plain.{plain, plainText};
+ghost use Rattle.utils.specs.Plain.{plain, plainText, printable};
 ghost use Rattle.utils.specs.Walking.{Walked, Steps};
 
 // What some bytes begin with: nothing, a character and how many bytes it has, or no character.
@@ -180,6 +180,25 @@ pub fn is_blank(s: &[u8]) -> bool
     true
 }
 
+// Is it surely in ASCII without control characters? By blocks of sixteen bytes; the last may begin in the one before it.
+pub fn is_printable(s: &[u8]) -> bool
+    ensures { λ r. ⌜ (r ≡ true → every printable (now (s .entry)) ≡ true) ⌝ }
+{
+    if s.len() < 16 {
+        return is_printable_short(s);
+    }
+    let last = s.len() - 16;
+    let mut i = 0;
+    while i < last {
+        let end = i + 16;
+        if !is_printable_block(&s[i..end]) {
+            return false;
+        }
+        i = end;
+    }
+    is_printable_block(&s[last..])
+}
+
 // UTF-8 of nothing but XML's characters.
 pub fn is_text(s: &[u8]) -> bool
     ensures { λ r. ⌜ r ≡ asCharacters (every isChar) (now (s .entry)) ⌝ }
@@ -292,7 +311,7 @@ fn skip_plain(s: &[u8]) -> usize
     ensures { λ r. ⌜ Walked (asCharacters (every isChar)) (now (s .entry)) r ⌝ }
 {
     if s.len() < 16 {
-        return skip_short(s);
+        return 0;
     }
     let last = s.len() - 16;
     let mut i = 0;
@@ -322,33 +341,6 @@ fn skip_behind(s: &[u8]) -> usize
     0
 }
 
-// Of fewer than sixteen bytes: all, where they are plain and at least four, or none.
-fn skip_short(s: &[u8]) -> usize
-    requires { ⌜ length (now s) < 16 ⌝ }
-    ensures { λ r. ⌜ Walked (asCharacters (every isChar)) (now (s .entry)) r ⌝ }
-{
-    if 8 <= s.len() {
-        return skip_halves(s, 8);
-    }
-    if 4 <= s.len() {
-        return skip_halves(s, 4);
-    }
-    0
-}
-
-// All bytes where the first `n` and the last `n` of them are plain, or none. The two may overlap.
-fn skip_halves(s: &[u8], n: usize) -> usize
-    requires { ⌜ n ≤ length (now s) ⌝ }
-    requires { ⌜ length (now s) ≤ n + n ⌝ }
-    ensures { λ r. ⌜ Walked (asCharacters (every isChar)) (now (s .entry)) r ⌝ }
-{
-    let last = s.len() - n;
-    if is_plain_block(&s[..n]) & is_plain_block(&s[last..]) {
-        return s.len();
-    }
-    0
-}
-
 // Are all bytes plain? No branch inside the loop, so that those of a block are tested at once.
 fn is_plain_block(block: &[u8]) -> bool
     ensures { λ r. ⌜ r ≡ every plainText (now (block .entry)) ⌝ }
@@ -357,6 +349,44 @@ fn is_plain_block(block: &[u8]) -> bool
     let mut j = 0;
     while j < block.len() {
         all = all & is_plain(block[j]);
+        j += 1;
+    }
+    all
+}
+
+// The same of fewer than sixteen bytes; of fewer than four nothing is sure.
+fn is_printable_short(s: &[u8]) -> bool
+    requires { ⌜ length (now s) < 16 ⌝ }
+    ensures { λ r. ⌜ (r ≡ true → every printable (now (s .entry)) ≡ true) ⌝ }
+{
+    if 8 <= s.len() {
+        return are_halves_printable(s, 8);
+    }
+    if 4 <= s.len() {
+        return are_halves_printable(s, 4);
+    }
+    false
+}
+
+// The same by the first `n` bytes and the last `n`, which may overlap.
+fn are_halves_printable(s: &[u8], n: usize) -> bool
+    requires { ⌜ n ≤ length (now s) ⌝ }
+    requires { ⌜ length (now s) ≤ n + n ⌝ }
+    ensures { λ r. ⌜ (r ≡ true → every printable (now (s .entry)) ≡ true) ⌝ }
+{
+    let last = s.len() - n;
+    is_printable_block(&s[..n]) & is_printable_block(&s[last..])
+}
+
+// Are all bytes in ASCII, and none a control character? No branch inside the loop.
+fn is_printable_block(block: &[u8]) -> bool
+    ensures { λ r. ⌜ r ≡ every printable (now (block .entry)) ⌝ }
+{
+    let mut all = true;
+    let mut j = 0;
+    while j < block.len() {
+        let b = block[j];
+        all = all & ((32 <= b) & (b < 128));
         j += 1;
     }
     all

@@ -1,6 +1,5 @@
 -- `pyx::next_part` meets its contract: by what may stand in a name.
 use mathlib.Core.Path.{sym, _∙_}
-use native.Mathlib.Omega.{arith}
 use borrow.Author.Needs.{needs}
 use Rattle.pyx.proofs.Names.{spelled-start, spelled-on, spelled-colon}
 use Rattle.pyx.proofs.next_part.Statement.{statement}

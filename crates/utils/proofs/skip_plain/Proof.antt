@@ -1,6 +1,6 @@
 -- `skip_plain`. The invariant: the bytes passed are plain, so the rest decides.
 use mathlib.Core.Path.{sym, _∙_}
-use lib.ListN.{length, length-take, length-drop}
+use lib.ListN.{length}
 use Prim.Native.Nat.{_-_}
 use borrow.Author.Tests.{not-false}
 use Rattle.spec.specs.Bytes.{every}
@@ -21,11 +21,8 @@ Inv-loop s last i₀ i = Walked (asCharacters (every isChar)) s i
 abbrev μ-loop : tie.MeasureT-loop
 μ-loop s last i₀ i = length s - i
 
-skip-short-requires : tie.Need-skip-short-requires Inv-loop μ-loop
-skip-short-requires c κs = search needs
-
 returns : tie.Need-returns Inv-loop μ-loop
-returns c = c .skip-short .ensures
+returns c = walked-begins _ _
 
 sub-last : tie.Need-sub-last Inv-loop μ-loop
 sub-last c = search needs
@@ -81,7 +78,6 @@ skip-plain-spec =
     (tie.spec
     Inv-loop
     μ-loop
-    skip-short-requires
     returns
     sub-last
     loop-holds
