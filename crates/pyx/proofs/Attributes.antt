@@ -291,8 +291,8 @@ module _ (l : Bytes) {n : ℕ} (nonempty : 0 < length l) (e : n ≡ length (upTo
   read-name-room at d h = omega (arith, name-size, read-end)
 
   module _ (clear : eqb (getD l 0 0) 32 ≡ false) (d f : List ℕ) (at : ℕ) where
-    pub read-nameless : (isQName (part l 1 n) ≡ false) × (f ≡ d) → (readAttribute l ≡ refuse NotPyx) × Kept d f (at + length l)
-    read-nameless m = (read-no-name l nonempty clear e (m .0), rw (m .1) kept-all)
+    pub read-nameless : (isQName (part l 1 n) ≡ false) × Kept d f (at + length (part l 1 n)) → (readAttribute l ≡ refuse NotPyx) × Kept d f (at + length l)
+    read-nameless m = (read-no-name l nonempty clear e (m .0), kept-more (m .1) (omega (arith, name-size, read-end)))
 
     module _ {c : ℕ} {g : List ℕ} (b : n + 1 < length l) (m : Name c (part l 1 n) d g at) where
       pub read-valueless : (unescape (drop (n + 2) l) ≡ refuse NotPyx) × Kept g f (at + n + length (drop (n + 2) l)) → (readAttribute l ≡ refuse NotPyx) × Kept d f (at + length l)

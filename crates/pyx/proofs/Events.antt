@@ -1,14 +1,14 @@
 -- An event by its first line.
 use mathlib.Core.Path.{_≡_, refl, sym, ap, _∙_}
-use mathlib.Core.Bool.{true, false}
+use mathlib.Core.Bool.{true, false, _&&_}
 use mathlib.Core.List.{List, [], _∷_, append-nil}
 use Prim.Native.Nat.{ℕ, zero, suc, _+_, _-_, _/_, _<_, _≤_}
 use native.Mathlib.Omega.{arith}
-use lib.Dec.{eqb}
+use lib.Dec.{eqb, leb, ltb}
 use lib.ListN.{length, take, drop, getD, length-drop}
 use lib.Seq.{length-take-le, take-nil}
-use borrow.Author.Tests.{lt-ltb, le-ltb, eqb-true, ne-eqb}
-use Rattle.spec.specs.Bytes.{Bytes, ascii, if_then_else_, begins, after, upTo, every, concat, each, _>>=_, _>>_, require_or_}
+use borrow.Author.Tests.{lt-ltb, le-ltb, leb-true, eqb-true, eq-eqb, ne-eqb}
+use Rattle.spec.specs.Bytes.{Bytes, ascii, byte, among, if_then_else_, begins, after, upTo, every, concat, each, _>>=_, _>>_, require_or_}
 use Rattle.spec.specs.Limits.{mostEventBytes}
 use Rattle.spec.specs.Numbers.{Answer, refuse, good}
 use Rattle.spec.specs.declared.Refusal.the-variants.{NotPyx}
@@ -16,9 +16,13 @@ use Rattle.spec.specs.Utf8.{asCharacters}
 use Rattle.spec.specs.XmlNames.{isChar, isQName}
 use Rattle.spec.specs.Pyx.{Attribute, opening, closing, text, unescape, name, readAttribute, readOpening, readClosing, readText, readLines, readEvent}
 use Rattle.spec.specs.Pyx as P
+use Rattle.spec.proofs.Booleans.{and-left, and-right}
+use Rattle.utils.specs.Plain.{printable}
+use Rattle.utils.proofs.Plain.{printable-line}
 use Rattle.copy.specs.Copy.{wrote-same, wrote-front}
+use Rattle.copy.specs.Scan.{sought-begins, sought-block, sought-stop}
 use Rattle.copy.specs.Texts.{after-drop, upTo-stop}
-use Rattle.pyx.specs.Lines.{linesOf, spaced, front, Kept}
+use Rattle.pyx.specs.Lines.{linesOf, spaced, front, Kept, PlainLine, Headed}
 use Rattle.pyx.specs.Names.{Name}
 use Rattle.pyx.specs.Escapes.{Stored, Unescapes, dataOf}
 use Rattle.pyx.specs.Attributes.{Behind, Laid}
@@ -28,7 +32,7 @@ use Rattle.pyx.specs.declared.Unescaped.the-variants.{Wrong, Upto}
 use Rattle.pyx.specs.declared.Event.{Event}
 use Rattle.pyx.specs.declared.Event.the-variants.{Malformed, NoScratch, Instruction, Text, Closing, Opening, Crowded}
 use Rattle.pyx.proofs.Reach.{isEnd}
-use Rattle.pyx.proofs.Lines.{first-line, no-line, front-good, kept-all, kept-more, kept-then, kept-wrote}
+use Rattle.pyx.proofs.Lines.{first-line, no-line, front-good, spaced-one, kept-all, kept-more, kept-then, kept-wrote}
 use Rattle.pyx.proofs.Escapes.{data-line, data-wrong, data-none}
 
 -- ---- the first line, and its first byte
@@ -90,9 +94,12 @@ module _ {s d : Bytes} {n : ℕ} (f : Fits s d n) (h : 0 < n) where
   line-end : getD s n 0 ≡ 10
   line-end = eqb-true (getD s n 0) 10 (rw (← f .line) at (upTo-stop isEnd s (rw (← f .line) (f .ended))))
 
-  module _ {e : List ℕ} (w : List ℕ) (m : (isQName (take (n - 1) (drop 1 s)) ≡ false) × (e ≡ d)) where
+  module _ {e : List ℕ} (w : List ℕ) (m : (isQName (take (n - 1) (drop 1 s)) ≡ false) × Kept d e (0 + length (take (n - 1) (drop 1 s)))) where
+    nameless-kept : Kept d e (length s)
+    nameless-kept = kept-more (m .1) (omega (arith, title-size, f .ended))
+
     pub opening-nameless : (ls : List Bytes) → Says Malformed (readOpening (take n s) ls) false (length s) d e w w
-    opening-nameless ls = decoded refl (open-no-name (take (n - 1) (drop 1 s)) ls (take n s) (drop-take s n h) (m .0)) (rw (m .1) kept-all) refl
+    opening-nameless ls = decoded refl (open-no-name (take (n - 1) (drop 1 s)) ls (take n s) (drop-take s n h) (m .0)) nameless-kept refl
 
   module _ {c : ℕ} {e : List ℕ} (m : Name c (take (n - 1) (drop 1 s)) d e 0) where
     title-there : take (n - 1) e ≡ take (n - 1) (drop 1 s)
@@ -186,10 +193,10 @@ module _ {s d : Bytes} {n : ℕ} (f : Fits s d n) where
     unfolding readLines readClosing if_then_else_ begins after ascii
     lines-closing e = by-first ∙ rw e
 
-    pub closing-nameless : {e : List ℕ} (w : List ℕ) → getD s 0 0 ≡ 41 → (isQName (take (n - 1) (drop 1 s)) ≡ false) × (e ≡ d)
+    pub closing-nameless : {e : List ℕ} (w : List ℕ) → getD s 0 0 ≡ 41 → (isQName (take (n - 1) (drop 1 s)) ≡ false) × Kept d e (0 + length (take (n - 1) (drop 1 s)))
         → Says Malformed (readLines (linesOf s)) false (length s) d e w w
     unfolding P.name _>>=_ _>>_ require_or_
-    closing-nameless w e m = decoded refl (lines-closing e ∙ rw (m .0)) (rw (m .1) kept-all) refl
+    closing-nameless w e m = decoded refl (lines-closing e ∙ rw (m .0)) (nameless-kept f h w m) refl
 
     pub closing-good : {c : ℕ} {e : List ℕ} (w : List ℕ) → getD s 0 0 ≡ 41 → Name c (take (n - 1) (drop 1 s)) d e 0
         → Says (Closing (n - 1)) (readLines (linesOf s)) false (length s) d e w w
@@ -222,6 +229,42 @@ module _ {s d : Bytes} {n : ℕ} (f : Fits s d n) where
     unfolding readLines if_then_else_ begins ascii
     other-first w a b c e = decoded refl (by-first ∙ rw (not-first 40 (getD s 0 0) a, not-first 41 (getD s 0 0) b, not-first 45 (getD s 0 0) c, not-first 63 (getD s 0 0) e)) kept-all refl
 
+-- ---- `first_line`
+
+module _ (s : Bytes) where
+  pub read-no-text : false ≡ asCharacters (every isChar) s → readEvent s ≡ refuse NotPyx
+  unfolding readEvent _>>_ require_or_
+  read-no-text t = rw (← t)
+
+  lines-read : true ≡ asCharacters (every isChar) s → readEvent s ≡ readLines (linesOf s)
+  unfolding readEvent linesOf _>>_ require_or_
+  lines-read t = rw (← t)
+
+  pub read-unended : {n : ℕ} → true ≡ asCharacters (every isChar) s → n ≡ length (upTo isEnd s) → n ≡ length s → readEvent s ≡ refuse NotPyx
+  unfolding readLines
+  read-unended t q h = lines-read t ∙ rw (no-line s q (omega arith))
+
+no-end : (t : Bytes) → every printable t ≡ true → among t 10 ≡ false
+unfolding every among printable byte
+no-end [] h = refl
+no-end (a ∷ t) h =
+    let p = and-left (leb 32 a && ltb a 128) (every printable t) h in
+    rw (ne-eqb a 10 (λ e. omega (arith, leb-true 32 a (and-left (leb 32 a) (ltb a 128) p))), no-end t (and-right (leb 32 a && ltb a 128) (every printable t) h))
+
+pub plain-line : (s : Bytes) → PlainLine s → Headed s (length s - 1)
+plain-line s h =
+    let n : ℕ = length s - 1 in
+    let z : 0 + n ≡ n = omega arith in
+    let l : n < length s = omega (arith, h .some) in
+    let passed = rw z at (sought-block 10 n {s = s} sought-begins (omega arith) (no-end (take n s) (h .plain))) in
+    let q : n ≡ length (upTo isEnd s) = sought-stop passed l (eq-eqb (getD s n 0) 10 (h .ended)) in
+    record {
+      clear = sym (spaced-one s (omega arith));
+      text = printable-line s n l (omega arith) (h .plain) (h .ended);
+      line = q;
+      ended = l;
+    }
+
 -- ---- `decode`
 
 module _ (s d : Bytes) (w : List ℕ) where
@@ -247,21 +290,12 @@ module _ (s d : Bytes) (w : List ℕ) where
         unfolding mostEventBytes unread
         read = rw (le-ltb 32_768 (length s) a, le-ltb (length d) (length s) b) (sym c)
 
-        pub decode-no-text : false ≡ asCharacters (every isChar) s → Decodes Malformed s d d w w
-        unfolding readEvent _>>_ require_or_
-        decode-no-text t = rw read (decoded refl (rw (← t)) kept-all refl)
+        pub decode-wrong : readEvent s ≡ refuse NotPyx → Decodes Malformed s d d w w
+        decode-wrong e = rw read (decoded refl e kept-all refl)
 
-        module _ (t : true ≡ asCharacters (every isChar) s) {n : ℕ} (q : n ≡ length (upTo isEnd s)) where
-          lines-read : readEvent s ≡ readLines (linesOf s)
-          unfolding readEvent linesOf _>>_ require_or_
-          lines-read = rw (← t)
+      module _ {n : ℕ} (l : Headed s n) where
+        pub decode-fits : Fits s d n
+        decode-fits = record { line = l .line; ended = l .ended; room = b; most = a; clear = sym (l .clear) }
 
-          pub decode-unended : n ≡ length s → Decodes Malformed s d d w w
-          unfolding readLines
-          decode-unended h = rw read (decoded refl (lines-read ∙ rw (no-line s q (omega arith))) kept-all refl)
-
-          pub decode-fits : n < length s → Fits s d n
-          decode-fits h = record { line = q; ended = h; room = b; most = a; clear = sym c }
-
-          pub decode-lines : {r : Event} {e v : List ℕ} → Says r (readLines (linesOf s)) false (length s) d e w v → Decodes r s d e w v
-          decode-lines z = rw (read, lines-read) z
+        pub decode-lines : {r : Event} {e v : List ℕ} → Says r (readLines (linesOf s)) false (length s) d e w v → Decodes r s d e w v
+        decode-lines z = rw (read (l .clear), lines-read s (l .text)) z

@@ -1,6 +1,6 @@
 // Where events come in: the first event of the input, and its lines decoded.
 ghost use mathlib.Core.Path.{_≡_};
-ghost use mathlib.Core.Bool.{false};
+ghost use mathlib.Core.Bool.{true, false};
 ghost use Prim.Native.Nat.{_+_, _*_, _<_, _≤_};
 ghost use lib.ListN.{length, take, drop, getD};
 ghost use lib.Dec.{eqb};
@@ -10,8 +10,8 @@ ghost use Rattle.spec.specs.Pyx.{readLines, readOpening};
 ghost use Rattle.spec.specs.Pyx as escapes;
 ghost use Rattle.copy.specs.Copy.{Put};
 ghost use Rattle.pyx.specs.First.{Cuts, inLine, atLineEnd};
-ghost use Rattle.pyx.specs.Lines.{linesOf, spaced};
-ghost use Rattle.pyx.specs.Names.{Colons, Named};
+ghost use Rattle.pyx.specs.Lines.{linesOf, spaced, Begins, PlainLine};
+ghost use Rattle.pyx.specs.Names.{Colons, Named, PlainNamed, Spelled, Spells};
 ghost use Rattle.pyx.specs.Escapes.{Nexts, Unescapes, dataOf};
 ghost use Rattle.pyx.specs.Attributes.{Reads, Behind, Lays, Small, row};
 ghost use Rattle.pyx.specs.Decode.{Says, Decodes, Fits};
@@ -34,6 +34,13 @@ pub enum Event {
     Closing(usize),
     Opening(usize, usize, usize),
     Crowded,
+}
+
+// An event with a line that begins with a space, one that is no text or has no line, or how long its first line is.
+enum FirstLine {
+    Spaced,
+    Wrong,
+    Held(usize),
 }
 
 // No name, or a name with the place of its colon plus 1, or 0.
@@ -121,17 +128,11 @@ pub fn decode(event: &[u8], scratch: &mut [u8], spans: &mut [u32]) -> Event
     if event.len() > scratch.len() {
         return Event::NoScratch;
     }
-    let n = copy::find(event, 10);
-    if has_spaced(event, n) {
-        return Event::NoScratch;
+    match first_line(event) {
+        FirstLine::Spaced => Event::NoScratch,
+        FirstLine::Wrong => Event::Malformed,
+        FirstLine::Held(n) => by_first_line(event, n, scratch, spans),
     }
-    if !utils::is_text(event) {
-        return Event::Malformed;
-    }
-    if n == event.len() {
-        return Event::Malformed;
-    }
-    by_first_line(event, n, scratch, spans)
 }
 
 // May a line that begins with `b` go on with an event that begins with `c`?
@@ -168,6 +169,40 @@ fn at_line_end(seen: usize, last: bool, c: u8) -> First
         return First::Wait;
     }
     First::Whole(seen)
+}
+
+// The first line of an event. Most are one line in ASCII, which one look at their bytes shows.
+fn first_line(event: &[u8]) -> FirstLine
+    ensures { λ r. ⌜ Begins r (now (event .entry)) ⌝ }
+{
+    if is_plain_line(event) {
+        return FirstLine::Held(event.len() - 1);
+    }
+    let n = copy::find(event, 10);
+    if has_spaced(event, n) {
+        return FirstLine::Spaced;
+    }
+    if !utils::is_text(event) {
+        return FirstLine::Wrong;
+    }
+    if n == event.len() {
+        return FirstLine::Wrong;
+    }
+    FirstLine::Held(n)
+}
+
+// Is an event surely one line in ASCII without control characters?
+fn is_plain_line(event: &[u8]) -> bool
+    ensures { λ r. ⌜ (r ≡ true → PlainLine (now (event .entry))) ⌝ }
+{
+    if event.len() == 0 {
+        return false;
+    }
+    let n = event.len() - 1;
+    if event[n] == 10 {
+        return utils::is_printable(&event[..n]);
+    }
+    false
 }
 
 // Does a line behind the first, which has `n` bytes, begin with a space? No event of `first_event` has such a line, and one line alone has none behind it.
@@ -366,8 +401,67 @@ fn put_data(line: &[u8], scratch: &mut [u8], at: usize) -> Unescaped
     unescape(&line[1..], scratch, at)
 }
 
-// A name into the scratch, and where its colon is.
+// A name into the scratch, and where its colon is. Most are of ASCII alone.
 fn put_name(name: &[u8], scratch: &mut [u8], at: usize) -> Colon
+    requires { ⌜ at + length (now name) ≤ length (now scratch) ⌝ }
+    ensures { λ r. ⌜ Named r (now (name .entry)) (now (scratch .entry)) (now (scratch .exit)) at ⌝ }
+{
+    match put_plain_name(name, scratch, at) {
+        Colon::NotName => put_any_name(name, scratch, at),
+        Colon::At(c) => Colon::At(c),
+    }
+}
+
+// A name in ASCII, checked and copied in one pass. `part` is where its prefix or its local name begins.
+fn put_plain_name(name: &[u8], scratch: &mut [u8], at: usize) -> Colon
+    requires { ⌜ at + length (now name) ≤ length (now scratch) ⌝ }
+    ensures { λ r. ⌜ PlainNamed r (now (name .entry)) (now (scratch .entry)) (now (scratch .exit)) at ⌝ }
+{
+    let mut part = 0;
+    let mut i = 0;
+    while i < name.len() {
+        match next_part(name, i, part) {
+            Colon::NotName => return Colon::NotName,
+            Colon::At(p) => {
+                scratch[at + i] = name[i];
+                part = p;
+                i += 1;
+            }
+        }
+    }
+    if i == part {
+        return Colon::NotName;
+    }
+    Colon::At(part)
+}
+
+// Where the part of a name in ASCII begins behind its byte at `i`, if this may stand there.
+fn next_part(name: &[u8], i: usize, part: usize) -> Colon
+    requires { ⌜ i < length (now name) ⌝ }
+    requires { ⌜ Spelled (now name) i part ⌝ }
+    ensures { λ r. ⌜ Spells r (now (name .entry)) i ⌝ }
+{
+    let b = name[i];
+    if utils::is_plain_start(b) {
+        return Colon::At(part);
+    }
+    if i == part {
+        return Colon::NotName;
+    }
+    if b == 58 {
+        if part == 0 {
+            return Colon::At(i + 1);
+        }
+        return Colon::NotName;
+    }
+    if utils::is_plain_name(b) {
+        return Colon::At(part);
+    }
+    Colon::NotName
+}
+
+// Any name, checked and then copied.
+fn put_any_name(name: &[u8], scratch: &mut [u8], at: usize) -> Colon
     requires { ⌜ at + length (now name) ≤ length (now scratch) ⌝ }
     ensures { λ r. ⌜ Named r (now (name .entry)) (now (scratch .entry)) (now (scratch .exit)) at ⌝ }
 {

@@ -80,23 +80,23 @@ controls c h = agree-same _ _ (below control 32 all-control c h)
 -- ---- names in ASCII are those of the table
 
 start : ℕ → Bool
-start b = agree (((leb 97 b && leb b 122) || (leb 65 b && leb b 90)) || eqb b 95) (plain startsNC b)
+start b = agree ((leb 97 b && leb b 122) || ((leb 65 b && leb b 90) || eqb b 95)) (plain startsNC b)
 
 all-start : allBelow start 256 ≡ true
 unfolding allBelow start agree plain startsNC other isNameStart startRanges inRanges between byte
 all-start = refl
 
-pub plain-start : (b : ℕ) → b < 256 → (((leb 97 b && leb b 122) || (leb 65 b && leb b 90)) || eqb b 95) ≡ plain startsNC b
+pub plain-start : (b : ℕ) → b < 256 → ((leb 97 b && leb b 122) || ((leb 65 b && leb b 90) || eqb b 95)) ≡ plain startsNC b
 unfolding start
 plain-start b h = agree-same _ _ (below start 256 all-start b h)
 
 name : ℕ → Bool
-name b = agree ((leb 97 b && leb b 122) || (((plain startsNC b || (leb 48 b && leb b 57)) || eqb b 45) || eqb b 46)) (plain goesOnNC b)
+name b = agree (plain startsNC b || (((leb 48 b && leb b 57) || eqb b 45) || eqb b 46)) (plain goesOnNC b)
 
 all-name : allBelow name 256 ≡ true
 unfolding allBelow name agree plain startsNC goesOnNC other isNameStart isNameChar startRanges furtherRanges inRanges between byte
 all-name = refl
 
-pub plain-name : (b : ℕ) → b < 256 → ((leb 97 b && leb b 122) || (((plain startsNC b || (leb 48 b && leb b 57)) || eqb b 45) || eqb b 46)) ≡ plain goesOnNC b
+pub plain-name : (b : ℕ) → b < 256 → (plain startsNC b || (((leb 48 b && leb b 57) || eqb b 45) || eqb b 46)) ≡ plain goesOnNC b
 unfolding name
 plain-name b h = agree-same _ _ (below name 256 all-name b h)

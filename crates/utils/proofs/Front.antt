@@ -87,7 +87,7 @@ empty-holds f (b ∷ u) h = absurd (omega arith)
 
 -- ---- tests on bytes
 
-every-append : (p : ℕ → Bool) (s t : Bytes) → every p (s ++ t) ≡ (every p s && every p t)
+pub every-append : (p : ℕ → Bool) (s t : Bytes) → every p (s ++ t) ≡ (every p s && every p t)
 unfolding every
 every-append p [] t = refl
 every-append p (a ∷ s) t = by (p a) (every-append p s t)

@@ -1,8 +1,8 @@
 -- XML's characters and names: the steps of the tests, and what an answer of `qname` says.
-use mathlib.Core.Path.{_≡_, refl, sym, _∙_}
+use mathlib.Core.Path.{_≡_, refl, sym, ap, _∙_}
 use mathlib.Core.Bool.{Bool, true, false, _&&_, _||_, false≢true}
 use mathlib.Core.List.{[], _∷_}
-use Prim.Native.Nat.{ℕ, suc, _+_, _<_, _≤_}
+use Prim.Native.Nat.{ℕ, zero, suc, _+_, _<_, _≤_}
 use native.Mathlib.Omega.{arith}
 use native.Mathlib.Numerals.{add-one}
 use lib.Dec.{eqb, leb}
@@ -12,6 +12,7 @@ use borrow.Author.Tests.{le-leb, lt-leb, ne-eqb, eqb-true, eqb-false}
 use Rattle.spec.specs.Bytes.{Bytes, ascii, byte, if_then_else_, after, among, upTo, from, every, between, inRanges}
 use Rattle.spec.specs.Utf8.{asCharacters}
 use Rattle.spec.specs.XmlNames.{isChar, isNameStart, isNameChar, isName, noColon, isNCName, prefixOf, localOf, isQName}
+use Rattle.spec.proofs.Booleans.{and-right}
 use Rattle.utils.specs.declared.Name.{Name}
 use Rattle.utils.specs.declared.Name.the-variants.{NotName, Local, Prefixed}
 use Rattle.utils.specs.Decoding.{Front, Stuck}
@@ -211,6 +212,34 @@ module _ (s : Bytes) {k : ℕ} (e : k ≡ before s) where
     pub name-no-local : true ≡ isNCName (take k s) → false ≡ isNCName (drop (k + 1) s) → NotName ≡ nameOf s
     unfolding nameOf if_then_else_
     name-no-local p q = rw (parts-are, ← p, ← q)
+
+-- ---- a name by its parts
+
+-- an NCName has no colon
+nc-colon : (s : Bytes) → isNCName s ≡ true → noColon s ≡ true
+unfolding isNCName
+nc-colon s h = and-right (asCharacters isName s) (noColon s) h
+
+-- the colon behind bytes that have none is the first
+first-colon : (s : Bytes) (k : ℕ) → k < length s → noColon (take k s) ≡ true → getD s k 0 ≡ 0x3A → k ≡ before s
+unfolding noColon every byte upTo among ascii if_then_else_
+first-colon [] k l n e = absurd (omega arith)
+first-colon (b ∷ s) zero l n e = rw e
+first-colon (b ∷ s) (suc k) l n e = by (eqb b 0x3A) refl (λ m. first-colon s k (omega arith) m e)
+  where
+    by : (t : Bool) → eqb b 0x3A ≡ t → (noColon (take k s) ≡ true → k ≡ before s) → suc k ≡ before (b ∷ s)
+    by true q h = absurd (false≢true (rw q at n))
+    by false q h = rw (ne-eqb 0x3A b (λ d. eqb-false b 0x3A q (sym d))) (ap suc (h (rw q at n)))
+
+pub by-local : (s : Bytes) → isNCName s ≡ true → Local ≡ nameOf s
+by-local s h = by (colon s)
+  where
+    by : Colon s → Local ≡ nameOf s
+    by (without n l) = name-local s refl (omega arith) (sym h)
+    by (with-one n l) = absurd (false≢true (sym n ∙ nc-colon s h))
+
+pub by-parts : (s : Bytes) (k : ℕ) → k < length s → isNCName (take k s) ≡ true → getD s k 0 ≡ 0x3A → isNCName (drop (k + 1) s) ≡ true → Prefixed k ≡ nameOf s
+by-parts s k l p e q = name-prefixed s (first-colon s k l (nc-colon (take k s) p) e) l (sym p) (sym q)
 
 -- ---- what callers cite of a name
 

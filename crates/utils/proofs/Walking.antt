@@ -76,5 +76,9 @@ module _ {f : Bytes → Bool} {s : Bytes} {i : ℕ} (w : Walked f s i) where
   pub walked-more : {n : ℕ} → Steps f f n (drop i s) → (n ≡ 0 → ⊥) → Walked f s (i + n)
   walked-more {n} h l = record { within = walked-within h; rest = w .rest ∙ h .rest (omega arith) ∙ rw (drop-drop n i s) }
 
+  pub walked-on : {k : ℕ} → Walked f (drop i s) k → Walked f s (i + k)
+  walked-on {k} h =
+      record { within = omega (arith, h .within, length-drop i s, w .within); rest = w .rest ∙ h .rest ∙ rw (drop-drop k i s) }
+
   pub walked-passes : {p : ℕ → Bool} → ByCharacter f p → length s ≤ i → true ≡ f s
   walked-passes b h = sym (w .rest ∙ b .empty (drop i s) (omega (arith, length-drop i s)))

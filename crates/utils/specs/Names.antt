@@ -1,11 +1,13 @@
 -- What a name as written is, and the parts of an NCName.
-use mathlib.Core.Bool.{Bool, _&&_, not}
-use Prim.Native.Nat.{ℕ}
+use mathlib.Core.Path.{_≡_}
+use mathlib.Core.Bool.{Bool, true, _&&_, not}
+use Prim.Native.Nat.{ℕ, _<_}
 use lib.Dec.{eqb}
-use lib.ListN.{length}
+use lib.ListN.{length, getD}
 use Rattle.spec.specs.Bytes.{Bytes, ascii, byte, if_then_else_, among, upTo, every}
 use Rattle.spec.specs.Utf8.{asCharacters}
 use Rattle.spec.specs.XmlNames.{isNameStart, isNameChar, noColon, isQName}
+use Rattle.utils.specs.Plain.{plain}
 use Rattle.utils.specs.declared.Name.{Name}
 use Rattle.utils.specs.declared.Name.the-variants.{NotName, Local, Prefixed}
 
@@ -27,3 +29,8 @@ goesOnNC c = isNameChar c && other c
 -- what may follow the first character of an NCName
 unfoldable pub isNCRest : Bytes → Bool
 isNCRest s = asCharacters (every isNameChar) s && noColon s
+
+-- bytes in ASCII that may stand in an NCName, the first of which may start one
+pub record PlainPart (t : Bytes) : Type 0 where
+  pub on : every (plain goesOnNC) t ≡ true
+  pub starts : 0 < length t → plain startsNC (getD t 0 0) ≡ true

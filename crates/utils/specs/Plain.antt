@@ -11,3 +11,7 @@ plain p b = ltb b 128 && p b
 -- in ASCII, and no control character but LF
 unfoldable pub plainText : ℕ → Bool
 plainText b = (leb (byte " ") b && ltb b 128) || eqb b (byte "\n")
+
+-- in ASCII, and no control character
+unfoldable pub printable : ℕ → Bool
+printable b = leb (byte " ") b && ltb b 128

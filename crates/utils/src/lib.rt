@@ -1,7 +1,7 @@
 // UTF-8, and the characters and names of XML: utils.rs and the end of parser.rs.
 ghost use mathlib.Core.Path.{_≡_};
 ghost use mathlib.Core.Bool.{true};
-ghost use Prim.Native.Nat.{_<_, _≤_};
+ghost use Prim.Native.Nat.{_+_, _<_, _≤_};
 ghost use lib.ListN.{length};
 ghost use Rattle.spec.specs.Bytes.{ascii, upTo, among, every, inRanges};
 ghost use Rattle.spec.specs.Utf8.{leadingOnes, goesOn, isScalar, asCharacters};
@@ -10,7 +10,7 @@ ghost use Rattle.spec.specs.RdfXml.{isBlank};
 ghost use Rattle.utils.specs.Decoding.{Decodes, Begins, joins};
 ghost use Rattle.utils.specs.Ranges.{ranges, ascendingFrom};
 ghost use Rattle.utils.specs.Names.{nameOf, isNCRest, startsNC, goesOnNC};
-ghost use Rattle.utils.specs.Plain.{plain, plainText};
+ghost use Rattle.utils.specs.Plain.{plain, plainText, printable};
 ghost use Rattle.utils.specs.Walking.{Walked, Steps};
 
 // What some bytes begin with: nothing, a character and how many bytes it has, or no character.
@@ -180,6 +180,25 @@ pub fn is_blank(s: &[u8]) -> bool
     true
 }
 
+// Is it surely in ASCII without control characters? By blocks of sixteen bytes; the last may begin in the one before it.
+pub fn is_printable(s: &[u8]) -> bool
+    ensures { λ r. ⌜ (r ≡ true → every printable (now (s .entry)) ≡ true) ⌝ }
+{
+    if s.len() < 16 {
+        return is_printable_short(s);
+    }
+    let last = s.len() - 16;
+    let mut i = 0;
+    while i < last {
+        let end = i + 16;
+        if !is_printable_block(&s[i..end]) {
+            return false;
+        }
+        i = end;
+    }
+    is_printable_block(&s[last..])
+}
+
 // UTF-8 of nothing but XML's characters.
 pub fn is_text(s: &[u8]) -> bool
     ensures { λ r. ⌜ r ≡ asCharacters (every isChar) (now (s .entry)) ⌝ }
@@ -194,6 +213,7 @@ pub fn is_text(s: &[u8]) -> bool
                 return false;
             }
             i += n;
+            i += skip_behind(&s[i..]);
         }
     }
     true
@@ -286,30 +306,87 @@ fn sequence(s: &[u8], n: usize, bits: u32, low: u32) -> Decoded
     }
 }
 
-// How many bytes stand at the front in blocks of eight plain ones.
+// How many plain bytes stand at the front, as far as blocks of sixteen show it. The last block may begin in the one before it.
 fn skip_plain(s: &[u8]) -> usize
     ensures { λ r. ⌜ Walked (asCharacters (every isChar)) (now (s .entry)) r ⌝ }
 {
+    if s.len() < 16 {
+        return 0;
+    }
+    let last = s.len() - 16;
     let mut i = 0;
-    while 8 <= s.len() - i {
-        let end = i + 8;
+    while i < last {
+        let end = i + 16;
         if !is_plain_block(&s[i..end]) {
             return i;
         }
         i = end;
     }
+    if is_plain_block(&s[last..]) {
+        return s.len();
+    }
     i
 }
 
-// Are eight bytes plain? No branch inside the loop, so that the eight are tested at once.
+// The same behind a character that is not plain, where a plain one follows: in many scripts none does.
+fn skip_behind(s: &[u8]) -> usize
+    ensures { λ r. ⌜ Walked (asCharacters (every isChar)) (now (s .entry)) r ⌝ }
+{
+    if s.len() == 0 {
+        return 0;
+    }
+    if is_plain(s[0]) {
+        return skip_plain(s);
+    }
+    0
+}
+
+// Are all bytes plain? No branch inside the loop, so that those of a block are tested at once.
 fn is_plain_block(block: &[u8]) -> bool
-    requires { ⌜ length (now block) ≡ 8 ⌝ }
     ensures { λ r. ⌜ r ≡ every plainText (now (block .entry)) ⌝ }
 {
     let mut all = true;
     let mut j = 0;
-    while j < 8 {
+    while j < block.len() {
         all = all & is_plain(block[j]);
+        j += 1;
+    }
+    all
+}
+
+// The same of fewer than sixteen bytes; of fewer than four nothing is sure.
+fn is_printable_short(s: &[u8]) -> bool
+    requires { ⌜ length (now s) < 16 ⌝ }
+    ensures { λ r. ⌜ (r ≡ true → every printable (now (s .entry)) ≡ true) ⌝ }
+{
+    if 8 <= s.len() {
+        return are_halves_printable(s, 8);
+    }
+    if 4 <= s.len() {
+        return are_halves_printable(s, 4);
+    }
+    false
+}
+
+// The same by the first `n` bytes and the last `n`, which may overlap.
+fn are_halves_printable(s: &[u8], n: usize) -> bool
+    requires { ⌜ n ≤ length (now s) ⌝ }
+    requires { ⌜ length (now s) ≤ n + n ⌝ }
+    ensures { λ r. ⌜ (r ≡ true → every printable (now (s .entry)) ≡ true) ⌝ }
+{
+    let last = s.len() - n;
+    is_printable_block(&s[..n]) & is_printable_block(&s[last..])
+}
+
+// Are all bytes in ASCII, and none a control character? No branch inside the loop.
+fn is_printable_block(block: &[u8]) -> bool
+    ensures { λ r. ⌜ r ≡ every printable (now (block .entry)) ⌝ }
+{
+    let mut all = true;
+    let mut j = 0;
+    while j < block.len() {
+        let b = block[j];
+        all = all & ((32 <= b) & (b < 128));
         j += 1;
     }
     all
@@ -403,21 +480,24 @@ fn nc_char(s: &[u8]) -> usize
     }
 }
 
-// In ASCII, what may start an NCName by the table: a letter or `_`.
-fn is_plain_start(b: u8) -> bool
+// In ASCII, what may start an NCName by the table: a letter or `_`. Small letters first, being the most.
+pub fn is_plain_start(b: u8) -> bool
     ensures { λ r. ⌜ r ≡ plain startsNC b ⌝ }
-{
-    ((97 <= b) & (b <= 122)) | ((65 <= b) & (b <= 90)) | (b == 95)
-}
-
-// In ASCII, what may go on with an NCName by the table: a letter, digit, `-`, `.` or `_`. Small letters first, being the most.
-fn is_plain_name(b: u8) -> bool
-    ensures { λ r. ⌜ r ≡ plain goesOnNC b ⌝ }
 {
     if (97 <= b) & (b <= 122) {
         return true;
     }
-    is_plain_start(b) | ((48 <= b) & (b <= 57)) | (b == 45) | (b == 46)
+    ((65 <= b) & (b <= 90)) | (b == 95)
+}
+
+// In ASCII, what may go on with an NCName by the table: a letter, digit, `-`, `.` or `_`.
+pub fn is_plain_name(b: u8) -> bool
+    ensures { λ r. ⌜ r ≡ plain goesOnNC b ⌝ }
+{
+    if is_plain_start(b) {
+        return true;
+    }
+    ((48 <= b) & (b <= 57)) | (b == 45) | (b == 46)
 }
 
 // How many bytes stand before the first colon.

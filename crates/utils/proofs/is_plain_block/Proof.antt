@@ -1,5 +1,6 @@
 -- `is_plain_block`. The invariant: `all` is the answer for the first `j` bytes.
 use Prim.Native.Nat.{_-_}
+use lib.ListN.{length}
 use Rattle.utils.specs.Plain.{plainText}
 use Rattle.utils.proofs.Plain.{Gathered, gathered-begins, gathered-more, gathered-done}
 use native.Mathlib.Omega.{arith}
@@ -11,7 +12,7 @@ abbrev Inv-loop : tie.InvT-loop
 Inv-loop block all₀ j₀ all j = Gathered plainText block j all
 
 abbrev μ-loop : tie.MeasureT-loop
-μ-loop block all₀ j₀ all j = 8 - j
+μ-loop block all₀ j₀ all j = length block - j
 
 loop-holds : tie.Need-loop-holds Inv-loop μ-loop
 loop-holds c = gathered-begins

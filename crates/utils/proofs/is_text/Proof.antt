@@ -6,7 +6,7 @@ use Rattle.spec.specs.Bytes.{every}
 use Rattle.spec.specs.Utf8.{asCharacters}
 use Rattle.spec.specs.XmlNames.{isChar}
 use Rattle.utils.specs.Walking.{Walked}
-use Rattle.utils.proofs.Walking.{to-end, every-by, walked-within, walked-fails, walked-more, walked-passes}
+use Rattle.utils.proofs.Walking.{to-end, every-by, walked-within, walked-fails, walked-more, walked-on, walked-passes}
 use Rattle.utils.proofs.Plain.{plain-text, walked-plain}
 use native.Mathlib.Omega.{arith}
 use borrow.Author.Needs.{needs}
@@ -58,11 +58,26 @@ returns c = walked-fails (c .before .before .before .before .before .before .bef
 add-i-2 : tie.Need-add-i-2 Inv-loop μ-loop
 add-i-2 c = omega (arith, walked-within (c .before .before .before .before .before .before .before .loop .inv) (rw to-end at (c .before .text-char .ensures)))
 
+sub-skip-behind : tie.Need-sub-skip-behind Inv-loop μ-loop
+sub-skip-behind c = omega (arith, walked-within (c .before .before .before .before .before .before .before .loop .inv) (rw to-end at (c .before .text-char .ensures)))
+
+part-skip-behind-start : tie.Need-part-skip-behind-start Inv-loop μ-loop
+part-skip-behind-start c = omega (arith, walked-within (c .before .before .before .before .before .before .before .loop .inv) (rw to-end at (c .before .text-char .ensures)))
+
+part-skip-behind-end : tie.Need-part-skip-behind-end Inv-loop μ-loop
+part-skip-behind-end c = search needs
+
+skip-behind-requires : tie.Need-skip-behind-requires Inv-loop μ-loop
+skip-behind-requires c κs = search needs
+
+add-i-3 : tie.Need-add-i-3 Inv-loop μ-loop
+add-i-3 c = omega (arith, walked-on (walked-more (c .before .before .before .before .before .before .before .before .before .loop .inv) (rw to-end at (c .before .before .before .text-char .ensures)) (c .before .before .if2 .left)) (rw to-end at (c .skip-behind .ensures)) .within)
+
 loop-less-2 : tie.Need-loop-less-2 Inv-loop μ-loop
-loop-less-2 c = omega (arith, walked-within (c .before .before .before .before .before .before .before .loop .inv) (rw to-end at (c .before .text-char .ensures)))
+loop-less-2 c = omega (arith, walked-on (walked-more (c .before .before .before .before .before .before .before .before .before .loop .inv) (rw to-end at (c .before .before .before .text-char .ensures)) (c .before .before .if2 .left)) (rw to-end at (c .skip-behind .ensures)) .within)
 
 loop-again-2 : tie.Need-loop-again-2 Inv-loop μ-loop
-loop-again-2 c = walked-more (c .before .before .before .before .before .before .before .loop .inv) (rw to-end at (c .before .text-char .ensures)) (c .if2 .left)
+loop-again-2 c = walked-on (walked-more (c .before .before .before .before .before .before .before .before .before .loop .inv) (rw to-end at (c .before .before .before .text-char .ensures)) (c .before .before .if2 .left)) (rw to-end at (c .skip-behind .ensures))
 
 returns-2 : tie.Need-returns-2 Inv-loop μ-loop
 returns-2 c = walked-passes (c .before .loop .inv) (every-by isChar) (omega arith)
@@ -86,6 +101,11 @@ is-text-spec =
     text-char-requires
     returns
     add-i-2
+    sub-skip-behind
+    part-skip-behind-start
+    part-skip-behind-end
+    skip-behind-requires
+    add-i-3
     loop-less-2
     loop-again-2
     returns-2)
