@@ -9,6 +9,10 @@ use lib.ListN.{length, take, drop, length-take, length-drop, take-append-drop, d
 use lib.Seq.{take-add, take-all, length-take-le}
 use Rattle.copy.specs.Copy.{Put, Copied, copied-begins, copied-done, put-fits, storedAt, take-before, drop-stored, length-stored, stored-stored, rest-of, Wrote, then, wrote-none, wrote-as, wrote-same}
 
+-- the bytes that are stored at once
+abbrev pub block : ℕ
+block = 16
+
 opened : (d : List ℕ) (at : ℕ) (s : List ℕ) → storedAt d at s ≡ take at d ++ (s ++ drop (at + length s) d)
 unfolding storedAt
 opened d at s = refl

@@ -2,6 +2,7 @@
 ghost use Prim.Native.Nat.{_+_, _≤_};
 ghost use lib.ListN.{length, take};
 ghost use Rattle.copy.specs.Copy.{Wrote};
+ghost use Rattle.writer.specs.Blocks.{block};
 
 // The bytes that are stored at once.
 const BLOCK: usize = 16;
@@ -26,8 +27,8 @@ pub fn store(out: &mut [u8], at: usize, src: &[u8])
 
 // The first block of `src`, by way of an array: `out` and `src` lie apart from it, so that it is read and written at once.
 fn store_block(out: &mut [u8], at: usize, src: &[u8])
-    requires { ⌜ (16 ≤ length (now src)) × (at + 16 ≤ length (now out)) ⌝ }
-    ensures { λ r. ⌜ Wrote (now (out .entry)) (now (out .exit)) at (at + 16) (take 16 (now (src .entry))) ⌝ }
+    requires { ⌜ (block ≤ length (now src)) × (at + block ≤ length (now out)) ⌝ }
+    ensures { λ r. ⌜ Wrote (now (out .entry)) (now (out .exit)) at (at + block) (take block (now (src .entry))) ⌝ }
 {
     let mut block = [0u8; BLOCK];
     copy::put(&mut block, 0, &src[..BLOCK]);

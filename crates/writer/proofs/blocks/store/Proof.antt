@@ -4,7 +4,7 @@ use mathlib.Core.Path.{_∙_}
 use lib.ListN.{length}
 use native.Mathlib.Omega.{arith}
 use Rattle.copy.specs.Copy.{put-fits}
-use Rattle.writer.specs.Blocks.{Stored, stored-begins, stored-more, stored-done}
+use Rattle.writer.specs.Blocks.{block, Stored, stored-begins, stored-more, stored-done}
 use borrow.Author.Needs.{needs}
 use Rattle.writer.proofs.blocks.store.Statement.{statement}
 use Rattle.writer.proofs.blocks.store.Tie as tie
@@ -52,7 +52,7 @@ loop-less : tie.Need-loop-less Inv-loop μ-loop
 loop-less c = search needs
 
 loop-again : tie.Need-loop-again Inv-loop μ-loop
-loop-again c = stored-more 16 (c .before .before .before .before .before .before .loop .inv) (omega arith) (c .before .before .store-block .ensures)
+loop-again c = stored-more block (c .before .before .before .before .before .before .loop .inv) (omega arith) (c .before .before .store-block .ensures)
 
 add-store-block-2 : tie.Need-add-store-block-2 Inv-loop μ-loop
 add-store-block-2 c = search needs
@@ -73,7 +73,7 @@ same-length-2 : tie.Need-same-length-2 Inv-loop μ-loop
 same-length-2 c = c .before .out3 .given ∙ c .before .before .before .before .before .before .loop .inv .same
 
 returns-2 : tie.Need-returns-2 Inv-loop μ-loop
-returns-2 c = stored-done 16 (c .before .before .before .before .before .before .loop .inv) (omega arith) (omega arith) (c .before .before .store-block2 .ensures)
+returns-2 c = stored-done block (c .before .before .before .before .before .before .loop .inv) (omega arith) (omega arith) (c .before .before .store-block2 .ensures)
 
 pub store-spec : {M : Type 1} → statement M
 store-spec =

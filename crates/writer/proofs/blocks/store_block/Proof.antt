@@ -1,19 +1,19 @@
--- `blocks::store_block` meets its contract. The loop's invariant: `block` is the first of `src`, and its first `i` bytes are stored.
+-- `blocks::store_block` meets its contract. The loop's invariant: the array holds the first block of `src`, and its first `i` bytes are stored.
 use Prim.Native.Nat.{_-_}
 use mathlib.Core.Path.{_≡_, refl}
 use lib.ListN.{length, take, length-take}
 use native.Mathlib.Omega.{arith}
 use Rattle.copy.specs.Copy.{Copied, copied-more}
-use Rattle.writer.specs.Blocks.{block-begins, block-done}
+use Rattle.writer.specs.Blocks.{block, block-begins, block-done}
 use borrow.Author.Needs.{needs}
 use Rattle.writer.proofs.blocks.store_block.Statement.{statement}
 use Rattle.writer.proofs.blocks.store_block.Tie as tie
 
 abbrev Inv-loop : tie.InvT-loop
-Inv-loop out₀ at src block i₀ out i = Copied out₀ at block out i × (block ≡ take 16 src) × (length block ≡ 16)
+Inv-loop out₀ at src bytes i₀ out i = Copied out₀ at bytes out i × (bytes ≡ take block src) × (length bytes ≡ block)
 
 abbrev μ-loop : tie.MeasureT-loop
-μ-loop out₀ at src block i₀ out i = 16 - i
+μ-loop out₀ at src bytes i₀ out i = block - i
 
 slice-aggregate-put : tie.Need-slice-aggregate-put Inv-loop μ-loop
 slice-aggregate-put c = search needs
@@ -25,7 +25,7 @@ put-requires : tie.Need-put-requires Inv-loop μ-loop
 put-requires c κs = search needs
 
 loop-holds : tie.Need-loop-holds Inv-loop μ-loop
-loop-holds c = block-begins 16 (c .before .before .before .before .before .before .args .src .now) (c .before .put .ensures) refl (c .before .before .before .before .before .before .pre .0) (c .before .before .before .before .before .before .pre .1)
+loop-holds c = block-begins block (c .before .before .before .before .before .before .args .src .now) (c .before .put .ensures) refl (c .before .before .before .before .before .before .pre .0) (c .before .before .before .before .before .before .pre .1)
 
 array-read-out : tie.Need-array-read-out Inv-loop μ-loop
 array-read-out c = search needs
@@ -49,7 +49,7 @@ same-length : tie.Need-same-length Inv-loop μ-loop
 same-length c = search needs
 
 returns : tie.Need-returns Inv-loop μ-loop
-returns c = block-done 16 (c .before .before .before .before .before .before .before .before .args .src .now) (c .before .loop .inv .0) (c .before .loop .inv .1) (c .before .loop .inv .2) (omega arith)
+returns c = block-done block (c .before .before .before .before .before .before .before .before .args .src .now) (c .before .loop .inv .0) (c .before .loop .inv .1) (c .before .loop .inv .2) (omega arith)
 
 pub store-block-spec : {M : Type 1} → statement M
 store-block-spec =

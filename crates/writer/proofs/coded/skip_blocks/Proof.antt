@@ -1,6 +1,5 @@
 -- `coded::skip_blocks` meets its contract. The loop's invariant: the bytes before the block are written as they are.
 use Prim.Native.Nat.{_≤_, _-_}
-use lib.ListN.{length}
 use Rattle.writer.specs.Rules.{byteOf}
 use Rattle.writer.specs.Coded.{Plain, plain-begins, plain-block, plain-last, plain-less}
 use native.Mathlib.Omega.{arith}
