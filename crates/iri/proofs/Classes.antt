@@ -1,6 +1,7 @@
 -- The tests of one character: an alternative that holds decides, and one that does not leaves the others.
 use mathlib.Core.Path.{_≡_, refl, sym, _∙_}
-use mathlib.Core.Bool.{Bool, true, false, _&&_, _||_, or-false}
+use mathlib.Core.Logic.{inl, inr}
+use mathlib.Core.Bool.{Bool, true, false, _&&_, _||_, or-false, false≢true}
 use mathlib.Core.List.{[], _∷_}
 use Prim.Native.Nat.{ℕ, _+_, _<_, _≤_}
 use native.Mathlib.Omega.{arith}
@@ -8,11 +9,13 @@ use lib.Dec.{eqb, leb}
 use lib.ListN.{length, getD}
 use borrow.Author.Tests.{eq-eqb, ne-eqb, eqb-true, le-leb, lt-leb, leb-true}
 use Rattle.spec.specs.Bytes.{Bytes, byte, between}
+use Rattle.spec.specs.Bytes as B
 use Rattle.spec.specs.Abnf.{lower}
-use Rattle.spec.proofs.Booleans.{and-left, and-right}
-use Rattle.iri.specs.Parts.{isDigit, isAlphanum, isHex, escaped}
+use Rattle.spec.proofs.Booleans.{and-left, and-right, or-left, or-cases}
+use Rattle.iri.specs.Parts.{isDigit, isAlphanum, isHex, escaped, common}
 use Rattle.iri.specs.Parts as P
 use Rattle.iri.specs.Forms.{isMark}
+use Rattle.iri.proofs.Rows.{Common, alphanum, hyphen, dot, slash, common-is}
 use Rattle.iri.proofs.Languages.{same-test, lower-mark, mark-lower}
 
 pub left : {t a b r : Bool} → t ≡ a → t ≡ false → r ≡ b → r ≡ (a || b)
@@ -76,3 +79,37 @@ escaped-by [] l e = absurd (omega arith)
 escaped-by (c ∷ []) l e = absurd (omega arith)
 escaped-by (c ∷ a ∷ []) l e = absurd (omega arith)
 escaped-by (c ∷ a ∷ b ∷ s) l e = rw (eq-eqb c 37 e)
+
+-- ---- the common characters
+
+pub common-alphanum : (t : Bool) {b d : ℕ} {r : Bool} → d ≡ b → r ≡ isAlphanum d → r ≡ true → true ≡ common t b
+unfolding common
+common-alphanum t {b} q z e = sym (or-left (isAlphanum b) _ (rw (← q) (sym z ∙ e)))
+
+common-at-slash : (t : Bool) → t ≡ common t 47
+unfolding common P.all B.all lower
+common-at-slash true = refl
+common-at-slash false = refl
+
+pub common-slash : (t : Bool) {b : ℕ} → b ≡ 47 → t ≡ common t b
+common-slash t e = rw e (common-at-slash t)
+
+common-at-hyphen : (t : Bool) → common t 45 ≡ true
+unfolding common P.all B.all lower
+common-at-hyphen t = refl
+
+common-at-dot : (t : Bool) → common t 46 ≡ true
+unfolding common P.all B.all lower
+common-at-dot t = refl
+
+pub common-mark : (t : Bool) {b d : ℕ} {r : Bool} → d ≡ b → r ≡ isAlphanum d → r ≡ false → (b ≡ 47 → ⊥) → (eqb b 45 || eqb b 46) ≡ common t b
+common-mark t {b} {d} {r} q z n m = same-test (eqb b 45 || eqb b 46) (common t b) to (λ h. from (common-is t b h))
+  where
+    to : (eqb b 45 || eqb b 46) ≡ true → common t b ≡ true
+    to h = elim (or-cases (eqb b 45) (eqb b 46) h) [ inl x ↦ rw (eqb-true b 45 x) (common-at-hyphen t) | inr y ↦ rw (eqb-true b 46 y) (common-at-dot t) ]
+
+    from : Common t b → (eqb b 45 || eqb b 46) ≡ true
+    from (alphanum h) = absurd (false≢true (sym n ∙ z ∙ rw q h))
+    from (hyphen e) = rw e refl
+    from (dot e) = rw e refl
+    from (slash h e) = absurd (m e)

@@ -1,7 +1,7 @@
 -- A row of characters from the front: what its first place takes.
 use mathlib.Core.Path.{_≡_, refl, sym, ap, _∙_}
 use mathlib.Core.Logic.{inl, inr}
-use mathlib.Core.Bool.{Bool, true, false, _&&_, false≢true}
+use mathlib.Core.Bool.{Bool, true, false, _&&_, _||_, false≢true}
 use mathlib.Core.Option.{none, some}
 use mathlib.Core.List.{List, [], _∷_, _++_, head-eq-of-cons-eq, tail-eq-of-cons-eq, nil≢cons}
 use Prim.Native.Nat.{ℕ, _+_, _<_}
@@ -9,7 +9,7 @@ use native.Mathlib.Omega.{arith}
 use lib.Dec.{eqb, leb}
 use lib.ListN.{length, drop, getD}
 use borrow.Author.Tests.{eqb-true, leb-true}
-use Rattle.spec.specs.Bytes.{Bytes, between, byte, if_then_else_}
+use Rattle.spec.specs.Bytes.{Bytes, ascii, between, byte, among, if_then_else_}
 use Rattle.spec.specs.Bytes as B
 use Rattle.spec.specs.Grammar.{_then_, many, Many, stop, more, Describes, accepts}
 use Rattle.spec.specs.Abnf.{lower, HEXDIG}
@@ -21,7 +21,7 @@ use Rattle.utils.proofs.Front.{front-characters, front-some, stuck-fails}
 use Rattle.utils.proofs.Decoding.{front-one}
 use Rattle.iri.specs.declared.Part.{Part}
 use Rattle.iri.specs.declared.Part.the-variants.{Scheme, Port, Hex, Later, UserInfo, Name, Path, Query, Fragment}
-use Rattle.iri.specs.Parts.{of, Class, set, letter, escape, _either_, grammar, allowed, escapes, isHex, isDigit, isAlpha, isAlphanum, unreserved, pchar, classOf, lettered, row, escaped, Taken}
+use Rattle.iri.specs.Parts.{of, Class, set, letter, escape, _either_, grammar, allowed, escapes, isHex, isDigit, isAlpha, isAlphanum, unreserved, pchar, classOf, lettered, slashed, common, row, escaped, Taken}
 use Rattle.iri.specs.Parts as P
 use Rattle.iri.proofs.Characters.{Reads, in-parts, reads-characters, characters-reads, reads-front, front-reads}
 use Rattle.iri.proofs.Languages.{In, of-same, of-in, same-test, letters-mark, of-one, of-nil}
@@ -209,7 +209,7 @@ taken-escape p (c ∷ a ∷ b ∷ s) h e =
     let x = and-right (eqb c 37) (isHex a && isHex b) e in
     rw (eqb-true c 37 (and-left (eqb c 37) (isHex a && isHex b) e)) (taken-triple p a b s h (and-left (isHex a) (isHex b) x) (and-right (isHex a) (isHex b) x))
 
--- ---- a letter or digit, where the part has them
+-- ---- a common character, where the part has them
 
 lettered-allows : (p : Part) (c : ℕ) → lettered p ≡ true → isAlphanum c ≡ true → allowed (classOf p) c ≡ true
 unfolding lettered allowed classOf pchar unreserved
@@ -235,8 +235,72 @@ alphanum-low : (c : ℕ) → isAlphanum c ≡ true → c < 128
 unfolding isAlphanum isDigit between byte
 alphanum-low c h = elim (or-cases (isAlpha c) (between 48 57 c) h) [ inl x ↦ alpha-low c x | inr y ↦ omega (arith, leb-true c 57 (and-right (leb 48 c) (leb c 57) y)) ]
 
-pub taken-letter : (p : Part) (s : Bytes) → lettered p ≡ true → 0 < length s → isAlphanum (getD s 0 0) ≡ true → Taken p s 1
-taken-letter p s l z h = taken-plain p s (front-one s z (alphanum-low (getD s 0 0) h)) (lettered-allows p (getD s 0 0) l h)
+hyphen-allowed : (p : Part) → lettered p ≡ true → allowed (classOf p) 45 ≡ true
+unfolding lettered allowed P.all B.all lower
+hyphen-allowed Scheme l = refl
+hyphen-allowed Port l = absurd (false≢true l)
+hyphen-allowed Hex l = absurd (false≢true l)
+hyphen-allowed Later l = refl
+hyphen-allowed UserInfo l = refl
+hyphen-allowed Name l = refl
+hyphen-allowed Path l = refl
+hyphen-allowed Query l = refl
+hyphen-allowed Fragment l = refl
+
+dot-allowed : (p : Part) → lettered p ≡ true → allowed (classOf p) 46 ≡ true
+unfolding lettered allowed P.all B.all lower
+dot-allowed Scheme l = refl
+dot-allowed Port l = absurd (false≢true l)
+dot-allowed Hex l = absurd (false≢true l)
+dot-allowed Later l = refl
+dot-allowed UserInfo l = refl
+dot-allowed Name l = refl
+dot-allowed Path l = refl
+dot-allowed Query l = refl
+dot-allowed Fragment l = refl
+
+slash-allowed : (p : Part) → slashed p ≡ true → allowed (classOf p) 47 ≡ true
+unfolding slashed allowed P.all B.all lower
+slash-allowed Scheme l = absurd (false≢true l)
+slash-allowed Port l = absurd (false≢true l)
+slash-allowed Hex l = absurd (false≢true l)
+slash-allowed Later l = absurd (false≢true l)
+slash-allowed UserInfo l = absurd (false≢true l)
+slash-allowed Name l = absurd (false≢true l)
+slash-allowed Path l = refl
+slash-allowed Query l = refl
+slash-allowed Fragment l = refl
+
+-- what a common character is
+pub data Common (t : Bool) (c : ℕ) : Type 0 where
+  alphanum : isAlphanum c ≡ true → Common t c
+  hyphen : c ≡ 45 → Common t c
+  dot : c ≡ 46 → Common t c
+  slash : t ≡ true → c ≡ 47 → Common t c
+
+pub common-is : (t : Bool) (c : ℕ) → common t c ≡ true → Common t c
+unfolding common among ascii byte
+common-is t c h = elim (or-cases (isAlphanum c) _ h) [ inl x ↦ alphanum x | inr y ↦ elim (or-cases (among (ascii "-.") c) (t && eqb c 47) y) [ inl z ↦ marks z | inr z ↦ slash (and-left t (eqb c 47) z) (eqb-true c 47 (and-right t (eqb c 47) z)) ] ]
+  where
+    marks : among (ascii "-.") c ≡ true → Common t c
+    marks z = elim (or-cases (eqb 45 c) (eqb 46 c || false) z) [ inl x ↦ hyphen (sym (eqb-true 45 c x)) | inr y ↦ elim (or-cases (eqb 46 c) false y) [ inl x ↦ dot (sym (eqb-true 46 c x)) | inr x ↦ absurd (false≢true x) ] ]
+
+common-low : {t : Bool} {c : ℕ} → Common t c → c < 128
+common-low {t} {c} (alphanum h) = alphanum-low c h
+common-low (hyphen e) = omega (arith, e)
+common-low (dot e) = omega (arith, e)
+common-low (slash h e) = omega (arith, e)
+
+common-allowed : (p : Part) {c : ℕ} → lettered p ≡ true → Common (slashed p) c → allowed (classOf p) c ≡ true
+common-allowed p {c} l (alphanum h) = lettered-allows p c l h
+common-allowed p l (hyphen e) = rw e (hyphen-allowed p l)
+common-allowed p l (dot e) = rw e (dot-allowed p l)
+common-allowed p l (slash h e) = rw e (slash-allowed p h)
+
+pub taken-common : (p : Part) (s : Bytes) → lettered p ≡ true → 0 < length s → common (slashed p) (getD s 0 0) ≡ true → Taken p s 1
+taken-common p s l z h =
+    let x = common-is (slashed p) (getD s 0 0) h in
+    taken-plain p s (front-one s z (common-low x)) (common-allowed p l x)
 
 -- ---- the parts are those of RFC 3987
 

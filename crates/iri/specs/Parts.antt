@@ -96,7 +96,7 @@ classOf Path = pchar either letter (byte "/")
 classOf Query = pchar either set isIprivate either set (among (ascii "/?"))
 classOf Fragment = pchar either set (among (ascii "/?"))
 
--- does it allow every letter and digit of ASCII?
+-- does it allow every letter and digit of ASCII, "-" and "."?
 unfoldable pub lettered : Part → Bool
 lettered Scheme = true
 lettered Port = false
@@ -107,6 +107,22 @@ lettered Name = true
 lettered Path = true
 lettered Query = true
 lettered Fragment = true
+
+-- and "/"?
+unfoldable pub slashed : Part → Bool
+slashed Scheme = false
+slashed Port = false
+slashed Hex = false
+slashed Later = false
+slashed UserInfo = false
+slashed Name = false
+slashed Path = true
+slashed Query = true
+slashed Fragment = true
+
+-- a letter or digit, "-" or ".", or "/" where so said
+unfoldable pub common : Bool → ℕ → Bool
+common t c = isAlphanum c || (among (ascii "-.") c || (t && eqb c (byte "/")))
 
 -- such a part
 unfoldable pub row : Part → Grammar ℕ
@@ -124,6 +140,11 @@ pub record Taken (p : Part) (s : Bytes) (n : ℕ) : Type 0 where
   pub within : n ≤ length s
   pub none : n ≡ 0 → 0 < length s → of (row p) s ≡ false
   pub some : 0 < n → of (row p) s ≡ of (row p) (drop n s)
+
+-- the first `at` bytes are places of a row: the whole is one if the rest is
+pub record Walked (p : Part) (s : Bytes) (at : ℕ) : Type 0 where
+  pub upto : at ≤ length s
+  pub rest : of (row p) s ≡ of (row p) (drop at s)
 
 unfoldable pub all : Unit {0}
 unfolding B.all lower isAlpha isDigit isAlphanum isHex ucschars isUcschar iprivates isIprivate unreserved delims pchar classOf

@@ -7,7 +7,7 @@ ghost use lib.ListN.{length};
 ghost use Rattle.spec.specs.Bytes.{among, between};
 ghost use Rattle.spec.specs.Abnf.{lower, some};
 ghost use Rattle.spec.specs.Rfc3987.{isIri, isIriReference, scheme, iauthority, IPv6address, IPvFuture, IPv4address, h16, dec-octet};
-ghost use Rattle.iri.specs.Parts.{of, grammar, classOf, allowed, escapes, unreserved, delims, pchar, row, escaped, isAlpha, isDigit, isAlphanum, isHex, isUcschar, isIprivate, lettered, Taken};
+ghost use Rattle.iri.specs.Parts.{of, grammar, classOf, allowed, escapes, unreserved, delims, pchar, row, escaped, isAlpha, isDigit, isAlphanum, isHex, isUcschar, isIprivate, lettered, slashed, common, Taken, Walked};
 ghost use Rattle.iri.specs.Forms.{optionally, isMark, restOf, partOf, network, server, bracketed, literal, version, colonless};
 ghost use Rattle.iri.specs.Addresses.{Counted, upToGap, octet};
 use utils::Decoded;
@@ -382,23 +382,37 @@ fn is_filled(part: Part, s: &[u8]) -> bool
 fn is_row(part: Part, s: &[u8]) -> bool
     ensures { λ r. ⌜ r ≡ of (row part) (now (s .entry)) ⌝ }
 {
-    let lettered = has_letters(part);
-    let mut at: usize = 0;
+    let mut at = skip_common(part, s);
     while at < s.len() {
-        if lettered & is_alphanum(as_char(s[at])) {
-            at += 1;
-            continue;
-        }
         let n = take_one(part, &s[at..]);
         if n == 0 {
             return false;
         }
-        at += n;
+        let next = at + n;
+        at = next + skip_common(part, &s[next..]);
     }
     true
 }
 
-// Do all letters and digits stand in a part as they are? They are most of what IRIs are made of.
+// How many common bytes there are at its front, where the part has all of them: they are most of what IRIs are made of.
+fn skip_common(part: Part, s: &[u8]) -> usize
+    ensures { λ r. ⌜ Walked part (now (s .entry)) r ⌝ }
+{
+    if !has_letters(part) {
+        return 0;
+    }
+    let slashed = has_slash(part);
+    let mut i: usize = 0;
+    while i < s.len() {
+        if !is_common(s[i], slashed) {
+            return i;
+        }
+        i += 1;
+    }
+    i
+}
+
+// Do all letters and digits, "-" and "." stand in a part as they are?
 fn has_letters(part: Part) -> bool
     ensures { λ r. ⌜ r ≡ lettered part ⌝ }
 {
@@ -413,6 +427,36 @@ fn has_letters(part: Part) -> bool
         Part::Query => true,
         Part::Fragment => true,
     }
+}
+
+// And "/"?
+fn has_slash(part: Part) -> bool
+    ensures { λ r. ⌜ r ≡ slashed part ⌝ }
+{
+    match part {
+        Part::Scheme => false,
+        Part::Port => false,
+        Part::Hex => false,
+        Part::Later => false,
+        Part::UserInfo => false,
+        Part::Name => false,
+        Part::Path => true,
+        Part::Query => true,
+        Part::Fragment => true,
+    }
+}
+
+// Letters and digits, "-" and ".", and "/" where so said.
+fn is_common(b: u8, slashed: bool) -> bool
+    ensures { λ r. ⌜ r ≡ common slashed b ⌝ }
+{
+    if is_alphanum(as_char(b)) {
+        return true;
+    }
+    if b == b'/' {
+        return slashed;
+    }
+    (b == b'-') | (b == b'.')
 }
 
 // How many bytes the first character of a part takes, 0 where there is none.

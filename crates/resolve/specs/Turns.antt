@@ -7,7 +7,7 @@ use native.Mathlib.Omega.{arith}
 use native.Mathlib.Nat.{add-zero}
 use native.Mathlib.Numerals.{add-one}
 use lib.ListN.{length, take, drop, getD, set, length-append, length-drop, length-set, length-reverse, drop-of-length-le}
-use lib.Seq.{take-suc, take-length, take-take, take-at, drop-at, take-append-le, length-take-le, drop-drop, drop-length, getD-drop, take-suc-set, drop-set-lt}
+use lib.Seq.{take-add, take-suc, take-length, take-take, take-at, drop-at, take-append-le, length-take-le, drop-drop, drop-length, getD-drop, take-suc-set, drop-set-lt}
 use borrow.Author.Tests.{eqb-true, ne-eqb}
 use Rattle.spec.specs.Bytes.{Bytes, ascii, if_then_else_, same, begins, after, upTo, from, among}
 use Rattle.spec.specs.Rfc3986.{withoutLast, firstSegment, turn, turns, removeDotSegments}
@@ -300,6 +300,10 @@ module _ {p w : Bytes} {i o : ℕ} where
   unfolding turned size
   removing-segment {e} {n} h f =
       record { same = f .same ∙ h .same; order = omega arith; within = omega arith; is = rw (f .behind, f .front) (rw drop-drop at (h .is)) }
+
+-- bytes that stand where they are to be
+pub shifted-still : {d : Bytes} {to from n : ℕ} → to ≡ from → Shifted d d to from n
+shifted-still {d} {to} {from} {n} e = record { same = refl; front = rw (← e) (take-add to n d); behind = refl }
 
 -- the loop of `shift`: `k` bytes are copied
 pub shifted-begins : {d : Bytes} {to from : ℕ} → Shifted d d to from 0

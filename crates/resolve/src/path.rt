@@ -99,11 +99,14 @@ fn without_last(s: &[u8]) -> usize
     n - 1
 }
 
-// The `n` bytes at `from` are copied to `to`, which is not behind them.
+// The `n` bytes at `from` are copied to `to`, which is not behind them. Mostly they stand there.
 fn shift(path: &mut [u8], to: usize, from: usize, n: usize)
     requires { ⌜ (to ≤ from) × (from + n ≤ length (now path)) ⌝ }
     ensures { λ r. ⌜ Shifted (now (path .entry)) (now (path .exit)) to from n ⌝ }
 {
+    if to == from {
+        return;
+    }
     let mut k: usize = 0;
     while k < n {
         path[to + k] = path[from + k];

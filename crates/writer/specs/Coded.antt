@@ -87,6 +87,13 @@ plain-block {w} {s} {i} {a} {b} {m} p l c n u =
       each = λ k h. ⊎-elim (λ (x : i ≤ k). c .each n k (omega arith) h) (λ (x : k < i). p .each k x) (compare i k);
     }
 
+-- the last one
+pub plain-last : {w : ℕ → Bytes} {s : Bytes} {a b : ℕ} {m : Bool} → Plain w s a → Clean w s a b m → m ≡ false → b ≡ length s → Plain w s (length s)
+plain-last p c n e = rw (← e) (plain-block p (omega arith) c n (omega (arith, e)))
+
+pub plain-less : {w : ℕ → Bytes} {s : Bytes} {a b : ℕ} → Plain w s a → b ≤ a → Plain w s b
+plain-less p l = record { upto = omega (arith, p .upto); each = λ k h. p .each k (omega arith) }
+
 -- ---- the loops that write, behind a first run of `j` bytes: whoever wrote those has written the first `i` now
 
 pub record Going (w : ℕ → Bytes) (on : Bool) (d e : List ℕ) (at to : ℕ) (s : Bytes) (j i : ℕ) : Type 0 where

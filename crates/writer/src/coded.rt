@@ -63,16 +63,14 @@ fn skip_blocks(s: &[u8], rule: Rule) -> usize
         return 0;
     }
     let last = s.len() - BLOCK;
-    let mut i = 0;
-    while i < s.len() {
-        let from = least(i, last);
-        let to = from + BLOCK;
-        if has_marked(s, from, to, rule) {
-            return i;
+    let mut from = 0;
+    while !has_marked(s, from, from + BLOCK, rule) {
+        if from == last {
+            return s.len();
         }
-        i = to;
+        from = least(from + BLOCK, last);
     }
-    i
+    from
 }
 
 // Is one marked? The loop has no branch, so that a block is tested at once.

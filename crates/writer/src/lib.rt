@@ -4,6 +4,7 @@ ghost use mathlib.Core.Path.{_≡_};
 ghost use mathlib.Core.List.{[], _∷_};
 ghost use Rattle.writer.specs.Put.{counted, Put};
 
+mod blocks;
 pub mod coded;
 pub mod content;
 pub mod iriref;
@@ -44,7 +45,7 @@ pub fn bytes(out: &mut [u8], at: usize, on: bool, src: &[u8]) -> usize
     }
     let room = out.len() - at;
     if src.len() <= room {
-        copy::put(out, at, src);
+        blocks::store(out, at, src);
         return at + src.len();
     }
     copy::put(out, at, &src[..room]);

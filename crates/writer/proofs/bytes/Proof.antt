@@ -23,8 +23,8 @@ returns-2 c = put-full (omega arith) (c .counted2 .ensures)
 sub-room : tie.Need-sub-room
 sub-room c = search needs
 
-put-requires : tie.Need-put-requires
-put-requires c κs = search needs
+store-requires : tie.Need-store-requires
+store-requires c κs = omega arith
 
 add-result : tie.Need-add-result
 add-result c = search needs
@@ -33,22 +33,22 @@ same-length : tie.Need-same-length
 same-length c = search needs
 
 returns-3 : tie.Need-returns-3
-returns-3 c = put-all (not-false _ (c .before .before .before .before .before .before .if1 .left)) (omega arith) (put-fits (c .before .before .put .ensures) (omega arith))
+returns-3 c = put-all (not-false _ (c .before .before .before .before .before .before .if1 .left)) (omega arith) (c .before .before .store .ensures)
 
 slice-aggregate-put : tie.Need-slice-aggregate-put
 slice-aggregate-put c = simp length-take (omega arith)
 
-put-requires-2 : tie.Need-put-requires-2
-put-requires-2 c κs = search needs
+put-requires : tie.Need-put-requires
+put-requires c κs = search needs
 
 counted-requires-3 : tie.Need-counted-requires-3
 counted-requires-3 c κs = search needs
 
 same-length-2 : tie.Need-same-length-2
-same-length-2 c = search needs
+same-length-2 c = c .before .before .out2 .given
 
 returns-4 : tie.Need-returns-4
-returns-4 c = put-part (not-false _ (c .before .before .before .before .before .before .before .before .if1 .left)) (omega arith) (c .counted3 .ensures) (put-fits (c .before .before .before .put2 .ensures) (simp length-take (omega arith)))
+returns-4 c = put-part (not-false _ (c .before .before .before .before .before .before .before .before .if1 .left)) (omega arith) (c .counted3 .ensures) (put-fits (c .before .before .before .put .ensures) (simp length-take (omega arith)))
 
 pub bytes-spec : {M : Type 1} → statement M
 bytes-spec =
@@ -59,12 +59,12 @@ bytes-spec =
     counted-requires-2
     returns-2
     sub-room
-    put-requires
+    store-requires
     add-result
     same-length
     returns-3
     slice-aggregate-put
-    put-requires-2
+    put-requires
     counted-requires-3
     same-length-2
     returns-4)

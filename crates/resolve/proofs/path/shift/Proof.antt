@@ -1,7 +1,7 @@
 -- `resolve::path::shift` meets its contract. The loop's invariant: the first `k` bytes are copied.
 use Prim.Native.Nat.{_≤_, _-_}
 use mathlib.Core.Path.{_≡_}
-use Rattle.resolve.specs.Turns.{Shifted, shifted-begins, shifted-more}
+use Rattle.resolve.specs.Turns.{Shifted, shifted-still, shifted-begins, shifted-more}
 use native.Mathlib.Omega.{arith}
 use borrow.Author.Needs.{needs}
 use Rattle.resolve.proofs.path.shift.Statement.{statement}
@@ -12,6 +12,9 @@ Inv-loop path₀ to from n k₀ path k = Shifted path₀ path to from k × (k �
 
 abbrev μ-loop : tie.MeasureT-loop
 μ-loop path₀ to from n k₀ path k = n - k
+
+returns : tie.Need-returns Inv-loop μ-loop
+returns c = shifted-still (c .if1 .taken)
 
 loop-holds : tie.Need-loop-holds Inv-loop μ-loop
 loop-holds c = (shifted-begins, omega arith)
@@ -40,8 +43,8 @@ loop-again c = (shifted-more (c .before .before .loop .inv .0) (omega arith) (om
 same-length : tie.Need-same-length Inv-loop μ-loop
 same-length c = search needs
 
-returns : tie.Need-returns Inv-loop μ-loop
-returns c = let e : c .before .loop .k ≡ c .before .before .args .n = omega arith in rw (← e) (c .before .loop .inv .0)
+returns-2 : tie.Need-returns-2 Inv-loop μ-loop
+returns-2 c = let e : c .before .loop .k ≡ c .before .before .before .args .n = omega arith in rw (← e) (c .before .loop .inv .0)
 
 pub shift-spec : {M : Type 1} → statement M
 shift-spec =
@@ -49,6 +52,7 @@ shift-spec =
     (tie.spec
     Inv-loop
     μ-loop
+    returns
     loop-holds
     add-path
     slice-read-path
@@ -58,4 +62,4 @@ shift-spec =
     loop-less
     loop-again
     same-length
-    returns)
+    returns-2)
