@@ -13,6 +13,9 @@ ghost use Rattle.utils.specs.Names.{nameOf, isNCRest, startsNC, goesOnNC
 ghost use Rattle.utils.specs.Plain.{plain, plainText, printable};
 ghost use Rattle.utils.specs.Walking.{Walked, Steps};
 
+// The bytes that are tested at once.
+const BLOCK: usize = 16;
+
 // What some bytes begin with: nothing, a character and how many bytes it has, or no character.
 pub enum Decoded {
     End,
@@ -184,13 +187,13 @@ pub fn is_blank(s: &[u8]) -> bool
 pub fn is_printable(s: &[u8]) -> bool
     ensures { λ r. ⌜ (r ≡ true → every printable (now (s .entry)) ≡ true) ⌝ }
 {
-    if s.len() < 16 {
+    if s.len() < BLOCK {
         return is_printable_short(s);
     }
-    let last = s.len() - 16;
+    let last = s.len() - BLOCK;
     let mut i = 0;
     while i < last {
-        let end = i + 16;
+        let end = i + BLOCK;
         if !is_printable_block(&s[i..end]) {
             return false;
         }
@@ -310,13 +313,13 @@ fn sequence(s: &[u8], n: usize, bits: u32, low: u32) -> Decoded
 fn skip_plain(s: &[u8]) -> usize
     ensures { λ r. ⌜ Walked (asCharacters (every isChar)) (now (s .entry)) r ⌝ }
 {
-    if s.len() < 16 {
+    if s.len() < BLOCK {
         return 0;
     }
-    let last = s.len() - 16;
+    let last = s.len() - BLOCK;
     let mut i = 0;
     while i < last {
-        let end = i + 16;
+        let end = i + BLOCK;
         if !is_plain_block(&s[i..end]) {
             return i;
         }
