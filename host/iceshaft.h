@@ -32,7 +32,7 @@ extern "C" {
  * Two buffers of one call do not overlap. A length of 0 goes with any pointer, NULL too: no byte
  * is read or written there.
  */
-#define ICESHAFT_STATE_BYTES 11112
+#define ICESHAFT_STATE_BYTES 11128
 #define ICESHAFT_WORK_BYTES 65536
 #define ICESHAFT_IDS_BYTES 32768
 
@@ -41,7 +41,8 @@ enum {
     ICESHAFT_DONE = 0,             /* done; the document goes on */
     ICESHAFT_INCOMPLETE = 1,       /* no complete event yet; with "no more", the rest is empty */
     ICESHAFT_NO_ROOM = 2,          /* this event's lines exceed the output room */
-    ICESHAFT_BAD_STATE = 3,        /* a buffer of wrong length, or bytes that are no state */
+    ICESHAFT_BAD_STATE = 3,        /* a buffer of wrong length, bytes that are no state, or a mode
+                                      that is none */
     ICESHAFT_CLOSED = 4,           /* closed by finish or by a refusal */
     ICESHAFT_NOT_PYX = 5,          /* not UTF-8, a forbidden character, not PYX, last line unended */
     ICESHAFT_NOT_WELL_FORMED = 6,  /* end tag without match, second root, repeated attribute, illegal
@@ -59,7 +60,25 @@ enum {
                                       rdf:resource and rdf:nodeID on a property */
     ICESHAFT_STRAY_TEXT = 16,      /* text that is not blank where none may stand */
     ICESHAFT_EMPTY_LITERAL = 17,   /* a parseType Literal closes with its XML text empty */
-    ICESHAFT_LABELS_SPENT = 18     /* a 100,000,000th label, or a 100,000,000th rdf:li in one node */
+    ICESHAFT_LABELS_SPENT = 18,    /* a 100,000,000th label, or a 100,000,000th rdf:li in one node */
+    ICESHAFT_NOT_IN_PROFILE = 19   /* in the mode ICESHAFT_XMP: a rule of the XMP profile is broken */
+};
+
+/*
+ * Modes: what a document is read as. It is chosen at start and holds up to the next accepted start.
+ *
+ *   ICESHAFT_BASE  any RDF/XML
+ *   ICESHAFT_XMP   an XMP packet. Its root is rdf:RDF, or the wrapper, adobe:ns:meta/ xmpmeta, with
+ *                  exactly one rdf:RDF in it; the wrapper's attributes but its namespaces mean
+ *                  nothing. The elements in rdf:RDF are rdf:Description, with one resolved rdf:about.
+ *                  rdf:ID, rdf:nodeID, rdf:datatype and every rdf:parseType but Resource are out.
+ *                  Where the first rdf:li of an rdf:Alt carries xml:lang, every other one does.
+ *                  What breaks one of these rules gets 19. The lines are those of rdf:RDF alone.
+ *                  Most packets have rdf:about="" and so need a start base.
+ */
+enum {
+    ICESHAFT_BASE = 0,
+    ICESHAFT_XMP = 1
 };
 
 /* Limits, refused by 7 where they are passed; the last by 18. */
@@ -86,7 +105,7 @@ enum {
  *     32,768 bytes at hand 1 is never given. How the input is cut into calls changes no line.
  *  4. With "no more" 1 is given for an empty rest alone. Then call finish. Only its 0 says that the
  *     document was whole.
- *  5. 3 changes nothing. 4 changes nothing: start anew. 5 to 18 close the document, by a mark in
+ *  5. 3 changes nothing. 4 changes nothing: start anew. 5 to 19 close the document, by a mark in
  *     `state`, and change nothing else: every further step or finish gets 4. Lines of earlier
  *     events stand.
  *  6. On every answer but 0 `*consumed` and `*written` are 0, and `out`, `work` and `ids` are as
@@ -99,17 +118,19 @@ enum {
 size_t iceshaft_state_bytes(void);
 
 /*
- * A document begins. Where `based` is not 0, `base` is its start base: an absolute IRI of at most
+ * A document begins, in this mode: ICESHAFT_BASE or ICESHAFT_XMP; any other number gets 3 and
+ * changes nothing. Where `based` is not 0, `base` is its start base: an absolute IRI of at most
  * 1,024 bytes. Answers 0, 3, 11 or 7.
  */
 uint8_t iceshaft_start(uint8_t *state, size_t state_bytes,
                        uint8_t *work, size_t work_bytes,
                        const uint8_t *ids, size_t ids_bytes,
+                       uint32_t mode,
                        uint32_t based, const uint8_t *base, size_t base_bytes);
 
 /*
  * The first event of `input`; where `last` is not 0, no more input follows. Its lines go to the
- * front of `out`. Answers 0 to 18.
+ * front of `out`. Answers 0 to 19, and 19 in the mode ICESHAFT_XMP alone.
  */
 uint8_t iceshaft_step(uint8_t *state, size_t state_bytes,
                       uint8_t *work, size_t work_bytes,

@@ -71,7 +71,7 @@ static int document(FILE *in)
 {
     unsigned long event = 0;
     uint8_t answer = iceshaft_start(state, sizeof state, work, sizeof work, ids, sizeof ids,
-                                    0, NULL, 0);
+                                    ICESHAFT_BASE, 0, NULL, 0);
     if (answer == ICESHAFT_DONE)
         answer = run(in, &event);
     if (answer == ICESHAFT_DONE)

@@ -66,6 +66,48 @@ static const char notes_lines[] =
     "<http://base/x#n> <http://e/says> \"one \\\\ two\\nthree\"@en-gb .\n"
     "<http://base/x#n> <http://e/marked> \"<e:b>&lt;bold&gt;</e:b>\"^^<" RDF "XMLLiteral> .\n";
 
+/* A packet: an instruction, the wrapper with an attribute, the start base by an empty rdf:about. */
+#define PACKET \
+    "?xpacket begin=\"\"\n" \
+    "(x:xmpmeta\n" \
+    "Axmlns:x adobe:ns:meta/\n" \
+    "Ax:xmptk by hand\n" \
+    "-\\n\n" \
+    "(rdf:RDF\n" \
+    "Axmlns:rdf " RDF "\n" \
+    "Axmlns:e http://e/\n" \
+    "(rdf:Description\n" \
+    "Ardf:about \n" \
+    "Ae:date 2026-11-17\n" \
+    "(e:title\n" \
+    "(rdf:Alt\n" \
+    "(rdf:li\n" \
+    "Axml:lang x-default\n" \
+    "-ice\n" \
+    ")rdf:li\n"
+static const char packet[] =
+    PACKET
+    "(rdf:li\n"
+    "Axml:lang de\n"
+    "-Eis\n"
+    ")rdf:li\n"
+    ")rdf:Alt\n"
+    ")e:title\n"
+    ")rdf:Description\n"
+    ")rdf:RDF\n"
+    "-\\n\n"
+    ")x:xmpmeta\n"
+    "?xpacket end=\"w\"\n";
+static const char packet_lines[] =
+    "<http://base/x> <http://e/date> \"2026-11-17\" .\n"
+    "_:riog00000002 <" RDF "type> <" RDF "Alt> .\n"
+    "_:riog00000002 <" RDF "_1> \"ice\"@x-default .\n"
+    "_:riog00000002 <" RDF "_2> \"Eis\"@de .\n"
+    "<http://base/x> <http://e/title> _:riog00000002 .\n";
+
+/* A second rdf:li that carries no xml:lang, where the first does. */
+static const char uncarried[] = PACKET "(rdf:li\n";
+
 static int passed, failed;
 
 static void check(int ok, const char *what)
@@ -144,14 +186,19 @@ static int guards_kept(size_t written)
 
 static size_t consumed, written;
 
-static uint8_t start_on(const char *base)
+static uint8_t start_in(uint32_t mode, const char *base)
 {
     remember();
     uint8_t n = iceshaft_start(STATE, ICESHAFT_STATE_BYTES, WORK, ICESHAFT_WORK_BYTES,
-                               IDS, ICESHAFT_IDS_BYTES, base != NULL,
+                               IDS, ICESHAFT_IDS_BYTES, mode, base != NULL,
                                (const uint8_t *)base, base == NULL ? 0 : strlen(base));
     check(n == 0 ? guards_kept(0) : nothing_changed(), "start: bytes that must stay");
     return n;
+}
+
+static uint8_t start_on(const char *base)
+{
+    return start_in(ICESHAFT_BASE, base);
 }
 
 static uint8_t step_on(const char *input, size_t size, uint32_t last, size_t room)
@@ -204,22 +251,34 @@ static uint8_t steps(const char *text, size_t size, size_t piece)
     }
 }
 
-/* A whole document, which must be accepted and give these lines. */
-static void whole(const char *text, const char *base, size_t piece, const char *expected,
-                  const char *what)
+/* A whole document, which must be accepted in this mode and give these lines. */
+static void whole_in(uint32_t mode, const char *text, const char *base, size_t piece,
+                     const char *expected, const char *what)
 {
     lines_size = 0;
-    int ok = start_on(base) == 0 && steps(text, strlen(text), piece) == 1 && finish_on() == 0;
+    int ok = start_in(mode, base) == 0 && steps(text, strlen(text), piece) == 1 && finish_on() == 0;
     check(ok && lines_size == strlen(expected) && memcmp(lines, expected, lines_size) == 0, what);
 }
 
-/* A document whose last event is refused by n. */
-static void refused(const char *text, uint8_t n, const char *what)
+static void whole(const char *text, const char *base, size_t piece, const char *expected,
+                  const char *what)
+{
+    whole_in(ICESHAFT_BASE, text, base, piece, expected, what);
+}
+
+/* A document that is refused by n in this mode, and closed by it. */
+static void refused_in(uint32_t mode, const char *base, const char *text, uint8_t n, const char *what)
 {
     noise_all();
-    check(start_on(NULL) == 0 && steps(text, strlen(text), 1 << 16) == n, what);
+    lines_size = 0;
+    check(start_in(mode, base) == 0 && steps(text, strlen(text), 1 << 16) == n, what);
     check(step_on("?x\n", 3, 1, OUT_BYTES) == 4, "closed: step gets 4");
     check(finish_on() == 4, "closed: finish gets 4");
+}
+
+static void refused(const char *text, uint8_t n, const char *what)
+{
+    refused_in(ICESHAFT_BASE, NULL, text, n, what);
 }
 
 /* ---- tests */
@@ -232,7 +291,7 @@ static void test_sizes(void)
 static void test_null(void)
 {
     consumed = written = UNSET;
-    check(iceshaft_start(NULL, 0, NULL, 0, NULL, 0, 0, NULL, 0) == 3, "start on nothing");
+    check(iceshaft_start(NULL, 0, NULL, 0, NULL, 0, ICESHAFT_BASE, 0, NULL, 0) == 3, "start on nothing");
     check(iceshaft_step(NULL, 0, NULL, 0, NULL, 0, NULL, 0, 0, NULL, 0, &consumed, &written) == 3
           && consumed == 0 && written == 0, "step on nothing");
     check(iceshaft_finish(NULL, 0, NULL, 0, NULL, 0) == 3, "finish on nothing");
@@ -244,7 +303,7 @@ static void test_null(void)
           "no input, no room");
     check(step_on(list, strlen(list), 1, 0) == 2, "no room");
     check(iceshaft_start(STATE, ICESHAFT_STATE_BYTES, WORK, ICESHAFT_WORK_BYTES, IDS,
-                         ICESHAFT_IDS_BYTES, 1, NULL, 0) == 11, "an empty base is no IRI");
+                         ICESHAFT_IDS_BYTES, ICESHAFT_BASE, 1, NULL, 0) == 11, "an empty base is no IRI");
 }
 
 /* Each buffer is one byte short, one byte long, and empty, in a document that is open. */
@@ -260,7 +319,8 @@ static void test_lengths(void)
             size_t i = ICESHAFT_IDS_BYTES + (size_t)(which == 2 ? off[k] : 0);
             remember();
             consumed = written = UNSET;
-            check(iceshaft_start(STATE, s, WORK, w, IDS, i, 0, NULL, 0) == 3, "start, wrong length");
+            check(iceshaft_start(STATE, s, WORK, w, IDS, i, ICESHAFT_BASE, 0, NULL, 0) == 3,
+                  "start, wrong length");
             check(nothing_changed(), "start, wrong length: bytes");
             check(iceshaft_step(STATE, s, WORK, w, IDS, i, (const uint8_t *)list, strlen(list), 1,
                                 OUT, OUT_BYTES, &consumed, &written) == 3
@@ -283,8 +343,8 @@ static void test_noise(void)
         noise_all();
         check(step_on(list, strlen(list), 1, OUT_BYTES) == 3, "step on noise");
         check(finish_on() == 3, "finish on noise");
-        /* the flags are 0 or 1, all else is noise */
-        for (int i = 0; i < 24; i++)
+        /* the flags and the mode are 0 or 1, all else is noise */
+        for (int i = 0; i < 32; i++)
             STATE[i] = i % 8 == 0 ? noise() & 1 : 0;
         check(step_on(list, strlen(list), 1, OUT_BYTES) == 3, "step on noise with flags");
         check(finish_on() == 3, "finish on noise with flags");
@@ -292,34 +352,41 @@ static void test_noise(void)
     whole(list, NULL, 1 << 16, list_lines, "start on noise");
 }
 
-/* Every byte of a state is damaged, one at a time: each call answers, and keeps to its buffers. */
-static void test_damage(void)
+/* Every byte of the state behind these events is damaged, one at a time: each call answers, and keeps
+   to its buffers. */
+static void damage(uint32_t mode, const char *text, int events, const char *what)
 {
     static struct buffers good;
     noise_all();
-    start_on("http://base/x");
+    start_in(mode, "http://base/x");
     size_t at = 0;
-    for (int k = 0; k < 5; k++) {
-        step_on(notes + at, strlen(notes) - at, 1, OUT_BYTES);
+    for (int k = 0; k < events; k++) {
+        step_on(text + at, strlen(text) - at, 1, OUT_BYTES);
         at += consumed;
     }
     memcpy(&good, &b, sizeof b);
-    unsigned counts[19] = { 0 };
+    unsigned counts[20] = { 0 };
     for (size_t i = 0; i < ICESHAFT_STATE_BYTES; i++) {
         memcpy(&b, &good, sizeof b);
         STATE[i] ^= (uint8_t)(1 + noise() % 255);
-        uint8_t n = step_on(notes + at, strlen(notes) - at, 1, OUT_BYTES);
-        check(n <= 18, "a number");
-        counts[n <= 18 ? n : 18]++;
+        uint8_t n = step_on(text + at, strlen(text) - at, 1, OUT_BYTES);
+        check(n <= 19, "a number");
+        counts[n <= 19 ? n : 19]++;
         memcpy(&b, &good, sizeof b);
         STATE[i] ^= (uint8_t)(1 + noise() % 255);
         n = finish_on();
         check(n == 3 || n == 4 || n == 6, "a number at finish");
     }
-    printf("damaged states: %u of %u refused by 3\n", counts[3], ICESHAFT_STATE_BYTES);
+    printf("damaged states of %s: %u of %u refused by 3\n", what, counts[3], ICESHAFT_STATE_BYTES);
     memcpy(&b, &good, sizeof b);
     lines_size = 0;
-    check(steps(notes + at, strlen(notes) - at, 1 << 16) == 1 && finish_on() == 0, "undamaged");
+    check(steps(text + at, strlen(text) - at, 1 << 16) == 1 && finish_on() == 0, "undamaged");
+}
+
+static void test_damage(void)
+{
+    damage(ICESHAFT_BASE, notes, 5, "a note");
+    damage(ICESHAFT_XMP, packet, 10, "a packet");
 }
 
 /* The same buffers serve a second document, after finish, after a refusal, and in the middle. */
@@ -401,11 +468,59 @@ static void test_flags(void)
     noise_all();
     for (size_t k = 0; k < sizeof yes / sizeof yes[0]; k++) {
         check(iceshaft_start(STATE, ICESHAFT_STATE_BYTES, WORK, ICESHAFT_WORK_BYTES, IDS,
-                             ICESHAFT_IDS_BYTES, yes[k], (const uint8_t *)"x", 1) == 11, "based");
+                             ICESHAFT_IDS_BYTES, ICESHAFT_BASE, yes[k], (const uint8_t *)"x", 1) == 11,
+              "based");
         check(start_on(NULL) == 0, "not based");
         check(step_on("?x", 2, 0, OUT_BYTES) == 1, "more may follow");
         check(step_on("?x", 2, yes[k], OUT_BYTES) == 5, "no more follows");
     }
+}
+
+/* A number that is no mode: 3, whatever the buffers hold and before the base is looked at. */
+static void test_unknown_modes(void)
+{
+    static const uint32_t none[] = { 2, 3, 255, 256, 257, 65536, 0x80000000u, 0xffffffffu };
+    for (size_t k = 0; k < sizeof none / sizeof none[0]; k++) {
+        noise_all();
+        check(start_in(none[k], NULL) == 3, "an unknown mode");
+        check(start_in(none[k], "http://base/x") == 3, "an unknown mode with a base");
+        check(start_in(none[k], "x") == 3, "an unknown mode and a bad base");
+        check(start_in(ICESHAFT_XMP, "http://base/x") == 0 && start_in(none[k], NULL) == 3,
+              "an unknown mode behind a start");
+        lines_size = 0;
+        check(steps(packet, strlen(packet), 1 << 16) == 1 && finish_on() == 0
+              && lines_size == strlen(packet_lines) && memcmp(lines, packet_lines, lines_size) == 0,
+              "the packet goes on");
+    }
+}
+
+/* A packet: read in the profile and refused where it breaks a rule; in the base mode 14 at rdf:RDF. */
+static void test_packets(void)
+{
+    static const size_t sizes[] = { 1, 7, 1 << 16 };
+    for (size_t k = 0; k < sizeof sizes / sizeof sizes[0]; k++) {
+        noise_all();
+        whole_in(ICESHAFT_XMP, packet, "http://base/x", sizes[k], packet_lines, "a packet in pieces");
+    }
+    refused_in(ICESHAFT_BASE, "http://base/x", packet, 14, "a packet in the base mode");
+    refused_in(ICESHAFT_XMP, NULL, packet, 11, "a packet without a base");
+    refused_in(ICESHAFT_XMP, "http://base/x", uncarried, 19, "an rdf:li that carries no language");
+    check(lines_size > 0 && lines_size < strlen(packet_lines)
+          && memcmp(lines, packet_lines, lines_size) == 0, "the lines before it stand");
+    refused_in(ICESHAFT_XMP, NULL, list, 19, "a root that is a node");
+    refused_in(ICESHAFT_XMP, NULL, "(x:xmpmeta\nAxmlns:x adobe:ns:meta/\n)x:xmpmeta\n", 19,
+               "a wrapper without rdf:RDF");
+    refused_in(ICESHAFT_XMP, NULL, "(r:RDF\nAxmlns:r " RDF "\nAr:nodeID n\n", 19, "rdf:nodeID");
+
+    /* each start chooses anew, a refused one does not */
+    noise_all();
+    whole_in(ICESHAFT_XMP, packet, "http://base/x", 1 << 16, packet_lines, "a packet");
+    whole(list, NULL, 1 << 16, list_lines, "then a list in the base mode");
+    whole_in(ICESHAFT_XMP, packet, "http://base/x", 1 << 16, packet_lines, "then a packet again");
+    check(start_in(ICESHAFT_XMP, NULL) == 0 && start_in(ICESHAFT_BASE, "x") == 11
+          && step_on(list, strlen(list), 1, OUT_BYTES) == 19, "a refused start leaves the profile");
+    check(start_on(NULL) == 0 && start_in(ICESHAFT_XMP, "x") == 11
+          && step_on(list, strlen(list), 1, OUT_BYTES) == 0, "a refused start leaves the base mode");
 }
 
 /* All three buffers moved elsewhere, and a document gone on with from a copy. */
@@ -477,6 +592,8 @@ int main(void)
     test_pieces();
     test_room();
     test_flags();
+    test_unknown_modes();
+    test_packets();
     test_moved();
     test_refusals();
     printf("%d passed, %d failed\n", passed, failed);

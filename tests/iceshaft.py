@@ -1,7 +1,7 @@
 #!/usr/bin/env python3
 """iceshaft.py ICESHAFT
 
-What iceshaft writes and tells: documents from files, one of them refused, and from standard input; with a base; arguments
+What iceshaft writes and tells: documents from files, one of them refused, and from standard input; with a base; XMP packets; arguments
 that are wrong; files that cannot be opened or read; an output that fails. Every trial compares all of both outputs.
 """
 import os
@@ -12,12 +12,15 @@ import subprocess
 import sys
 import tempfile
 
-DATA = pathlib.Path(__file__).parent.parent / 'crates' / 'iceshaft' / 'data'
+ROOT = pathlib.Path(__file__).parent.parent
+DATA = ROOT / 'crates' / 'iceshaft' / 'data'
+SAMPLES = ROOT / 'samples'
 PATIENCE = 60
 BASE = 'http://pictures.example/2026/'
+SIDECAR_BASE = 'http://pictures.example/2026/11/17/0512.xmp'
 MOST = 4096  # bytes of an argument
 MOST_BASE = 1024  # bytes of a base
-TAKES = b'; it takes --pyx [--base IRI] [FILE..]\n'
+TAKES = b'; it takes --pyx [--base IRI] [--xmp] [FILE..]\n'
 DC = b'http://purl.org/dc/elements/1.1/'
 
 
@@ -29,6 +32,10 @@ COVER = b'<http://pictures.example/2026/#cover>'
 NODE = b'_:riog00000002'
 FIRST = triple(COVER, b'title', b'"Harbour at night"') + triple(COVER, b'creator', NODE) + triple(NODE, b'title', b'"Desk"')
 REFUSED = triple(b'<http://pictures.example/2026/0418.jpg>', b'title', b'"The line before the refusal"')
+SIDECAR = (SAMPLES / 'sidecar.nt').read_bytes()
+# what the base reads of it: the wrapper is a node, in which rdf:RDF may not stand
+WRAPPER = (b'_:riog00000001 <adobe:ns:meta/xmptk> "Nordlicht Ablage 2.6" .\n'
+           b'_:riog00000001 <http://www.w3.org/1999/02/22-rdf-syntax-ns#type> <adobe:ns:meta/xmpmeta> .\n')
 LAST = triple(COVER, b'creator', NODE) + triple(NODE, b'title', b'"The same rdf:ID and the same label, in a document of its own"')
 
 
@@ -64,6 +71,25 @@ def documents(t):
     t.trial('an empty input', ['--pyx'], b'', b'standard input: refused 6 at event 1\n')
     t.trial('an empty file, then one', [*based, '/dev/null', 'last.pyx'], LAST, b'/dev/null: refused 6 at event 1\n')
     t.trial('switches in another order', ['--base', BASE, '--pyx', '--pyx', 'last.pyx'], LAST)
+
+
+def packets(t):
+    based = ['--base', SIDECAR_BASE]
+    t.trial('a packet', ['--pyx', '--xmp', *based, 'sidecar.pyx'], SIDECAR)
+    t.trial('a packet from standard input', ['--pyx', *based, '--xmp'], SIDECAR, text=(SAMPLES / 'sidecar.pyx').read_bytes())
+    t.trial('without --xmp', ['--pyx', *based, 'sidecar.pyx'], WRAPPER, b'sidecar.pyx: refused 14 at event 4\n')
+    t.trial('without a base', ['--pyx', '--xmp', 'sidecar.pyx'], b'', b'sidecar.pyx: refused 11 at event 6\n')
+    t.trial('without either', ['--pyx', 'sidecar.pyx'], WRAPPER, b'sidecar.pyx: refused 14 at event 4\n')
+    t.trial('--xmp twice, and first', ['--xmp', '--xmp', *based, '--pyx', 'sidecar.pyx'], SIDECAR)
+    t.trial('every file is a packet', ['--pyx', '--xmp', *based, 'sidecar.pyx', 'last.pyx', 'sidecar.pyx'], SIDECAR + SIDECAR,
+            b'last.pyx: refused 19 at event 1\n')
+    t.trial('an rdf:ID is out', ['--pyx', '--xmp', '--base', BASE, 'first.pyx'], b'', b'first.pyx: refused 19 at event 2\n')
+    t.trial('an empty packet', ['--pyx', '--xmp', '/dev/null'], b'', b'/dev/null: refused 6 at event 1\n')
+    t.trial('--xmp behind a file', ['--pyx', *based, 'sidecar.pyx', '--xmp'], b'', b'iceshaft: unknown argument: --xmp' + TAKES)
+    t.trial('--xmp as the base', ['--pyx', '--base', '--xmp', 'sidecar.pyx'], b'', b'iceshaft: refused 11 at start\n')
+    t.trial('--XMP is none', ['--pyx', '--XMP', 'sidecar.pyx'], b'', b'iceshaft: unknown argument: --XMP' + TAKES)
+    t.trial('--xmp without --pyx', ['--xmp', 'sidecar.pyx'], b'', b'iceshaft: --pyx is missing: PYX is all that it reads\n')
+    t.trial('--xmp and a base that is none', ['--pyx', '--xmp', '--base', 'no IRI', 'sidecar.pyx'], b'', b'iceshaft: refused 11 at start\n')
 
 
 def arguments(t):
@@ -114,12 +140,12 @@ def main():
         sys.exit(__doc__)
     with tempfile.TemporaryDirectory() as folder:
         folder = pathlib.Path(folder)
-        for name in ('first.pyx', 'refused.pyx', 'last.pyx'):
-            (folder / name).write_bytes((DATA / name).read_bytes())
+        for source in (*(DATA / name for name in ('first.pyx', 'refused.pyx', 'last.pyx')), SAMPLES / 'sidecar.pyx'):
+            (folder / source.name).write_bytes(source.read_bytes())
         # it runs in a folder of its own, so its files are named from the root
         command = [os.path.abspath(word) if os.path.exists(word) else word for word in shlex.split(sys.argv[1])]
         tester = Tester(command, folder)
-        for part in (documents, arguments, faults):
+        for part in (documents, packets, arguments, faults):
             part(tester)
     print(f'{tester.passed} passed, {tester.failed} failed')
     sys.exit(tester.failed > 0)

@@ -10,6 +10,7 @@ use lib.ListN.{length, take}
 use Rattle.spec.specs.Bytes.{Bytes}
 use Rattle.spec.specs.Numbers.{number, refuse}
 use Rattle.spec.specs.declared.Refusal.{Refusal}
+use Rattle.spec.specs.declared.Mode.{Mode}
 use Rattle.spec.specs.declared.Refusal.the-variants.{Incomplete}
 use Rattle.spec.specs.Document.{Doc}
 use Rattle.spec.specs.Calls.{mayStart}
@@ -186,20 +187,21 @@ ComesBy s (Unstarted n) k b = ⊥
 abbrev pub Comes : Spot → Outcome → Type 0
 Comes s o = ComesBy s (o .how) (o .event) (o .bytes)
 
--- what a document with this start base, if there is one, comes to: its start is refused with n, or it goes its way
+-- what a document in this mode, with this start base, if there is one, comes to: its start is refused with n, or it goes
+-- its way
 pub record Refuses (base : Option Bytes) (n : ℕ) : Type 0 where
   pub why : Refusal
   pub refused : mayStart true base ≡ refuse why
   pub number : n ≡ number why
 
-abbrev pub ConvertsBy : Option Bytes → How → ℕ → ℕ → Type 0
-ConvertsBy base (Done n) k b = Ended (start base) n k b
-ConvertsBy base Unwritten k b = Cut (start base) k b
-ConvertsBy base Unread k b = Unfinished (start base) k b
-ConvertsBy base (Unstarted n) k b = Refuses base n
+abbrev pub ConvertsBy : Mode → Option Bytes → How → ℕ → ℕ → Type 0
+ConvertsBy mode base (Done n) k b = Ended (start mode base) n k b
+ConvertsBy mode base Unwritten k b = Cut (start mode base) k b
+ConvertsBy mode base Unread k b = Unfinished (start mode base) k b
+ConvertsBy mode base (Unstarted n) k b = Refuses base n
 
-abbrev pub Converts : Option Bytes → Outcome → Type 0
-Converts base o = ConvertsBy base (o .how) (o .event) (o .bytes)
+abbrev pub Converts : Mode → Option Bytes → Outcome → Type 0
+Converts mode base o = ConvertsBy mode base (o .how) (o .event) (o .bytes)
 
 -- the bytes of a last line can be counted behind its lines
 abbrev pub Few : Outcome → Type 0

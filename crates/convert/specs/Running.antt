@@ -11,6 +11,7 @@ use Rattle.spec.specs.Limits.{workStoreBytes, idStoreBytes, mostIds}
 use Rattle.spec.specs.Bytes.{Bytes, require_or_}
 use Rattle.spec.specs.Numbers.{number, refuse}
 use Rattle.spec.specs.declared.Refusal.{Refusal}
+use Rattle.spec.specs.declared.Mode.{Mode}
 use Rattle.spec.specs.Document.{Doc}
 use Rattle.spec.specs.Calls.{mayStart}
 use Rattle.copy.specs.Copy.{part}
@@ -142,8 +143,9 @@ first-ids p q s = record { places = p; sizes = q; whole = s; few = omega arith; 
 abbrev pub ownWith : List ℕ → Lent
 ownWith w = lent (replicate TABLE 0) (replicate 384 0) (replicate 192 0) w (replicate 512 0) (replicate 512 0) (replicate 32_768 0) (replicate 131_072 0)
 
-module _ {based : Bool} {base : Bytes} {b : Begun} {r : Registers} {w : List ℕ} (h : Begins based base (replicate 65_536 0) (replicate 32_768 0) b w) (q : b ≡ begun.On r) where
-  opened : Opened based base (replicate 65_536 0) (replicate 32_768 0) r w
+module _ {mode : Mode} {based : Bool} {base : Bytes} {b : Begun} {r : Registers} {w : List ℕ}
+    (h : Begins mode based base (replicate 65_536 0) (replicate 32_768 0) b w) (q : b ≡ begun.On r) where
+  opened : Opened mode based base (replicate 65_536 0) (replicate 32_768 0) r w
   opened = rw q at (h .cases)
 
   pub own-ready : Ready r (ownWith w) (replicate 131_072 0)
@@ -161,21 +163,23 @@ module _ {based : Bool} {base : Bytes} {b : Begun} {r : Registers} {w : List ℕ
       }
 
   -- it went its way
-  pub document-went : (o : Outcome) → Comes (beginning (docIn r 0 (ownWith w))) o → Converts (baseOf based base) o
-  document-went o c = comes-converts (baseOf based base) (o .how) (o .event) (o .bytes) (rw (opened-means (ownWith w) opened) at c)
+  pub document-went : (o : Outcome) → Comes (beginning (docIn r 0 (ownWith w))) o → Converts mode (baseOf based base) o
+  document-went o c = comes-converts mode (baseOf based base) (o .how) (o .event) (o .bytes) (rw (opened-means (ownWith w) opened) at c)
     where
-      comes-converts : (base : Option Bytes) (how : How) (k b : ℕ) → ComesBy (start base) how k b → ConvertsBy base how k b
-      comes-converts base (Done n) k b h = h
-      comes-converts base Unwritten k b h = h
-      comes-converts base Unread k b h = h
-      comes-converts base (Unstarted n) k b h = absurd h
+      comes-converts : (mode : Mode) (base : Option Bytes) (how : How) (k b : ℕ) → ComesBy (start mode base) how k b → ConvertsBy mode base how k b
+      comes-converts mode base (Done n) k b h = h
+      comes-converts mode base Unwritten k b h = h
+      comes-converts mode base Unread k b h = h
+      comes-converts mode base (Unstarted n) k b h = absurd h
 
 -- its start was refused
-pub document-refused : {based : Bool} {base : Bytes} {b : Begun} {w : List ℕ} {why : Refusal} {n : ℕ} → Begins based base (replicate 65_536 0) (replicate 32_768 0) b w → b ≡ begun.Refused why
-    → n ≡ number why → Converts (baseOf based base) (record { how = Unstarted n; event = 0; bytes = 0 })
+pub document-refused : {mode : Mode} {based : Bool} {base : Bytes} {b : Begun} {w : List ℕ} {why : Refusal} {n : ℕ}
+    → Begins mode based base (replicate 65_536 0) (replicate 32_768 0) b w → b ≡ begun.Refused why
+    → n ≡ number why → Converts mode (baseOf based base) (record { how = Unstarted n; event = 0; bytes = 0 })
 unfolding workStoreBytes idStoreBytes
-document-refused {based} {base} {w = w} {why = why} h q e =
-    let c : BeginsBy based base (replicate 65_536 0) (replicate 32_768 0) (begun.Refused why) w = rw q at (h .cases) in
+document-refused {mode} {based} {base} {w = w} {why = why} h q e =
+    let c : BeginsBy mode based base (replicate 65_536 0) (replicate 32_768 0) (begun.Refused why) w
+    = rw q at (h .cases) in
     let same : lengthsRight (replicate 65_536 0) (replicate 32_768 0) ≡ true = refl in
     record { why = why; refused = rw same at (c .0); number = e }
 
@@ -184,10 +188,10 @@ none-refused : {A : Type 0} {why : Refusal} → mayStart true none ≡ refuse wh
 unfolding mayStart require_or_
 none-refused h = let z : _≡_ {A = ℕ} 0 1 = cc in absurd (omega arith)
 
-pub without-base : (o : Outcome) → Converts none o → Comes (start none) o
-without-base o h = go (o .how) (o .event) (o .bytes) h
+pub without-base : (mode : Mode) (o : Outcome) → Converts mode none o → Comes (start mode none) o
+without-base mode o h = go (o .how) (o .event) (o .bytes) h
   where
-    go : (how : How) (k b : ℕ) → ConvertsBy none how k b → ComesBy (start none) how k b
+    go : (how : How) (k b : ℕ) → ConvertsBy mode none how k b → ComesBy (start mode none) how k b
     go (Done n) k b h = h
     go Unwritten k b h = h
     go Unread k b h = h

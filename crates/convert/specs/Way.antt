@@ -12,6 +12,7 @@ use Rattle.spec.specs.Bytes.{Bytes, isEmpty, concat}
 use Rattle.spec.specs.Numbers.{number, refuse}
 use Rattle.spec.specs.declared.Refusal.{Refusal}
 use Rattle.spec.specs.declared.Refusal.the-variants.{Incomplete}
+use Rattle.spec.specs.declared.Mode.{Mode}
 use Rattle.spec.specs.Modes.{baseMode}
 use Rattle.spec.specs.Document.{Doc, fresh}
 use Rattle.spec.specs.Calls.{isOpen, callFinish}
@@ -35,12 +36,12 @@ pub record Spot : Type 0 where
 abbrev pub spot : ℕ → ℕ → Bool → Bytes → Doc → Spot
 spot k b last rest d = record { event = k; bytes = b; last = last; rest = rest; doc = d }
 
--- before the first event of a document; and where a document starts, with a base or without
+-- before the first event of a document; and where a document starts, in a mode, with a base or without
 abbrev pub beginning : Doc → Spot
 beginning d = spot 1 0 false [] d
 
-abbrev pub start : Option Bytes → Spot
-start base = beginning (fresh baseMode base)
+abbrev pub start : Mode → Option Bytes → Spot
+start mode base = beginning (fresh mode base)
 
 -- from one to another: some pieces were read, some bytes printed, and all of these were taken
 pub record Leads (s t : Spot) : Type 0 where
@@ -77,11 +78,14 @@ pub record Unfinished (s : Spot) (k b : ℕ) : Type 0 where
   pub event : k ≡ whole .event
   pub bytes : b ≡ whole .bytes
 
--- All that a program printed that started and came to its end is what document 01's program prints of all that it read: with a start base or without.
-pub ended-all : (base : Option Bytes) {n k b : ℕ} (e : Ended (start base) n k b) → e .printed ++ lastLine n k ≡ printAll (concat (e .pieces)) (fresh baseMode base)
-ended-all base e = prints-all (e .way)
+-- All that a program printed that started and came to its end is what document 01's program prints of all that it read: in any
+-- mode, with a start base or without.
+pub ended-all : (mode : Mode) (base : Option Bytes) {n k b : ℕ} (e : Ended (start mode base) n k b)
+    → e .printed ++ lastLine n k ≡ printAll (concat (e .pieces)) (fresh mode base)
+ended-all mode base e = prints-all (e .way)
 
-pub ended-pyx2nt : {n k b : ℕ} (e : Ended (start none) n k b) → e .printed ++ lastLine n k ≡ pyx2nt (concat (e .pieces))
+pub ended-pyx2nt : {n k b : ℕ} (e : Ended (start baseMode none) n k b)
+    → e .printed ++ lastLine n k ≡ pyx2nt (concat (e .pieces))
 ended-pyx2nt e = prints-pyx2nt (e .way)
 
 -- ---- one behind the other

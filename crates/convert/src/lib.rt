@@ -13,6 +13,7 @@ use reader::Begun;
 use reader::stream::Taken;
 use reader_contract::fed::Fed;
 use reader_contract::fed::Pause;
+use spec::Mode;
 use spec::Refusal;
 use state::Registers;
 use state_ids::IdTable;
@@ -146,9 +147,9 @@ impl Place {
     }
 }
 
-// The document that a descriptor gives, with a start base or without, over tables, stores and buffers of its own.
-pub fn document(source: i32, based: bool, base: &[u8]) -> Outcome
-    ensures { λ o. ⌜ Converts (baseOf based (now (base .entry))) o × Few o ⌝ }
+// The document that a descriptor gives, in this mode, with a start base or without, over tables, stores and buffers of its own.
+pub fn document(source: i32, mode: Mode, based: bool, base: &[u8]) -> Outcome
+    ensures { λ o. ⌜ Converts mode (baseOf based (now (base .entry))) o × Few o ⌝ }
 {
     let mut frames = [0u32; Frame::TABLE];
     let mut bindings = [0u32; Row::BINDINGS];
@@ -162,7 +163,7 @@ pub fn document(source: i32, based: bool, base: &[u8]) -> Outcome
     let mut scratch = [0u8; Taken::SCRATCH];
     let mut spans = [0u32; Taken::SPANS];
     let mut area = [0u8; Taken::AREA];
-    let begun = reader::begin(based, base, &mut work, &ids);
+    let begun = reader::begin(mode, based, base, &mut work, &ids);
     match begun {
         Begun::Refused(why) => Outcome {
             how: How::Unstarted(reader_contract::number_of(why)),

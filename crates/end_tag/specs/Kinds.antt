@@ -50,7 +50,7 @@ module _ {q : Kind} {r : Registers} {fs bs is w : List ℕ} (c : Closing q r fs 
   top-stands = let k = topmost (c .valid) (c .deep) in rw (k .frame) (top-frame (c .valid) (r .counts .depth - 1) (k .depth))
 
   module _ {u : Registers} (e : u ≡ N.without r fs) where
-    pub pop-is : Holds u fs bs is w (startOf r w) (framesOf fs bs w (r .counts .depth - 1) (first (topFrame r fs))) (r .flags .rooted) (r .counts .labels)
+    pub pop-is : Holds u fs bs is w (r .mode) (startOf r w) (framesOf fs bs w (r .counts .depth - 1) (first (topFrame r fs))) (r .flags .rooted) (r .counts .labels)
     pop-is =
         let k = topmost (c .valid) (c .deep) in
         rw (e, load-frame fs (r .counts .depth - 1) (k .room), k .frame) (popped (c .valid) (r .counts .depth - 1) (k .depth) (c .flat))

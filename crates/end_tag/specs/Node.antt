@@ -23,14 +23,14 @@ use Rattle.state_words.specs.declared.Frame.{Frame}
 use Rattle.state_words.specs.Words.{pick, loadFrame, load-frame}
 use Rattle.state.specs.declared.Registers.{Registers}
 use Rattle.state.specs.Meaning.{at, has, count, first, span, nodeOf, objectOf, childFrom, bindingsOf, subjectOf, whatOf, elementOf, subjectBelow, framesOf, elementsOf, docOf}
-use Rattle.state.specs.Valid.{emptyOr, childrenOk, kindOk, Rising, rising}
+use Rattle.state.specs.Valid.{notedBy, notedOf, emptyOr, childrenOk, kindOk, Rising, rising}
 use Rattle.state.specs.Stay.{last-child, collected}
 use Rattle.state.specs.Tests.{positive}
-use Rattle.state.specs.Held.{held}
+use Rattle.state.specs.Held.{room, held}
 use Rattle.state_stack.specs.declared.Changed.{Changed}
 use Rattle.state_stack.specs.Change.{holds-doc, flat, top-element, top-frame}
 use Rattle.state_stack.specs.Calls.{topFrame, sameKind, Pops}
-use Rattle.state_stack.specs.Top.{what-outside}
+use Rattle.state_stack.specs.Top.{node-quiet, what-outside}
 use Rattle.state_stack.specs.Laws.{topmost, top-deep, by, is-property}
 use Rattle.state_stack.specs.Take as N
 use Rattle.state_stack.specs.Take.{mayTake, mayChild, mayTakeNode, mayClose, mainSize, ClosesNode}
@@ -107,10 +107,10 @@ is-collection Wrapper e = absurd (false≢true e)
 
 -- ---- held bytes behind a node
 
--- n bytes are held once the node on top has closed
-pub record HeldAfter (r : Registers) (fs : List ℕ) (n : ℕ) : Type 0 where
+-- n bytes are stored up to the top once the node on top has closed: held ones, and what is noted
+pub record StoredAfter (r : Registers) (fs : List ℕ) (n : ℕ) : Type 0 where
   pub holds : (bs is w : List ℕ) → Closing NodeElt r fs bs is w → (ids : List Bytes)
-      → heldBytes (withFrames (closedNode (elementsOf r fs bs is w)) (docOf r fs bs is w ids)) ≡ n
+      → heldBytes (withFrames (closedNode (elementsOf r fs bs is w)) (docOf r fs bs is w ids)) + r .store .noted ≡ n
 
 module _ {r : Registers} {fs bs is w : List ℕ} (c : Closing NodeElt r fs bs is w) where
   node-closed : closedNode (elementsOf r fs bs is w) ≡ changeValue (takesNode (subjectOf (topFrame r fs) w)) (framesOf fs bs w (r .counts .depth - 1) (first (topFrame r fs)))
@@ -152,9 +152,17 @@ module _ {r : Registers} {fs bs is w : List ℕ} (c : Closing NodeElt r fs bs is
     popped-flat : u .store .low ≡ 65_536
     popped-flat = flat (pop-is c e .valid) (ap (λ (y : Registers). y .counts .inner) e ∙ c .flat) .low
 
-    popped-held : (ids : List Bytes) → heldBytes (withFrames (framesOf fs bs w (r .counts .depth - 1) (first (topFrame r fs))) (docOf r fs bs is w ids)) ≡ u .store .top
+    -- a node has noted nothing
+    popped-noted : u .store .noted ≡ r .store .noted
+    popped-noted =
+        let k = topmost (c .valid) (c .deep) in
+        let f : loadFrame fs (r .counts .depth - 1) ≡ topFrame r fs = load-frame fs (r .counts .depth - 1) (k .room) ∙ sym (k .frame) in
+        let z : notedOf (topFrame r fs) ≡ 0 = ap (λ (q : Kind). notedBy q (topFrame r fs)) (c .kind) ∙ node-quiet (topFrame r fs) in
+        ap (λ (x : Registers). x .store .noted) e ∙ rw (f, z) (omega arith)
+
+    popped-held : (ids : List Bytes) → heldBytes (withFrames (framesOf fs bs w (r .counts .depth - 1) (first (topFrame r fs))) (docOf r fs bs is w ids)) + r .store .noted ≡ u .store .top
     unfolding without
-    popped-held ids = ap heldBytes (pop-doc c e ids) ∙ omega (arith, held (pop-is c e .valid) ids, popped-flat)
+    popped-held ids = omega (arith, ap heldBytes (pop-doc c e ids), held (pop-is c e .valid) ids, popped-flat, popped-noted, room (pop-is c e .valid) .noted)
 
     popped-frames : framesOf fs bs w (r .counts .depth - 1) (first (topFrame r fs)) ≡ framesOf fs bs w (u .counts .depth) (u .counts .outer)
     popped-frames = rw (pop-depth c e, popped-top .1)
@@ -173,7 +181,7 @@ module _ {r : Registers} {fs bs is w : List ℕ} (c : Closing NodeElt r fs bs is
         record { ends = t .ends; up = rising (topFrame u fs) (t .up); kind = t .kind }
 
     held-by : 0 < u .counts .depth → (ids : List Bytes)
-        → heldBytes (withFrames (closedNode (elementsOf r fs bs is w)) (docOf r fs bs is w ids)) + kindBytes (whatOf (topFrame u fs .kind) (topFrame u fs) w (subjectBelow fs w (u .counts .depth - 1)))
+        → heldBytes (withFrames (closedNode (elementsOf r fs bs is w)) (docOf r fs bs is w ids)) + r .store .noted + kindBytes (whatOf (topFrame u fs .kind) (topFrame u fs) w (subjectBelow fs w (u .counts .depth - 1)))
         ≡ u .store .top + kindBytes (onValue (takesNode (subjectOf (topFrame r fs) w)) (whatOf (topFrame u fs .kind) (topFrame u fs) w (subjectBelow fs w (u .counts .depth - 1))))
     unfolding elementOf
     held-by d ids =
@@ -183,7 +191,8 @@ module _ {r : Registers} {fs bs is w : List ℕ} (c : Closing NodeElt r fs bs is
         let q = held-changed (takesNode (subjectOf (topFrame r fs) w))
         (elementOf (topFrame u fs) (bindingsOf bs w (first (topFrame u fs)) (u .counts .outer - first (topFrame u fs))) w (subjectBelow fs w (u .counts .depth - 1)))
         (framesOf fs bs w (u .counts .depth - 1) (first (topFrame u fs))) (docOf r fs bs is w ids) (what-outside (topFrame u fs .kind) (topFrame u fs) w (subjectBelow fs w (u .counts .depth - 1))) in
-        rw node-closed (rw (← es, popped-held ids) at q)
+        let q′ = rw (← es) at q in
+        rw node-closed (omega (arith, q′, popped-held ids))
 
     -- ---- by the kind of the element around it
 
@@ -194,7 +203,7 @@ module _ {r : Registers} {fs bs is w : List ℕ} (c : Closing NodeElt r fs bs is
       in-property : 0 < u .counts .depth
       in-property = top-deep u fs (λ i. false≢true (ap (λ (g : Kind). sameKind g PropertyElt) (sym i) ∙ o))
 
-      held-object : (ids : List Bytes) → heldBytes (withFrames (closedNode (elementsOf r fs bs is w)) (docOf r fs bs is w ids)) ≡ at (topFrame u fs) TAIL + mainSize (topFrame r fs)
+      held-object : (ids : List Bytes) → heldBytes (withFrames (closedNode (elementsOf r fs bs is w)) (docOf r fs bs is w ids)) + r .store .noted ≡ at (topFrame u fs) TAIL + mainSize (topFrame r fs)
       unfolding whatOf onValue takesNode kindBytes valueBytes objectBytes kindOk
       held-object ids =
           let k : topFrame u fs .kind ≡ PropertyElt = is-property (topFrame u fs .kind) o in
@@ -212,7 +221,7 @@ module _ {r : Registers} {fs bs is w : List ℕ} (c : Closing NodeElt r fs bs is
         in-collection : 0 < u .counts .depth
         in-collection = top-deep u fs (λ i. false≢true (ap (λ (g : Kind). sameKind g ParseTypeCollectionPropertyElt) (sym i) ∙ o))
 
-        held-child : (ids : List Bytes) → heldBytes (withFrames (closedNode (elementsOf r fs bs is w)) (docOf r fs bs is w ids)) ≡ at (topFrame u fs) END + mainSize (topFrame r fs) + 4
+        held-child : (ids : List Bytes) → heldBytes (withFrames (closedNode (elementsOf r fs bs is w)) (docOf r fs bs is w ids)) + r .store .noted ≡ at (topFrame u fs) END + mainSize (topFrame r fs) + 4
         unfolding whatOf onValue takesNode kindBytes valueBytes total
         held-child ids =
             let k : topFrame u fs .kind ≡ ParseTypeCollectionPropertyElt = is-collection (topFrame u fs .kind) o in
@@ -221,7 +230,7 @@ module _ {r : Registers} {fs bs is w : List ℕ} (c : Closing NodeElt r fs bs is
             omega (arith, q, a .ends, subject-size)
 
       held-none : sameKind (topFrame u fs .kind) ParseTypeCollectionPropertyElt ≡ false
-          → (ids : List Bytes) → heldBytes (withFrames (closedNode (elementsOf r fs bs is w)) (docOf r fs bs is w ids)) ≡ u .store .top
+          → (ids : List Bytes) → heldBytes (withFrames (closedNode (elementsOf r fs bs is w)) (docOf r fs bs is w ids)) + r .store .noted ≡ u .store .top
       unfolding changeValue framesOf
       held-none o ids =
           by (eqb (u .counts .depth) 0)
@@ -232,19 +241,19 @@ module _ {r : Registers} {fs bs is w : List ℕ} (c : Closing NodeElt r fs bs is
           let d : 0 < u .counts .depth = positive (u .counts .depth) (eqb-false (u .counts .depth) 0 z) in
           omega (arith, held-by d ids, none-bytes (topFrame u fs .kind) (topFrame u fs) w (subjectOf (topFrame r fs) w) (subjectBelow fs w (u .counts .depth - 1)) y o))
 
--- ---- the law of `held_after`
+-- ---- the law of `stored_after`
 
 module _ {r : Registers} {fs : List ℕ} {p : Changed} {f n : Frame} {size : ℕ} (o : Pops r fs p) (x : n ≡ topFrame r fs) (s : size ≡ mainSize n) (y : f ≡ topFrame (p .registers) fs) where
-  pub after-object : {a : ℕ} → sameKind (f .kind) PropertyElt ≡ true → a ≡ at f TAIL → HeldAfter r fs (a + size)
+  pub after-object : {a : ℕ} → sameKind (f .kind) PropertyElt ≡ true → a ≡ at f TAIL → StoredAfter r fs (a + size)
   after-object k z =
       record { holds = λ bs is w c ids. rw (z, s, x, y) (held-object c (o .moved (pops c)) (rw y at k) ids) }
 
   module _ (j : sameKind (f .kind) PropertyElt ≡ false) where
-    pub after-child : {a : ℕ} → sameKind (f .kind) ParseTypeCollectionPropertyElt ≡ true → a ≡ at f END → HeldAfter r fs (a + size + 4)
+    pub after-child : {a : ℕ} → sameKind (f .kind) ParseTypeCollectionPropertyElt ≡ true → a ≡ at f END → StoredAfter r fs (a + size + 4)
     after-child k z =
         record { holds = λ bs is w c ids. rw (z, s, x, y) (held-child c (o .moved (pops c)) (rw y at j) (rw y at k) ids) }
 
-    pub after-none : sameKind (f .kind) ParseTypeCollectionPropertyElt ≡ false → HeldAfter r fs (p .registers .store .top)
+    pub after-none : sameKind (f .kind) ParseTypeCollectionPropertyElt ≡ false → StoredAfter r fs (p .registers .store .top)
     after-none k = record { holds = λ bs is w c ids. held-none c (o .moved (pops c)) (rw y at j) (rw y at k) ids }
 
 -- ---- nothing stands in its way
@@ -255,7 +264,7 @@ unfolding L.all mayTake
 may-take r words from to len end a b d e f g =
     rw (le-leb to from a, le-leb (from + len) 65_536 b, le-leb end (r .store .low) d, le-leb (r .store .low) 65_536 e, lt-ltb 0 (r .counts .depth) f, le-leb (r .counts .depth) (words / FRAME) g)
 
-module _ {r : Registers} {fs bs is w : List ℕ} {n : ℕ} (c : Closing NodeElt r fs bs is w) (h : HeldAfter r fs n) (l : n ≤ 49_152) where
+module _ {r : Registers} {fs bs is w : List ℕ} {n : ℕ} (c : Closing NodeElt r fs bs is w) (h : StoredAfter r fs n) (l : n - r .store .noted ≤ 49_152) where
   takes : mayTakeNode (N.without r fs) (length fs) (topFrame (N.without r fs) fs) (topFrame r fs) ≡ true
   unfolding L.all mayTakeNode mayChild kindOk
   takes =
@@ -288,7 +297,7 @@ module _ {r : Registers} {fs bs is w : List ℕ} {n : ℕ} (c : Closing NodeElt 
         y,
         o,
         may-take u (length fs) (at (topFrame r fs) MAIN) (at (topFrame u fs) END) (mainSize (topFrame r fs)) (at (topFrame u fs) END + mainSize (topFrame r fs) + 4)
-            (omega (arith, a .ends, tp, pl .start)) (omega (arith, pl .main, pl .end, pl .store)) (omega (arith, fl, held)) (omega (arith, fl)) d dp,
+            (omega (arith, a .ends, tp, pl .start)) (omega (arith, pl .main, pl .end, pl .store)) (omega (arith, fl, held, l, c .valid .few)) (omega (arith, fl)) d dp,
         lt-ltb (count (topFrame u fs)) 65_536 (omega (arith, few, a .ends, tp, pl .start, pl .main, pl .end, pl .store)),
       ))
       (λ o. rw (y, o)))
@@ -323,17 +332,18 @@ closed-mark {r} {fs} {w} {gs} {v} {t} p m =
 
 -- ---- the law of `end_node`
 
-after-fits : {r : Registers} {fs bs is w : List ℕ} {n : ℕ} → Closing NodeElt r fs bs is w → HeldAfter r fs n → (ids : List Bytes) → IdsFit ids
-    → fits (withFrames (closedNode (elementsOf r fs bs is w)) (docOf r fs bs is w ids)) ≡ leb n 49_152
+after-fits : {r : Registers} {fs bs is w : List ℕ} {n : ℕ} → Closing NodeElt r fs bs is w → StoredAfter r fs n → (ids : List Bytes) → IdsFit ids
+    → fits (withFrames (closedNode (elementsOf r fs bs is w)) (docOf r fs bs is w ids)) ≡ leb (n - r .store .noted) 49_152
 unfolding withFrames docOf mostHeldBytes
 after-fits {r} {fs} {bs} {is} {w} {n} c h ids i =
-    fits-held (withFrames (closedNode (elementsOf r fs bs is w)) (docOf r fs bs is w ids)) i ∙ ap (λ (k : ℕ). leb k 49_152) (h .holds bs is w c ids)
+    let m : heldBytes (withFrames (closedNode (elementsOf r fs bs is w)) (docOf r fs bs is w ids)) ≡ n - r .store .noted = omega (arith, h .holds bs is w c ids) in
+    fits-held (withFrames (closedNode (elementsOf r fs bs is w)) (docOf r fs bs is w ids)) i ∙ rw m
 
-module _ {r : Registers} {fs w out : List ℕ} {n : ℕ} (h : HeldAfter r fs n) where
-  pub node-over : 49_152 < n → Ends NodeElt r (Stop OverLimit) fs w out fs w out
-  node-over l = record { handles = λ bs is c. refused-held c (node-ends c) (λ ids i. after-fits c h ids i ∙ lt-leb n 49_152 l) }
+module _ {r : Registers} {fs w out : List ℕ} {n : ℕ} (h : StoredAfter r fs n) where
+  pub node-over : 49_152 < n - r .store .noted → Ends NodeElt r (Stop OverLimit) fs w out fs w out
+  node-over l = record { handles = λ bs is c. refused-held c (node-ends c) (λ ids i. after-fits c h ids i ∙ lt-leb (n - r .store .noted) 49_152 l) }
 
-  pub node-done : {t : Changed} {gs v : List ℕ} → n ≤ 49_152 → ClosesNode r fs w t gs v → Ends NodeElt r (Did (record { written = 0; registers = t .registers })) fs w out gs v out
+  pub node-done : {t : Changed} {gs v : List ℕ} → n - r .store .noted ≤ 49_152 → ClosesNode r fs w t gs v → Ends NodeElt r (Did (record { written = 0; registers = t .registers })) fs w out gs v out
   unfolding write withFrames docOf
   node-done l p =
       record {
@@ -341,5 +351,5 @@ module _ {r : Registers} {fs w out : List ℕ} {n : ℕ} (h : HeldAfter r fs n) 
             λ bs is c.
             let m = closes c h l in
             let k = close-holds (c .valid) p (p .answer ∙ m) in
-            accepted c (node-ends c) (λ ids i. after-fits c h ids i ∙ le-leb n 49_152 l) (wrote-none (omega arith)) (k .valid) (closed-mark p m ∙ c .mark) (λ ids. holds-doc k ids);
+            accepted c (node-ends c) (λ ids i. after-fits c h ids i ∙ le-leb (n - r .store .noted) 49_152 l) (wrote-none (omega arith)) (k .valid) (closed-mark p m ∙ c .mark) (λ ids. holds-doc k ids);
       }

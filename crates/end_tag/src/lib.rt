@@ -11,7 +11,7 @@ ghost use Rattle.end_tag.specs.Object.{propertyLines, literalLines};
 ghost use Rattle.event.specs.Result.{Asks, Handles};
 ghost use Rattle.end_tag.specs.Ends.{Ends};
 ghost use Rattle.end_tag.specs.Kinds.{Silent, Whole};
-ghost use Rattle.end_tag.specs.Node.{HeldAfter};
+ghost use Rattle.end_tag.specs.Node.{StoredAfter};
 
 pub mod statements;
 
@@ -98,8 +98,8 @@ fn end_wrapper(r: Registers, frames: &[u32]) -> Outcome
 fn end_node(r: Registers, frames: &mut [u32], work: &mut [u8]) -> Outcome
     ensures { λ o. ⌜ ((out : List ℕ) → Ends Kind.NodeElt r o (now (frames .entry)) (now (work .entry)) out (now (frames .exit)) (now (work .exit)) out) ⌝ }
 {
-    let held = held_after(r, frames);
-    if held > Registers::MOST_HELD {
+    let stored = stored_after(r, frames);
+    if state_stack::nodes::minus(stored, r.store.noted) > Registers::MOST_HELD {
         return Outcome::Stop(Refusal::OverLimit);
     }
     let c = state_stack::nodes::close_node(r, frames, work);
@@ -232,9 +232,9 @@ fn end_collection(r: Registers, frames: &[u32], work: &[u8], out: &mut [u8]) -> 
     })
 }
 
-// The bytes that are held once the node on top has closed.
-fn held_after(r: Registers, frames: &[u32]) -> usize
-    ensures { λ n. ⌜ HeldAfter r (now (frames .entry)) n ⌝ }
+// The bytes that are stored once the node on top has closed.
+fn stored_after(r: Registers, frames: &[u32]) -> usize
+    ensures { λ n. ⌜ StoredAfter r (now (frames .entry)) n ⌝ }
 {
     let n = state_stack::top(r, frames);
     let size = main_size(n);

@@ -6,33 +6,45 @@ use mathlib.Core.List.{List, [], _∷_}
 use native.Mathlib.Omega.{arith}
 use lib.Dec.{eqb, ltb}
 use borrow.Author.Tests.{lt-ltb, le-ltb, eq-eqb, ne-eqb}
+use Rattle.spec.specs.declared.Mode.{Mode}
+use Rattle.spec.specs.Modes.{baseMode, xmpMode}
 use Rattle.spec.specs.Bytes.{Bytes, ascii, if_then_else_, same, begins}
 use Rattle.iceshaft.specs.declared.arguments.Chosen.{Chosen}
 use Rattle.iceshaft.specs.declared.arguments.Looked.{Looked}
 use Rattle.iceshaft.specs.declared.arguments.Looked.the-variants.{On, Wrong}
 
 abbrev pub unsaid : Chosen
-unsaid = record { pyx = false; base = 0; file = 0; waits = false }
+unsaid = record { pyx = false; xmp = false; base = 0; file = 0; waits = false }
 
 abbrev pub withPyx : Chosen → Chosen
-withPyx c = record { pyx = true; base = c .base; file = c .file; waits = c .waits }
+withPyx c = record { pyx = true; xmp = c .xmp; base = c .base; file = c .file; waits = c .waits }
+
+abbrev pub withXmp : Chosen → Chosen
+withXmp c = record { pyx = c .pyx; xmp = true; base = c .base; file = c .file; waits = c .waits }
+
+-- the mode of every document
+unfoldable pub chosenMode : Chosen → Mode
+chosenMode c = if c .xmp then xmpMode else baseMode
 
 abbrev pub withBase : Chosen → ℕ → Chosen
-withBase c i = record { pyx = c .pyx; base = i; file = c .file; waits = false }
+withBase c i = record { pyx = c .pyx; xmp = c .xmp; base = i; file = c .file; waits = false }
 
 -- the first file stays
 abbrev pub withFile : Chosen → ℕ → Chosen
-withFile c i = record { pyx = c .pyx; base = c .base; file = if eqb (c .file) 0 then i else c .file; waits = c .waits }
+withFile c i =
+    record { pyx = c .pyx; xmp = c .xmp; base = c .base; file = if eqb (c .file) 0 then i else c .file; waits = c .waits }
 
 -- a base is said once
 abbrev pub awaiting : Chosen → Looked
-awaiting c = if ltb 0 (c .base) then Wrong else On (record { pyx = c .pyx; base = c .base; file = c .file; waits = true })
+awaiting c = if ltb 0 (c .base) then Wrong else On (record { pyx = c .pyx; xmp = c .xmp; base = c .base; file = c .file; waits = true })
 
 -- a word that begins with `-`
 unfoldable pub switched : Chosen → Bytes → Looked
 switched c s =
     if same s (ascii "--pyx")
     then On (withPyx c)
+    else if same s (ascii "--xmp")
+    then On (withXmp c)
     else if same s (ascii "--base") then awaiting c else Wrong
 
 -- argument i: the base that `--base` waits for, a file, or a switch; none stands behind a file
@@ -63,13 +75,19 @@ abbrev all : List Bytes → Looked
 all l = allFrom l 1 (On unsaid)
 
 -- `iceshaft --pyx --base http://e/ a.pyx b.pyx`, and in another order
-said : all (ascii "--pyx" ∷ ascii "--base" ∷ ascii "http://e/" ∷ ascii "a.pyx" ∷ ascii "b.pyx" ∷ []) ≡ On (record { pyx = true; base = 3; file = 4; waits = false })
+said : all (ascii "--pyx" ∷ ascii "--base" ∷ ascii "http://e/" ∷ ascii "a.pyx" ∷ ascii "b.pyx" ∷ []) ≡ On (record { pyx = true; xmp = false; base = 3; file = 4; waits = false })
 unfolding allFrom lookedOn looked switched if_then_else_ same begins ascii
 said = refl
 
-other-order : all (ascii "--base" ∷ ascii "--pyx" ∷ ascii "--pyx" ∷ []) ≡ On (record { pyx = true; base = 2; file = 0; waits = false })
+other-order : all (ascii "--base" ∷ ascii "--pyx" ∷ ascii "--pyx" ∷ []) ≡ On (record { pyx = true; xmp = false; base = 2; file = 0; waits = false })
 unfolding allFrom lookedOn looked switched if_then_else_ same begins ascii
 other-order = refl
+
+-- `iceshaft --pyx --xmp a.pyx`: packets
+packets : all (ascii "--pyx" ∷ ascii "--xmp" ∷ ascii "a.pyx" ∷ [])
+    ≡ On (record { pyx = true; xmp = true; base = 0; file = 3; waits = false })
+unfolding allFrom lookedOn looked switched if_then_else_ same begins ascii
+packets = refl
 
 -- a switch behind a file, two bases, and one that is unknown
 late : all (ascii "--pyx" ∷ ascii "a.pyx" ∷ ascii "--base" ∷ ascii "http://e/" ∷ []) ≡ Wrong
@@ -107,20 +125,29 @@ files-last c d i s w f e = go (begins (ascii "-") s) refl
         let h : On (withFile c i) ≡ On d = sym (on-false _ _ w ∙ on-false _ _ q) ∙ e in
         let same : withFile c i ≡ d = cc in
         let kept : (if eqb (c .file) 0 then i else c .file) ≡ c .file = on-false _ _ (ne-eqb (c .file) 0 (λ z. omega (arith, z, f))) in
-        (q, sym same ∙ ap (λ n. record { pyx = c .pyx; base = c .base; file = n; waits = c .waits }) kept)
+        (q, sym same ∙ ap (λ n. record { pyx = c .pyx; xmp = c .xmp; base = c .base; file = n; waits = c .waits }) kept)
 
 -- ---- how the code comes to it
 
 module _ (c : Chosen) where
+  pub packets-chosen : {m : Mode} → c .xmp ≡ true → m ≡ xmpMode → m ≡ chosenMode c
+  unfolding chosenMode
+  packets-chosen h e = e ∙ sym (on-true _ _ h)
+
+  pub base-chosen : {m : Mode} → c .xmp ≡ false → m ≡ baseMode → m ≡ chosenMode c
+  unfolding chosenMode
+  base-chosen h e = e ∙ sym (on-false _ _ h)
+
   pub base-twice : 0 < c .base → Wrong ≡ awaiting c
   base-twice h = sym (on-true _ _ (lt-ltb 0 (c .base) h))
 
-  pub base-once : c .base ≤ 0 → On (record { pyx = c .pyx; base = c .base; file = c .file; waits = true }) ≡ awaiting c
+  pub base-once : c .base ≤ 0
+      → On (record { pyx = c .pyx; xmp = c .xmp; base = c .base; file = c .file; waits = true }) ≡ awaiting c
   base-once h = sym (on-false _ _ (le-ltb 0 (c .base) h))
 
   module _ (i : ℕ) where
     abbrev numbered : ℕ → Chosen
-    numbered n = record { pyx = c .pyx; base = c .base; file = n; waits = c .waits }
+    numbered n = record { pyx = c .pyx; xmp = c .xmp; base = c .base; file = n; waits = c .waits }
 
     pub first-file : c .file ≡ 0 → numbered i ≡ withFile c i
     first-file h = ap numbered (sym (on-true _ _ (eq-eqb (c .file) 0 h)))
@@ -152,10 +179,16 @@ module _ (c : Chosen) where
             unfolding switched
             look-pyx p e = ap On e ∙ (sym (on-true _ _ p) ∙ look-switch)
 
-            pub look-awaits : {l : Looked} → same s (ascii "--pyx") ≡ false → same s (ascii "--base") ≡ true → l ≡ awaiting c → l ≡ looked c i s
-            unfolding switched
-            look-awaits p q e = e ∙ (sym (on-false _ _ p ∙ on-true _ _ q) ∙ look-switch)
+            module _ (p : same s (ascii "--pyx") ≡ false) where
+              pub look-xmp : {n : Chosen} → same s (ascii "--xmp") ≡ true → n ≡ withXmp c → On n ≡ looked c i s
+              unfolding switched
+              look-xmp x e = ap On e ∙ (sym (on-false _ _ p ∙ on-true _ _ x) ∙ look-switch)
 
-            pub look-unknown : same s (ascii "--pyx") ≡ false → same s (ascii "--base") ≡ false → Wrong ≡ looked c i s
-            unfolding switched
-            look-unknown p q = sym (on-false _ _ p ∙ on-false _ _ q) ∙ look-switch
+              pub look-awaits : {l : Looked} → same s (ascii "--xmp") ≡ false → same s (ascii "--base") ≡ true
+                  → l ≡ awaiting c → l ≡ looked c i s
+              unfolding switched
+              look-awaits x q e = e ∙ (sym (on-false _ _ p ∙ (on-false _ _ x ∙ on-true _ _ q)) ∙ look-switch)
+
+              pub look-unknown : same s (ascii "--xmp") ≡ false → same s (ascii "--base") ≡ false → Wrong ≡ looked c i s
+              unfolding switched
+              look-unknown x q = sym (on-false _ _ p ∙ (on-false _ _ x ∙ on-false _ _ q)) ∙ look-switch

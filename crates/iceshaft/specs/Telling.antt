@@ -7,6 +7,7 @@ use mathlib.Core.List.{List, _++_, append-assoc}
 use native.Mathlib.Omega.{arith}
 use lib.ListN.{length, length-append}
 use Rattle.spec.specs.Bytes.{Bytes, ascii}
+use Rattle.spec.specs.declared.Mode.{Mode}
 use Rattle.spec.specs.NTriples.{decimal}
 use Rattle.copy.specs.Copy.{Put, Wrote, then, put-fits, wrote-same}
 use Rattle.label.specs.Digits.{length-decimal}
@@ -16,10 +17,11 @@ use Rattle.convert.specs.declared.How.the-variants.{Done, Unwritten, Unread, Un
 use Rattle.convert.specs.Places.{ConvertsBy, Converts, Few}
 use Rattle.convert.specs.Way.{start, Cut, Unfinished}
 
--- a document with some start base, or with none, came to this
+-- a document in some mode, with some start base or with none, came to this
 pub record Came (o : Outcome) : Type 0 where
+  pub mode : Mode
   pub base : Option Bytes
-  pub converts : Converts base o
+  pub converts : Converts mode base o
   pub few : Few o
 
 -- is the next document to be read? Not behind a write that failed, nor behind a start that is refused
@@ -37,9 +39,10 @@ refusalLine name n k = name ++ (ascii ": refused " ++ (decimal n ++ (ascii " at 
 unfoldable pub startLine : ℕ → Bytes
 startLine n = ascii "iceshaft: refused " ++ (decimal n ++ ascii " at start\n")
 
--- `iceshaft: unknown argument: --fast; it takes --pyx [--base IRI] [FILE..]`
+-- `iceshaft: unknown argument: --fast; it takes --pyx [--base IRI] [--xmp] [FILE..]`
 unfoldable pub unknownLine : Bytes → Bytes
-unknownLine word = ascii "iceshaft: unknown argument: " ++ (word ++ ascii "; it takes --pyx [--base IRI] [FILE..]\n")
+unknownLine word =
+    ascii "iceshaft: unknown argument: " ++ (word ++ ascii "; it takes --pyx [--base IRI] [--xmp] [FILE..]\n")
 
 -- `iceshaft: argument 3 is longer than 4096 bytes`
 unfoldable pub longLine : ℕ → Bytes
@@ -51,14 +54,15 @@ module _ {o : Outcome} (c : Came o) where
   pub cut-event : o .how ≡ Unwritten → 0 < o .event
   cut-event e = go (o .how) (o .event) (o .bytes) e (c .converts)
     where
-      go : (how : How) (k b : ℕ) → how ≡ Unwritten → ConvertsBy (c .base) how k b → 0 < k
-      go how k b e h = let x : Cut (start (c .base)) k b = rw e at h in omega (arith, x .event, x .way .later)
+      go : (how : How) (k b : ℕ) → how ≡ Unwritten → ConvertsBy (c .mode) (c .base) how k b → 0 < k
+      go how k b e h = let x : Cut (start (c .mode) (c .base)) k b = rw e at h in omega (arith, x .event, x .way .later)
 
   pub unread-event : o .how ≡ Unread → 0 < o .event
   unread-event e = go (o .how) (o .event) (o .bytes) e (c .converts)
     where
-      go : (how : How) (k b : ℕ) → how ≡ Unread → ConvertsBy (c .base) how k b → 0 < k
-      go how k b e h = let x : Unfinished (start (c .base)) k b = rw e at h in omega (arith, x .event, x .way .later)
+      go : (how : How) (k b : ℕ) → how ≡ Unread → ConvertsBy (c .mode) (c .base) how k b → 0 < k
+      go how k b e h =
+          let x : Unfinished (start (c .mode) (c .base)) k b = rw e at h in omega (arith, x .event, x .way .later)
 
 -- ---- how they are written
 
@@ -70,7 +74,7 @@ both-put {s = s} h p k =
 
 -- a word between two texts
 pub unknown-made : {d e f g : List ℕ} {word : Bytes} {r q t : Bool} → length d ≡ 4_192 → length word ≤ 4_096 → Put d 0 (ascii "iceshaft: unknown argument: ") e r → Put e 28 word f q
-    → Put f (28 + length word) (ascii "; it takes --pyx [--base IRI] [FILE..]\n") g t → Wrote d g 0 (28 + length word + 39) (unknownLine word)
+    → Put f (28 + length word) (ascii "; it takes --pyx [--base IRI] [--xmp] [FILE..]\n") g t → Wrote d g 0 (28 + length word + 47) (unknownLine word)
 unfolding unknownLine ascii
 unknown-made room few p k l =
     then (put-fits p (omega arith)) (then (put-fits k (omega (arith, p .same))) (put-fits l (omega (arith, p .same, k .same))))

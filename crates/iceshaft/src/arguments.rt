@@ -1,11 +1,13 @@
 // The arguments: switches, and behind them files.
 ghost use mathlib.Core.Path.{_≡_};
-ghost use Rattle.iceshaft.specs.Arguments.{unsaid, withPyx, awaiting, withBase, withFile, looked};
+ghost use Rattle.iceshaft.specs.Arguments.{unsaid, withPyx, withXmp, chosenMode, awaiting, withBase, withFile, looked};
+use spec::Mode;
 
-// What the arguments say so far: that the input is PYX; which of them is the base and which the first file, 0 for none; and
-// whether the next one is to be the base.
+// What the arguments say so far: that the input is PYX, and that it is XMP packets; which of them is the base and which the
+// first file, 0 for none; and whether the next one is to be the base.
 pub struct Chosen {
     pub pyx: bool,
+    pub xmp: bool,
     pub base: usize,
     pub file: usize,
     pub waits: bool,
@@ -26,6 +28,7 @@ impl Chosen {
     {
         Chosen {
             pyx: false,
+            xmp: false,
             base: 0,
             file: 0,
             waits: false,
@@ -48,6 +51,9 @@ impl Chosen {
         if copy::equal(word, b"--pyx") {
             return Looked::On(self.with_pyx());
         }
+        if copy::equal(word, b"--xmp") {
+            return Looked::On(self.with_xmp());
+        }
         if copy::equal(word, b"--base") {
             return self.awaiting();
         }
@@ -59,6 +65,20 @@ impl Chosen {
     {
         self.pyx = true;
         self
+    }
+
+    fn with_xmp(mut self) -> Self
+        ensures { λ c. ⌜ c ≡ withXmp self ⌝ }
+    {
+        self.xmp = true;
+        self
+    }
+
+    // The mode of every document.
+    pub fn mode(self) -> Mode
+        ensures { λ m. ⌜ m ≡ chosenMode self ⌝ }
+    {
+        if self.xmp { Mode::xmp() } else { Mode::base() }
     }
 
     // A base is said once.

@@ -1,4 +1,4 @@
-// iceshaft --pyx [--base IRI] [FILE..]: documents from files, or one from standard input, to N-Triples on standard output, as they come.
+// iceshaft --pyx [--base IRI] [--xmp] [FILE..]: documents from files, or one from standard input, to N-Triples on standard output, as they come.
 // What is not as it should be is told on standard error, a line for each.
 ghost use Prim.Native.Nat.{_≤_};
 ghost use lib.ListN.{length};
@@ -10,6 +10,7 @@ mod telling;
 use arguments::Chosen;
 use arguments::Looked;
 use libc::STDIN_FILENO;
+use spec::Mode;
 
 fn main() {
     let count = os::arg_count();
@@ -73,24 +74,30 @@ fn settle(chosen: Chosen) -> Looked
     Looked::On(chosen)
 }
 
-// The files, or standard input where there are none, all with the same base. Argument 0 is the program's name, and no base.
+// The files, or standard input where there are none, all in the same mode and with the same base. Argument 0 is the program's name, and no base.
 fn convert_all(chosen: Chosen, count: usize) {
     let mut base = [0u8; Chosen::MOST];
     let based = chosen.base > 0;
     let n = os::arg(chosen.base, &mut base);
     if chosen.file > 0 {
-        convert_files(chosen.file, count, based, &base[..n]);
+        convert_files(chosen.file, count, chosen.mode(), based, &base[..n]);
         return;
     }
-    convert_one(STDIN_FILENO, b"standard input", based, &base[..n]);
+    convert_one(
+        STDIN_FILENO,
+        b"standard input",
+        chosen.mode(),
+        based,
+        &base[..n],
+    );
 }
 
 // The files from argument `first` on, up to the first write that fails.
-fn convert_files(first: usize, count: usize, based: bool, base: &[u8]) {
+fn convert_files(first: usize, count: usize, mode: Mode, based: bool, base: &[u8]) {
     let mut name = [0u8; Chosen::MOST];
     let mut i = first;
     while i < count {
-        if !convert_file(i, &mut name, based, base) {
+        if !convert_file(i, &mut name, mode, based, base) {
             return;
         }
         i += 1;
@@ -98,7 +105,7 @@ fn convert_files(first: usize, count: usize, based: bool, base: &[u8]) {
 }
 
 // The file that argument `i` names, by way of `name`: whether the next is to be read. One that cannot be opened is told.
-fn convert_file(i: usize, name: &mut [u8], based: bool, base: &[u8]) -> bool
+fn convert_file(i: usize, name: &mut [u8], mode: Mode, based: bool, base: &[u8]) -> bool
     requires { ⌜ length (now name) ≤ 4_096 ⌝ }
 {
     let n = os::arg(i, name);
@@ -108,16 +115,16 @@ fn convert_file(i: usize, name: &mut [u8], based: bool, base: &[u8]) -> bool
         telling::tell_unopened(&name[..n]);
         return true;
     }
-    let on = convert_one(source, &name[..n], based, base);
+    let on = convert_one(source, &name[..n], mode, based, base);
     libc::close(source);
     on
 }
 
 // A document, and how it ended, told: whether the next is to be read.
-fn convert_one(source: i32, name: &[u8], based: bool, base: &[u8]) -> bool
+fn convert_one(source: i32, name: &[u8], mode: Mode, based: bool, base: &[u8]) -> bool
     requires { ⌜ length (now name) ≤ 4_096 ⌝ }
 {
-    let outcome = convert::document(source, based, base);
+    let outcome = convert::document(source, mode, based, base);
     let how = outcome.how;
     telling::tell(name, outcome);
     telling::goes_on(how)

@@ -97,9 +97,9 @@ fn unknown_line(line: &mut [u8], word: &[u8]) -> usize
     copy::put(
         line,
         28 + word.len(),
-        b"; it takes --pyx [--base IRI] [FILE..]\n",
+        b"; it takes --pyx [--base IRI] [--xmp] [FILE..]\n",
     );
-    28 + word.len() + 39
+    28 + word.len() + 47
 }
 
 // An argument that is longer than is read.

@@ -61,7 +61,7 @@ pub record Over (r : Registers) (fs bs is w : List ℕ) (x : Bytes) (more : ℕ)
 pub record Grown (r : Registers) (fs bs is w : List ℕ) (x : Bytes) (more : ℕ) (d : Done) (fs′ w′ : List ℕ) : Type 0 where
   pub top : ℕ
   pub moved : d ≡ record { written = 0; registers = toppedTo r top }
-  pub holds : Holds (toppedTo r top) fs′ bs is w′ (startOf r w) (withXml r fs bs is w x) (r .flags .rooted) (r .counts .labels)
+  pub holds : Holds (toppedTo r top) fs′ bs is w′ (r .mode) (startOf r w) (withXml r fs bs is w x) (r .flags .rooted) (r .counts .labels)
   pub fits : heldWith (startOf r w) (withXml r fs bs is w x) + more ≤ 49_152
 
 abbrev pub Grows : Outcome → Registers → List ℕ → List ℕ → List ℕ → List ℕ → Bytes → ℕ → List ℕ → List ℕ → Type 0
@@ -193,7 +193,7 @@ add-done {r} {fs} k l a p =
 
 -- e is handled in state r₀; what it leaves open but for the XML text is what state r holds
 pub adds-quietly : {e : Event} {r₀ r : Registers} {fs bs is w area : List ℕ} {n : ℕ} {x : Bytes} {es : List Element} {o : Outcome} {fs′ w′ : List ℕ}
-    → Asks r₀ fs bs is w → r .flags .closed ≡ false → Holds r fs bs is w (startOf r₀ w) es (r₀ .flags .rooted) (r₀ .counts .labels) → Quiet e r₀ fs bs is w (changeValue (takesXml x) es)
+    → Asks r₀ fs bs is w → r .flags .closed ≡ false → Holds r fs bs is w (r₀ .mode) (startOf r₀ w) es (r₀ .flags .rooted) (r₀ .counts .labels) → Quiet e r₀ fs bs is w (changeValue (takesXml x) es)
     → Adds r fs w area n 0 o fs′ w′ → XmlIn area n x → Quietly e r₀ o fs bs is w fs′ bs is w′
 adds-quietly {e} {r₀} {r} {fs} {bs} {is} {w} {area} {n} {x} {es} {o} {fs′} {w′} a m h q p i = go o (p .grows bs is x (h .valid) i)
   where
@@ -203,4 +203,4 @@ adds-quietly {e} {r₀} {r} {fs} {bs} {is} {w} {area} {n} {x} {es} {o} {fs′} {
         rw (g .number, g .frames, g .work) (quiet-over q (rw (h .base, h .elements) at l))
     go (Did d) g =
         let l : heldWith (startOf r w) (withXml r fs bs is w x) ≤ 49_152 = omega (arith, g .fits) in
-        rw (g .moved) (quiet-done q a (rw (h .base, h .elements) at l) (holds-as (g .holds) (h .base) (ap (changeValue (takesXml x)) (h .elements)) (h .root) (h .count)) m)
+        rw (g .moved) (quiet-done q a (rw (h .base, h .elements) at l) (holds-as (g .holds) (h .chosen) (h .base) (ap (changeValue (takesXml x)) (h .elements)) (h .root) (h .count)) m)

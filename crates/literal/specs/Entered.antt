@@ -55,7 +55,7 @@ pub record Room (r : Registers) (bs w : List ℕ) (n : Bytes) (all : List Bindin
 -- what `enter` does to a valid state: q, cs, js and v are behind it
 pub record Enters (r : Registers) (bs is w : List ℕ) (n : Bytes) (all : List Binding) (more : ℕ) (q : Registers) (cs js v : List ℕ) : Type 0 where
   pub holds : {fs : List ℕ} → Valid r fs bs is w → r .store .top + more ≤ r .store .low → r .counts .depth + r .counts .inner < 64
-      → Holds q fs cs js v (startOf r w) (record { name = n; bindings = all; ownBase = none; ownTag = none; kind = xmlElement; part = ordinary } ∷ elementsOf r fs bs is w) (r .flags .rooted) (r .counts .labels)
+      → Holds q fs cs js v (r .mode) (startOf r w) (record { name = n; bindings = all; ownBase = none; ownTag = none; kind = xmlElement; part = ordinary } ∷ elementsOf r fs bs is w) (r .flags .rooted) (r .counts .labels)
   pub mark : {fs : List ℕ} → Valid r fs bs is w → r .counts .depth + r .counts .inner < 64 → q .flags .closed ≡ r .flags .closed
 
 -- ---- how `enter` comes to its answer
@@ -179,5 +179,5 @@ module _ {r : Registers} {fs bs is w e sp : List ℕ} {n : Bytes} {k : ℕ} {are
         let h = t .holds (g .holds .valid) below (y .counts .deep) in
         let l = held-copied (startOf r w) n (attributesOf e sp k) (withXml r fs bs is w (startTagXml n (attributesOf e sp k))) in
         quiet-done (y .quiet) (y .asks) (omega (arith, g .fits))
-        (holds-as h (g .holds .base) (ap (copied n (attributesOf e sp k) ∷_) (g .holds .elements)) refl refl)
+        (holds-as h (g .holds .chosen) (g .holds .base) (ap (copied n (attributesOf e sp k) ∷_) (g .holds .elements)) refl refl)
         (t .mark (g .holds .valid) (y .counts .deep) ∙ y .asks .mark)

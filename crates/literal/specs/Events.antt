@@ -61,7 +61,7 @@ module _ {r : Registers} {fs bs is w : List ℕ} (v : Valid r fs bs is w) (d : 0
     end-quiet h = record { step = λ ids. rw (opened, named e, ← o, h) }
 
   -- the state without it
-  pub closed-holds : {c : Changed} → Closes r is c → Holds (c .registers) fs bs is w (startOf r w) (around r fs bs is w) (r .flags .rooted) (r .counts .labels)
+  pub closed-holds : {c : Changed} → Closes r is c → Holds (c .registers) fs bs is w (r .mode) (startOf r w) (around r fs bs is w) (r .flags .rooted) (r .counts .labels)
   closed-holds p = close-holds v p (p .answer ∙ lt-ltb 0 (r .counts .inner) d)
 
   pub closed-mark : {c : Changed} → Closes r is c → c .registers .flags .closed ≡ r .flags .closed

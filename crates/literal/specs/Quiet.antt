@@ -9,6 +9,7 @@ use lib.Dec.{leb}
 use lib.ListN.{length}
 use borrow.Author.Tests.{le-leb, lt-leb}
 use Rattle.spec.specs.Limits as L
+use Rattle.spec.specs.declared.Mode.{Mode}
 use Rattle.spec.specs.Bytes.{Bytes, total, sizeOf}
 use Rattle.spec.specs.Numbers.{refuse, good}
 use Rattle.spec.specs.declared.Refusal.{Refusal}
@@ -40,17 +41,17 @@ pub record Quiet (e : Event) (r : Registers) (fs bs is w : List ℕ) (es : List 
 unfoldable pub heldWith : Option Bytes → List Element → ℕ
 heldWith start es = sizeOf start + total frameBytes es
 
-pub holds-self : {r : Registers} {fs bs is w : List ℕ} → Valid r fs bs is w → Holds r fs bs is w (startOf r w) (elementsOf r fs bs is w) (r .flags .rooted) (r .counts .labels)
-holds-self v = record { valid = v; base = refl; elements = refl; root = refl; count = refl }
+pub holds-self : {r : Registers} {fs bs is w : List ℕ} → Valid r fs bs is w → Holds r fs bs is w (r .mode) (startOf r w) (elementsOf r fs bs is w) (r .flags .rooted) (r .counts .labels)
+holds-self v = record { valid = v; chosen = refl; base = refl; elements = refl; root = refl; count = refl }
 
 -- the same, said otherwise
-pub holds-as : {r : Registers} {fs bs is w : List ℕ} {start start′ : Option Bytes} {es es′ : List Element} {rooted rooted′ : Bool} {labels labels′ : ℕ}
-    → Holds r fs bs is w start es rooted labels → start ≡ start′ → es ≡ es′ → rooted ≡ rooted′ → labels ≡ labels′ → Holds r fs bs is w start′ es′ rooted′ labels′
-holds-as h p q s t = record { valid = h .valid; base = h .base ∙ p; elements = h .elements ∙ q; root = h .root ∙ s; count = h .count ∙ t }
+pub holds-as : {r : Registers} {fs bs is w : List ℕ} {mode mode′ : Mode} {start start′ : Option Bytes} {es es′ : List Element} {rooted rooted′ : Bool} {labels labels′ : ℕ}
+    → Holds r fs bs is w mode start es rooted labels → mode ≡ mode′ → start ≡ start′ → es ≡ es′ → rooted ≡ rooted′ → labels ≡ labels′ → Holds r fs bs is w mode′ start′ es′ rooted′ labels′
+holds-as h o p q s t = record { valid = h .valid; chosen = h .chosen ∙ o; base = h .base ∙ p; elements = h .elements ∙ q; root = h .root ∙ s; count = h .count ∙ t }
 
 -- held bytes, from the registers
-pub held-with : {r : Registers} {fs bs is w : List ℕ} {start : Option Bytes} {es : List Element} {rooted : Bool} {labels : ℕ}
-    → Holds r fs bs is w start es rooted labels → heldIn r ≡ heldWith start es
+pub held-with : {r : Registers} {fs bs is w : List ℕ} {mode : Mode} {start : Option Bytes} {es : List Element} {rooted : Bool} {labels : ℕ}
+    → Holds r fs bs is w mode start es rooted labels → heldIn r ≡ heldWith start es
 unfolding heldWith heldBytes
 held-with h = held-read (h .valid) [] ∙ ap heldBytes (holds-doc h [])
 
@@ -91,7 +92,7 @@ module _ {e : Event} {r : Registers} {fs bs is w : List ℕ} where
 
     -- done
     pub quiet-done : {r′ : Registers} {fs′ bs′ is′ w′ : List ℕ} → Asks r fs bs is w → heldWith (startOf r w) es ≤ 49_152
-        → Holds r′ fs′ bs′ is′ w′ (startOf r w) es (r .flags .rooted) (r .counts .labels) → r′ .flags .closed ≡ false
+        → Holds r′ fs′ bs′ is′ w′ (r .mode) (startOf r w) es (r .flags .rooted) (r .counts .labels) → r′ .flags .closed ≡ false
         → Quietly e r (Did (record { written = 0; registers = r′ })) fs bs is w fs′ bs′ is′ w′
     unfolding write withFrames docOf
     quiet-done {r′} {fs′} {bs′} {is′} {w′} a l h m =

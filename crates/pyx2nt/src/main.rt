@@ -4,6 +4,7 @@ ghost use Prim.Native.Nat.{_<_};
 ghost use mathlib.Core.Option.{none};
 ghost use mathlib.Core.Path.{_≡_};
 ghost use lib.ListN.{length};
+ghost use Rattle.spec.specs.Modes.{baseMode};
 ghost use Rattle.spec.specs.Pyx2nt.{lastLine};
 ghost use Rattle.copy.specs.Copy.{Wrote};
 ghost use Rattle.convert.specs.Way.{start, Ended};
@@ -11,18 +12,19 @@ ghost use Rattle.convert.specs.Places.{Comes, Few};
 use convert::How;
 use convert::Outcome;
 use libc::STDIN_FILENO;
+use spec::Mode;
 
 fn main() {
     if os::arg_count() > 1 {
         streams::tell_unknown(b"pyx2nt", 1, b"it takes none and reads standard input");
         return;
     }
-    end(convert::document(STDIN_FILENO, false, b""));
+    end(convert::document(STDIN_FILENO, Mode::base(), false, b""));
 }
 
 // The program at the end of its way: its last line, or what failed, told.
 fn end(outcome: Outcome)
-    requires { ⌜ Comes (start none) outcome × Few outcome ⌝ }
+    requires { ⌜ Comes (start baseMode none) outcome × Few outcome ⌝ }
 {
     let event = outcome.event;
     let bytes = outcome.bytes;
@@ -45,7 +47,7 @@ fn tell_unwritten(event: usize, bytes: usize)
 
 // The last line, if there is one, printed behind `bytes` bytes of lines.
 fn print_last(number: u8, event: usize, bytes: usize)
-    requires { ⌜ Ended (start none) number event bytes × (bytes < 9_223_372_036_854_775_808) ⌝ }
+    requires { ⌜ Ended (start baseMode none) number event bytes × (bytes < 9_223_372_036_854_775_808) ⌝ }
 {
     let mut line = [0u8; 64];
     let n = last_line(&mut line, number, event);

@@ -124,7 +124,8 @@ prints-runs (reads p) = let r = prints-runs p in record { run = r .run; feeds = 
 prints-runs (refused e h) = refused-runs e h
 prints-runs (over e) = over-runs e
 
--- However its input comes in pieces, a program that goes this way prints what document 01's program prints of all of it: with a start base or without.
+-- However its input comes in pieces, a program that goes this way prints what document 01's program prints of all of it: in
+-- any mode, with a start base or without.
 pub prints-all : {ps : List Bytes} {d : Doc} {w : Bytes} → Prints 1 [] ps d w → w ≡ printAll (concat ps) d
 prints-all {ps} {d} p = let r = prints-runs p in r .prints ∙ sym (program-in-pieces d ps (r .run) (r .feeds))
 

@@ -16,7 +16,7 @@ use Rattle.spec.specs.Numbers as numbers
 use Rattle.spec.specs.declared.Refusal.{Refusal}
 use Rattle.spec.specs.declared.Refusal.the-variants.{BadState, Closed, NotWellFormed, OverLimit, BadIri}
 use Rattle.spec.specs.Rfc3987.{isIri}
-use Rattle.spec.specs.Modes.{baseMode}
+use Rattle.spec.specs.declared.Mode.{Mode}
 use Rattle.spec.specs.Document.{fresh}
 use Rattle.spec.specs.RdfXml.{finish}
 use Rattle.spec.specs.Calls.{isOpen, markClosed, mayStart, started, callStart, finished, callFinish}
@@ -120,20 +120,22 @@ size-within true base = omega arith
 size-within false base = omega arith
 
 -- accepted: the registers are those of a fresh document, and the base stands at the front of the work store
-pub record Opened (based : Bool) (base : Bytes) (w i : List ℕ) (r : Registers) (w′ : List ℕ) : Type 0 where
+pub record Opened (mode : Mode) (based : Bool) (base : Bytes) (w i : List ℕ) (r : Registers)
+    (w′ : List ℕ) : Type 0 where
   pub may : mayStart (lengthsRight w i) (baseOf based base) ≡ good tt
-  pub registers : r ≡ startedWith based (sizeOfBase based base)
+  pub registers : r ≡ startedWith mode based (sizeOfBase based base)
   pub stored : baseOf based (part w′ 0 (sizeOfBase based base)) ≡ baseOf based base
 
 -- refused, it changes nothing
-abbrev pub BeginsBy : Bool → Bytes → List ℕ → List ℕ → Begun → List ℕ → Type 0
-BeginsBy based base w i (On r) w′ = Opened based base w i r w′
-BeginsBy based base w i (begun.Refused n) w′ = (mayStart (lengthsRight w i) (baseOf based base) ≡ refuse n) × (w′ ≡ w)
+abbrev pub BeginsBy : Mode → Bool → Bytes → List ℕ → List ℕ → Begun → List ℕ → Type 0
+BeginsBy mode based base w i (On r) w′ = Opened mode based base w i r w′
+BeginsBy mode based base w i (begun.Refused n) w′ =
+    (mayStart (lengthsRight w i) (baseOf based base) ≡ refuse n) × (w′ ≡ w)
 
 -- what a start did on lent stores
-pub record Begins (based : Bool) (base : Bytes) (w i : List ℕ) (b : Begun) (w′ : List ℕ) : Type 0 where
+pub record Begins (mode : Mode) (based : Bool) (base : Bytes) (w i : List ℕ) (b : Begun) (w′ : List ℕ) : Type 0 where
   pub store : length w′ ≡ length w
-  pub cases : BeginsBy based base w i b w′
+  pub cases : BeginsBy mode based base w i b w′
 
 -- what is known where it was accepted
 module _ (based : Bool) (base : Bytes) (w i : List ℕ) (h : mayStart (lengthsRight w i) (baseOf based base) ≡ good tt) where
@@ -148,12 +150,13 @@ module _ (based : Bool) (base : Bytes) (w i : List ℕ) (h : mayStart (lengthsRi
   unfolding idStoreBytes
   ids-whole = eqb-true (length i) 32_768 (and-right (eqb (length w) workStoreBytes) _ (may .lengths))
 
-module _ (based : Bool) (base w i : List ℕ) {a : Answer} (h : Judges a (lengthsRight w i) based base) where
-  pub begin-refused : {n : Refusal} → a ≡ Refused n → Begins based base w i (begun.Refused n) w
+module _ (mode : Mode) (based : Bool) (base w i : List ℕ) {a : Answer}
+    (h : Judges a (lengthsRight w i) based base) where
+  pub begin-refused : {n : Refusal} → a ≡ Refused n → Begins mode based base w i (begun.Refused n) w
   begin-refused q = record { store = refl; cases = (sym (h .means) ∙ ap told q, refl) }
 
-  pub begin-done : {w′ : List ℕ} {n : ℕ} {z : Bool} {r : Registers} → a ≡ Done → n ≡ sizeOfBase based base → Put w 0 (take n base) w′ z → r ≡ startedWith based n
-      → Begins based base w i (On r) w′
+  pub begin-done : {w′ : List ℕ} {n : ℕ} {z : Bool} {r : Registers} → a ≡ Done → n ≡ sizeOfBase based base → Put w 0 (take n base) w′ z → r ≡ startedWith mode based n
+      → Begins mode based base w i (On r) w′
   begin-done {w′} q k p e =
       let m : mayStart (lengthsRight w i) (baseOf based base) ≡ good tt = sym (h .means) ∙ ap told q in
       let b = may based base w i m .short in
@@ -163,33 +166,37 @@ module _ (based : Bool) (base w i : List ℕ) {a : Answer} (h : Judges a (length
       }
 
 -- a program goes on from there over tables of its own, with no rdf:ID
-module _ {based : Bool} {base w i : List ℕ} {r : Registers} (l : Lent) (o : Opened based base w i r (l .work)) where
-  pub opened-means : docIn r 0 l ≡ fresh baseMode (baseOf based base)
+module _ {mode : Mode} {based : Bool} {base w i : List ℕ} {r : Registers} (l : Lent)
+    (o : Opened mode based base w i r (l .work)) where
+  pub opened-means : docIn r 0 l ≡ fresh mode (baseOf based base)
   unfolding docIn idsOf
-  opened-means = rw (o .registers) (started-means based (sizeOfBase based base) (l .frames) (l .bindings) (l .inners) (l .work) ∙ ap (fresh baseMode) (o .stored))
+  opened-means = rw (o .registers) (started-means mode based (sizeOfBase based base) (l .frames) (l .bindings) (l .inners) (l .work) ∙ ap (fresh mode) (o .stored))
 
   pub opened-valid : length (l .frames) ≡ TABLE → length (l .bindings) ≡ 384 → length (l .inners) ≡ 192 → length (l .work) ≡ 65_536
       → Valid r (l .frames) (l .bindings) (l .inners) (l .work)
   opened-valid f b n k =
       let s = may based base w i (o .may) .short in
       rw (o .registers)
-      (valid-fresh based (sizeOfBase based base) (l .frames) (l .bindings) (l .inners) (l .work) f b n k (omega arith) (size-empty based base))
+      (valid-fresh mode based (sizeOfBase based base) (l .frames) (l .bindings) (l .inners) (l .work)
+      f b n k (omega arith) (size-empty based base))
 
-module _ (based : Bool) (base : Bytes) (s : State) (w i : List ℕ) {b : Begun} {w′ : List ℕ} (h : Begins based base w i b w′) where
-  pub start-refused : {n : Refusal} {r : Report} → b ≡ begun.Refused n → r ≡ refusing s n → Starts based base s w i r w′
+module _ (mode : Mode) (based : Bool) (base : Bytes) (s : State) (w i : List ℕ) {b : Begun} {w′ : List ℕ}
+    (h : Begins mode based base w i b w′) where
+  pub start-refused : {n : Refusal} {r : Report} → b ≡ begun.Refused n → r ≡ refusing s n
+      → Starts mode based base s w i r w′
   unfolding callStart started
   start-refused {n} q e =
-      let m : BeginsBy based base w i (begun.Refused n) w′ = rw q at (h .cases) in
+      let m : BeginsBy mode based base w i (begun.Refused n) w′ = rw q at (h .cases) in
       rw (e, m .1) (record { meets = meets-refused {left = λ n. s} n (rw (m .0)) refl })
 
-  pub start-done : {g : Registers} {n : ℕ} {s′ : State} {r : Report} → b ≡ On g → n ≡ sizeOfBase based base → Fresh based n s′ → r ≡ doing s′ → Starts based base s w i r w′
+  pub start-done : {g : Registers} {n : ℕ} {s′ : State} {r : Report} → b ≡ On g → n ≡ sizeOfBase based base → Fresh mode based n s′ → r ≡ doing s′ → Starts mode based base s w i r w′
   unfolding callStart started
   start-done {g} {n} {s′} q k f e =
-      let o : Opened based base w i g w′ = rw q at (h .cases) in
+      let o : Opened mode based base w i g w′ = rw q at (h .cases) in
       let m = o .may in
       let short = may based base w i m .short in
-      let begun : meaningOf s′ w′ i ≡ isOpen (fresh baseMode (baseOf based base)) =
-      fresh-means w′ i f (h .store ∙ store-whole based base w i m) (ids-whole based base w i m) (omega (arith, k)) (rw k (size-empty based base)) ∙ ap (λ o. isOpen (fresh baseMode o)) (rw k (o .stored)) in
+      let begun : meaningOf s′ w′ i ≡ isOpen (fresh mode (baseOf based base)) =
+      fresh-means w′ i f (h .store ∙ store-whole based base w i m) (ids-whole based base w i m) (omega (arith, k)) (rw k (size-empty based base)) ∙ ap (λ o. isOpen (fresh mode o)) (rw k (o .stored)) in
       rw e
       (record {
         meets = record {

@@ -4,6 +4,7 @@ ghost use Rattle.reader.specs.Asked.{Asks, Roomy, Areas};
 ghost use Rattle.reader.specs.Goes.{Goes};
 use crate::stream::Taken;
 use reader_contract::fed::Fed;
+use start_names::Class;
 use state::Registers;
 use state_ids::IdTable;
 
@@ -32,6 +33,7 @@ pub fn feed(
         (lent (now (frames .exit)) (now (bindings .exit)) (now (inners .exit)) (now (work .exit)) (now (places .exit)) (now (sizes .exit)) (now (ids .exit)) (now (out .exit)))
         × Areas (now (scratch .entry)) (now (spans .entry)) (now (area .entry)) (now (scratch .exit)) (now (spans .exit)) (now (area .exit)) ⌝ }
 {
+    let mut classes = [0usize; Class::TABLE];
     let mut fed = Fed::none(registers, count, used);
     while Fed::ROOM <= out.len() - fed.written {
         let registers = fed.registers;
@@ -55,6 +57,7 @@ pub fn feed(
             scratch,
             spans,
             area,
+            &mut classes,
         );
         match taken {
             Taken::Stop(why) => return fed.stopped(why),

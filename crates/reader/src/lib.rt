@@ -13,7 +13,9 @@ use reader_contract::Answer;
 use reader_contract::Report;
 use reader_contract::State;
 use resolve::Resolved;
+use spec::Mode;
 use spec::Refusal;
+use start_names::Class;
 use state::Registers;
 use state_ids::IdTable;
 
@@ -23,20 +25,27 @@ pub enum Begun {
     Refused(Refusal),
 }
 
-// A document begins, with a start base or without. The ID store is emptied by a fresh table.
-pub fn start(state: State, based: bool, base: &[u8], work: &mut [u8], ids: &[u8]) -> Report
-    ensures { λ r. ⌜ Starts based (now (base .entry)) state (now (work .entry)) (now (ids .entry)) r (now (work .exit)) ⌝ }
+// A document begins in this mode, with a start base or without. The ID store is emptied by a fresh table.
+pub fn start(
+    state: State,
+    mode: Mode,
+    based: bool,
+    base: &[u8],
+    work: &mut [u8],
+    ids: &[u8],
+) -> Report
+    ensures { λ r. ⌜ Starts mode based (now (base .entry)) state (now (work .entry)) (now (ids .entry)) r (now (work .exit)) ⌝ }
 {
-    let begun = begin(based, base, work, ids);
+    let begun = begin(mode, based, base, work, ids);
     match begun {
         Begun::Refused(why) => Report::refused(state, why),
-        Begun::On(_) => Report::done(State::fresh(based, base_size(based, base))),
+        Begun::On(_) => Report::done(State::fresh(mode, based, base_size(based, base))),
     }
 }
 
 // The same for a program that keeps tables of its own: the base at the front of the work store, and the registers.
-pub fn begin(based: bool, base: &[u8], work: &mut [u8], ids: &[u8]) -> Begun
-    ensures { λ b. ⌜ Begins based (now (base .entry)) (now (work .entry)) (now (ids .entry)) b (now (work .exit)) ⌝ }
+pub fn begin(mode: Mode, based: bool, base: &[u8], work: &mut [u8], ids: &[u8]) -> Begun
+    ensures { λ b. ⌜ Begins mode based (now (base .entry)) (now (work .entry)) (now (ids .entry)) b (now (work .exit)) ⌝ }
 {
     let lengths = (work.len() == Registers::STORE) & (ids.len() == IdTable::BYTES);
     let answer = may_start(lengths, based, base);
@@ -45,7 +54,7 @@ pub fn begin(based: bool, base: &[u8], work: &mut [u8], ids: &[u8]) -> Begun
         Answer::Done => {
             let n = base_size(based, base);
             copy::put(work, 0, &base[..n]);
-            Begun::On(Registers::started(based, n))
+            Begun::On(Registers::started(mode, based, n))
         }
     }
 }
@@ -77,6 +86,7 @@ pub fn step(
     let mut scratch = [0u8; Taken::SCRATCH];
     let mut spans = [0u32; Taken::SPANS];
     let mut area = [0u8; Taken::AREA];
+    let mut classes = [0usize; Class::TABLE];
     let taken = crate::stream::core(
         registers,
         table.count,
@@ -94,6 +104,7 @@ pub fn step(
         &mut scratch,
         &mut spans,
         &mut area,
+        &mut classes,
     );
     match taken {
         Taken::Stop(why) => Report::refused(state.marked(why), why),

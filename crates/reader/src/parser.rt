@@ -20,10 +20,11 @@ use event::Place;
 use event::Progress;
 use pyx::Event;
 use spec::Refusal;
+use start_names::Class;
 use state::Registers;
 use state_ids::IdTable;
 
-// The bytes of an event, in an open document. The last three are scratch.
+// The bytes of an event, in an open document. The last four are scratch.
 pub fn parse_event(
     registers: Registers,
     count: usize,
@@ -40,6 +41,7 @@ pub fn parse_event(
     scratch: &mut [u8],
     spans: &mut [u32],
     area: &mut [u8],
+    classes: &mut [usize; Class::TABLE],
 ) -> Progress
     requires { ⌜ Asks registers count used (lent (now frames) (now bindings) (now inners) (now work) (now places) (now sizes) (now ids) (now out)) × Roomy (now scratch) (now spans) (now area) × (unread (now event) (now scratch) ≡ false) ⌝ }
     ensures { λ o. ⌜ Progresses (parsed (now (event .entry)) (length (now (out .entry))) (docIn registers count (lent (now (frames .entry)) (now (bindings .entry)) (now (inners .entry)) (now (work .entry)) (now (places .entry)) (now (sizes .entry)) (now (ids .entry)) (now (out .entry))))) o
@@ -95,6 +97,7 @@ pub fn parse_event(
             c,
             k,
             area,
+            classes,
             out,
         ),
         Event::Crowded => {
@@ -129,6 +132,7 @@ fn parse_start_event(
     c: usize,
     k: usize,
     area: &mut [u8],
+    classes: &mut [usize; Class::TABLE],
     out: &mut [u8],
 ) -> Progress
     requires { ⌜ Asks r count used (lent (now frames) (now bindings) (now inners) (now work) (now places) (now sizes) (now ids) (now out)) × Tagged (now scratch) (now spans) m c k (now area) ⌝ }
@@ -170,6 +174,7 @@ fn parse_start_event(
         c,
         k,
         area,
+        classes,
         out,
     )
 }

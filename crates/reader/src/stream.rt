@@ -28,7 +28,7 @@ impl Taken {
     pub const AREA: usize = Area::BYTES;
 }
 
-// The first event of the input, in an open document. The last three are scratch.
+// The first event of the input, in an open document. The last four are scratch.
 pub fn core(
     registers: Registers,
     count: usize,
@@ -46,6 +46,7 @@ pub fn core(
     scratch: &mut [u8],
     spans: &mut [u32],
     area: &mut [u8],
+    classes: &mut [usize; Class::TABLE],
 ) -> Taken
     requires { ⌜ Asks registers count used (lent (now frames) (now bindings) (now inners) (now work) (now places) (now sizes) (now ids) (now out)) × Roomy (now scratch) (now spans) (now area) ⌝ }
     ensures { λ t. ⌜ Takes last (now (input .entry)) registers count t
@@ -74,6 +75,7 @@ pub fn core(
                 scratch,
                 spans,
                 area,
+                classes,
             );
             took(n, progress)
         }

@@ -12,6 +12,7 @@ use Rattle.spec.specs.Limits.{idStoreBytes, mostIds}
 use Rattle.spec.specs.Bytes.{Bytes, isEmpty}
 use Rattle.spec.specs.Numbers.{Effect, stays-open, unchanged, becomes-closed, effect, closes}
 use Rattle.spec.specs.declared.Refusal.{Refusal}
+use Rattle.spec.specs.declared.Mode.{Mode}
 use Rattle.spec.specs.Modes.{baseMode}
 use Rattle.spec.specs.Document.{Doc, fresh}
 use Rattle.spec.specs.Calls.{isOpen, isClosed, unlawful, noDocument, markClosed, markedBy}
@@ -25,7 +26,7 @@ use Rattle.state_ids.specs.Ids as table
 use Rattle.state_ids.specs.Adding as adding
 use Rattle.state.specs.declared.Registers.{Registers}
 use Rattle.state.specs.Meaning.{startOf, framesOf, innersOf, elementsOf, docOf}
-use Rattle.state.specs.Valid.{validState, countsOk, Valid}
+use Rattle.state.specs.Valid.{validState, countsOk, notedOk, Valid}
 use Rattle.state.specs.Valid as state
 use Rattle.state.specs.Live.{startedWith, started, started-means}
 use Rattle.event.specs.Progress.{Lent, lent, docIn, Lawful}
@@ -68,6 +69,7 @@ module _ (s : State) (w i : List ℕ) where
 abbrev pub closedRegisters : Registers → Registers
 closedRegisters r =
     record {
+      mode = r .mode;
       flags = record { closed = true; rooted = r .flags .rooted; based = r .flags .based };
       store = r .store;
       counts = r .counts;
@@ -91,7 +93,7 @@ module _ (s : State) (n : Refusal) where
 
 -- the mark is no part of the rules, nor of the document
 pub meaning-closed : (s : State) (w i : List ℕ) → meaningOf (closedState s) w i ≡ markClosed (meaningOf s w i)
-unfolding meaningOf lawfulState validState countsOk docFrom docIn docOf startOf elementsOf markClosed
+unfolding meaningOf lawfulState validState countsOk notedOk docFrom docIn docOf startOf elementsOf markClosed
 meaning-closed s w i = go (lawfulState s w i) (s .registers .flags .closed)
   where
     go : (l c : Bool) → pick l (isClosed (docFrom s w i)) unlawful ≡ markClosed (pick l (pick c (isClosed (docFrom s w i)) (isOpen (docFrom s w i))) unlawful)
@@ -170,27 +172,27 @@ over-read s w i = go (s .registers .counts .inner) (s .registers .counts .depth)
 
 -- ---- a state of a document that begins, and the one before any
 
-pub record Fresh (based : Bool) (n : ℕ) (s : State) : Type 0 where
-  pub registers : s .registers ≡ startedWith based n
+pub record Fresh (mode : Mode) (based : Bool) (n : ℕ) (s : State) : Type 0 where
+  pub registers : s .registers ≡ startedWith mode based n
   pub frames : length (s .frames) ≡ TABLE
   pub bindings : length (s .bindings) ≡ 384
   pub inners : length (s .inners) ≡ 192
   pub ids : adding.Fresh (s .ids)
 
 -- whatever else the stores hold
-pub fresh-means : {based : Bool} {n : ℕ} {s : State} (w i : List ℕ) → Fresh based n s → length w ≡ 65_536 → length i ≡ 32_768 → n ≤ 65_536 → pick based true (eqb n 0) ≡ true
-    → meaningOf s w i ≡ isOpen (fresh baseMode (baseOf based (part w 0 n)))
+pub fresh-means : {mode : Mode} {based : Bool} {n : ℕ} {s : State} (w i : List ℕ) → Fresh mode based n s → length w ≡ 65_536 → length i ≡ 32_768 → n ≤ 65_536
+    → pick based true (eqb n 0) ≡ true → meaningOf s w i ≡ isOpen (fresh mode (baseOf based (part w 0 n)))
 unfolding docFrom docIn idStoreBytes
-fresh-means {based} {n} {s} w i f lw li k b =
-    let v : Valid (s .registers) (s .frames) (s .bindings) (s .inners) w = rw (f .registers) (started based n (s .frames) (s .bindings) (s .inners) w (f .frames) (f .bindings) (f .inners) lw k b) in
+fresh-means {mode} {based} {n} {s} w i f lw li k b =
+    let v : Valid (s .registers) (s .frames) (s .bindings) (s .inners) w = rw (f .registers) (started mode based n (s .frames) (s .bindings) (s .inners) w (f .frames) (f .bindings) (f .inners) lw k b) in
     let l : lawfulState s w i ≡ true = facts-lawful s {out = []} (record { valid = v; table = adding.fresh-valid (f .ids) i li }) in
     means-open s w i l (rw (f .registers))
-    ∙ ap isOpen (rw (adding.fresh-means (f .ids) i, f .registers) (started-means based n (s .frames) (s .bindings) (s .inners) w))
+    ∙ ap isOpen (rw (adding.fresh-means (f .ids) i, f .registers) (started-means mode based n (s .frames) (s .bindings) (s .inners) w))
 
 -- beside stores of the right lengths, whatever they hold
 pub record Nothing (s : State) : Type 0 where
   pub means : (w i : List ℕ) → length w ≡ 65_536 → length i ≡ 32_768 → meaningOf s w i ≡ noDocument
 
-pub nothing : {s s′ : State} → Fresh false 0 s → s′ ≡ closedState s → Nothing s′
+pub nothing : {s s′ : State} → Fresh baseMode false 0 s → s′ ≡ closedState s → Nothing s′
 unfolding noDocument markClosed
 nothing {s} f e = record { means = λ w i lw li. rw e (meaning-closed s w i ∙ ap markClosed (fresh-means w i f lw li (omega arith) refl)) }

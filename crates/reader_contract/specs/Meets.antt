@@ -11,7 +11,7 @@ use Rattle.spec.specs.Bytes.{Bytes}
 use Rattle.spec.specs.Numbers.{number, closes}
 use Rattle.spec.specs.declared.Refusal.{Refusal}
 use Rattle.spec.specs.declared.Refusal.the-variants.{Incomplete, NoRoom, BadState, Closed, NotPyx, NotWellFormed, OverLimit, NoNamespace, NotNcName, BadLanguage, BadIri, RepeatedId, BadLabel, Reserved, TwoNames, StrayText, EmptyLiteral, LabelsSpent, ProfileBroken}
-use Rattle.spec.specs.Modes.{baseMode}
+use Rattle.spec.specs.declared.Mode.{Mode}
 use Rattle.spec.specs.Calls.{refused, refusedIn, callStart, callStep, callFinish}
 use Rattle.spec.specs.Calls as calls
 use Rattle.copy.specs.Copy.{Wrote, wrote-none}
@@ -74,8 +74,9 @@ abbrev pub lengthsRight : List ℕ → List ℕ → Bool
 lengthsRight w i = eqb (length w) workStoreBytes && eqb (length i) idStoreBytes
 
 -- refused, it changes nothing
-pub record Starts (based : Bool) (base : Bytes) (s : State) (w i : List ℕ) (r : Report) (w′ : List ℕ) : Type 0 where
-  pub meets : Meets (callStart (lengthsRight w i) baseMode (baseOf based base) (meaningOf s w i)) (λ n. s) w i [] r w′ i []
+pub record Starts (mode : Mode) (based : Bool) (base : Bytes) (s : State) (w i : List ℕ) (r : Report)
+    (w′ : List ℕ) : Type 0 where
+  pub meets : Meets (callStart (lengthsRight w i) mode (baseOf based base) (meaningOf s w i)) (λ n. s) w i [] r w′ i []
 
 -- refused, it changes the mark alone, where the refusal closes
 pub record Steps (last : Bool) (input : Bytes) (s : State) (w i out : List ℕ) (r : Report) (w′ i′ out′ : List ℕ) : Type 0 where

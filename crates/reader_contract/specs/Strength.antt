@@ -110,14 +110,14 @@ zeros-length n = length-replicate {A = ℕ} n 0
 pub begun : State
 begun =
     record {
-      registers = startedWith false 0;
+      registers = startedWith baseMode false 0;
       frames = zeros TABLE;
       bindings = zeros 384;
       inners = zeros 192;
       ids = record { count = 0; used = 0; at = zeros mostIds; len = zeros mostIds };
     }
 
-begun-fresh : Fresh false 0 begun
+begun-fresh : Fresh baseMode false 0 begun
 unfolding begun zeros
 begun-fresh =
     record {

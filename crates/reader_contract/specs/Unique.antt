@@ -4,6 +4,7 @@ use mathlib.Core.Path.{_≡_, refl, sym, ap, _∙_}
 use mathlib.Core.Bool.{Bool}
 use mathlib.Core.List.{List, []}
 use Rattle.spec.specs.Bytes.{Bytes}
+use Rattle.spec.specs.declared.Mode.{Mode}
 use Rattle.spec.specs.declared.Refusal.{Refusal}
 use Rattle.spec.specs.declared.Refusal.the-variants.{BadState}
 use Rattle.spec.specs.Calls as calls
@@ -57,8 +58,8 @@ module _ {d : calls.Report} {left : Refusal → State} {w i out : List ℕ} {r :
             (reports r q (f .state ∙ sym (g .state)) a c k, f .work ∙ sym (g .work), f .ids ∙ sym (g .ids));
       }
 
-pub start-unique : {based : Bool} {base : Bytes} {s : State} {w i : List ℕ} {r : Report} {w₁ : List ℕ} {q : Report} {w₂ : List ℕ}
-    → Starts based base s w i r w₁ → Starts based base s w i q w₂ → Same r w₁ i [] q w₂ i []
+pub start-unique : {mode : Mode} {based : Bool} {base : Bytes} {s : State} {w i : List ℕ} {r : Report} {w₁ : List ℕ} {q : Report} {w₂ : List ℕ}
+    → Starts mode based base s w i r w₁ → Starts mode based base s w i q w₂ → Same r w₁ i [] q w₂ i []
 start-unique x y = unique (x .meets) (y .meets)
 
 pub step-unique : {last : Bool} {input : Bytes} {s : State} {w i out : List ℕ} {r : Report} {w₁ i₁ out₁ : List ℕ} {q : Report} {w₂ i₂ out₂ : List ℕ}

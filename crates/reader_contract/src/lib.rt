@@ -7,6 +7,7 @@ ghost use Rattle.reader_contract.specs.Meets.{numberOf, bare, refusing, 
 pub mod fed;
 
 use event::Advance;
+use spec::Mode;
 use spec::Refusal;
 use state::Registers;
 use state_ids::IdTable;
@@ -41,15 +42,15 @@ impl State {
     pub fn none() -> Self
         ensures { λ s. ⌜ Nothing s ⌝ }
     {
-        let fresh = State::fresh(false, 0);
+        let fresh = State::fresh(Mode::base(), false, 0);
         fresh.closed()
     }
 
     // Of a document that begins, with a start base of `base` bytes, if there is one: they stand at the front of the work store.
-    pub fn fresh(based: bool, base: usize) -> Self
-        ensures { λ s. ⌜ Fresh based base s ⌝ }
+    pub fn fresh(mode: Mode, based: bool, base: usize) -> Self
+        ensures { λ s. ⌜ Fresh mode based base s ⌝ }
     {
-        let registers = Registers::started(based, base);
+        let registers = Registers::started(mode, based, base);
         let ids = IdTable::new();
         State {
             registers,

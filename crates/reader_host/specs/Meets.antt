@@ -1,5 +1,5 @@
 -- The contracts of the calls for a host: crate `reader`'s, for the state that the bytes stand for.
-use Prim.Native.Nat.{ℕ}
+use Prim.Native.Nat.{ℕ, _≤_, _<_}
 use mathlib.Core.Path.{_≡_}
 use mathlib.Core.Bool.{Bool, true, false, not}
 use mathlib.Core.Option.{none, some}
@@ -8,13 +8,14 @@ use lib.Dec.{eqb}
 use lib.ListN.{length}
 use Rattle.spec.specs.Bytes.{Bytes}
 use Rattle.spec.specs.declared.Refusal.{Refusal}
+use Rattle.spec.specs.declared.Mode.{Mode}
 use Rattle.reader_contract.specs.declared.State.{State}
 use Rattle.reader_contract.specs.declared.Report.{Report}
 use Rattle.reader_contract.specs.declared.Answer.the-variants.{Done, Refused}
 use Rattle.reader_contract.specs.Meaning.{Nothing}
 use Rattle.reader_contract.specs.Meets.{numberOf, Starts, Steps, Finishes}
 use Rattle.reader_host.specs.declared.Image.{Image}
-use Rattle.reader_host.specs.Image.{stateBytes, encode, decode}
+use Rattle.reader_host.specs.Image.{stateBytes, modeOf, encode, decode}
 
 -- every number but 0 says yes
 abbrev pub yes : ℕ → Bool
@@ -41,18 +42,20 @@ pub record Does (b : Bytes) (s : State) (R : Report → Type 0) (n : ℕ) (b′ 
 -- ---- start: whatever the state's bytes hold
 
 -- from the state before any document; refused, the bytes stay
-pub record Begins (based : Bool) (base : Bytes) (b w i : List ℕ) (n : ℕ) (b′ w′ : List ℕ) : Type 0 where
+pub record Begins (mode : Mode) (based : Bool) (base : Bytes) (b w i : List ℕ) (n : ℕ) (b′ w′ : List ℕ) : Type 0 where
   pub before : State
   pub nothing : Nothing before
   pub report : Report
-  pub call : Starts based base before w i report w′
+  pub call : Starts mode based base before w i report w′
   pub answer : n ≡ numberOf (report .answer)
   pub refused : (k : Refusal) → report .answer ≡ Refused k → b′ ≡ b
   pub done : report .answer ≡ Done → Stands b′ (report .state)
 
-pub record StartsIn (based : Bool) (base : Bytes) (b w i : List ℕ) (n : ℕ) (b′ w′ : List ℕ) : Type 0 where
+-- in the mode of a number, if it is one's
+pub record StartsIn (mode : ℕ) (based : Bool) (base : Bytes) (b w i : List ℕ) (n : ℕ) (b′ w′ : List ℕ) : Type 0 where
   pub bad : (length b ≡ stateBytes → ⊥) → (n ≡ 3) × (b′ ≡ b) × (w′ ≡ w)
-  pub good : length b ≡ stateBytes → Begins based base b w i n b′ w′
+  pub unknown : 1 < mode → (n ≡ 3) × (b′ ≡ b) × (w′ ≡ w)
+  pub good : length b ≡ stateBytes → mode ≤ 1 → Begins (modeOf mode) based base b w i n b′ w′
 
 -- ---- step and finish: bytes that stand for no state get 3
 

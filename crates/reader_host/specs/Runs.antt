@@ -5,9 +5,7 @@ use mathlib.Core.Bool.{Bool, true, false}
 use mathlib.Core.Option.{some}
 use mathlib.Core.List.{List, [], _++_}
 use native.Mathlib.Omega.{arith}
-use lib.Dec.{eqb}
-use lib.ListN.{length, take}
-use borrow.Author.Tests.{eqb-true, eqb-false}
+use lib.ListN.{take}
 use Rattle.spec.specs.Bytes.{Bytes}
 use Rattle.spec.specs.NTriplesGrammar.{isNTriples}
 use Rattle.reader_contract.specs.declared.State.{State}
@@ -16,56 +14,60 @@ use Rattle.reader_contract.specs.Unique.{number-tells}
 use Rattle.reader_theorems.specs.Runs.{Ran, step-never-three, finish-never-three}
 use Rattle.reader_theorems.specs.Runs as reader
 use Rattle.reader_theorems.specs.Whole.{run-n-triples}
-use Rattle.reader_host.specs.Image.{decode}
+use Rattle.reader_host.specs.Image.{modeOf, decode}
 use Rattle.reader_host.specs.Meets.{StartsIn, StepsIn, FinishesIn}
-use Rattle.reader_host.specs.Use.{start-leaves}
+use Rattle.reader_host.specs.Use.{fitting, start-fits, start-unfit, start-leaves}
 
--- the calls from an accepted start on: state, work store and ID store as they are left, and all bytes that the steps wrote
-pub data RanIn (based : Bool) (base : Bytes) : Bytes → List ℕ → List ℕ → Bytes → Type 0 where
-  started : {b w i b′ w′ : Bytes} → StartsIn based base b w i 0 b′ w′ → RanIn based base b′ w′ i []
+-- the calls from an accepted start on, in the mode of a number: state, work store and ID store as they are left, and all bytes that the steps wrote
+pub data RanIn (mode : ℕ) (based : Bool) (base : Bytes) : Bytes → List ℕ → List ℕ → Bytes → Type 0 where
+  started : {b w i b′ w′ : Bytes} → StartsIn mode based base b w i 0 b′ w′ → RanIn mode based base b′ w′ i []
   stepped : {b w i o : Bytes} {last : Bool} {input out : Bytes} {n c k : ℕ} {b′ w′ i′ out′ : Bytes}
-      → RanIn based base b w i o → StepsIn last input b w i out n c k b′ w′ i′ out′ → RanIn based base b′ w′ i′ (o ++ take k out′)
-  ended : {b w i o : Bytes} {n : ℕ} {b′ : Bytes} → RanIn based base b w i o → FinishesIn b w i n b′ → RanIn based base b′ w i o
+      → RanIn mode based base b w i o → StepsIn last input b w i out n c k b′ w′ i′ out′
+      → RanIn mode based base b′ w′ i′ (o ++ take k out′)
+  ended : {b w i o : Bytes} {n : ℕ} {b′ : Bytes} → RanIn mode based base b w i o → FinishesIn b w i n b′ → RanIn mode based base b′ w i o
   -- a start that is refused changes nothing
-  declined : {b w i o : Bytes} {a : Bool} {e : Bytes} {n : ℕ} {b′ w′ : Bytes} → RanIn based base b w i o → StartsIn a e b w i n b′ w′ → (n ≡ 0 → ⊥) → RanIn based base b′ w′ i o
+  declined : {b w i o : Bytes} {m : ℕ} {a : Bool} {e : Bytes} {n : ℕ} {b′ w′ : Bytes}
+      → RanIn mode based base b w i o → StartsIn m a e b w i n b′ w′ → (n ≡ 0 → ⊥) → RanIn mode based base b′ w′ i o
 
 -- the state that the bytes stand for was left by calls of `reader`
-pub record Runs (based : Bool) (base : Bytes) (b w i o : Bytes) : Type 0 where
+pub record Runs (mode : ℕ) (based : Bool) (base : Bytes) (b w i o : Bytes) : Type 0 where
   pub state : State
   pub read : decode b ≡ some state
-  pub ran : Ran based base state w i o
+  pub ran : Ran (modeOf mode) based base state w i o
 
-begun : {based : Bool} {base b w i b′ w′ : Bytes} → StartsIn based base b w i 0 b′ w′ → Runs based base b′ w′ i []
-begun {based} {base} {b} {w} {i} {b′} {w′} x = go (eqb (length b) 11_112) refl
+begun : {mode : ℕ} {based : Bool} {base b w i b′ w′ : Bytes} → StartsIn mode based base b w i 0 b′ w′
+    → Runs mode based base b′ w′ i []
+begun {mode} {based} {base} {b} {w} {i} {b′} {w′} x = go (fitting mode b) refl
   where
-    go : (l : Bool) → eqb (length b) 11_112 ≡ l → Runs based base b′ w′ i []
-    go false e = let z = x .bad (eqb-false (length b) 11_112 e) .0 in absurd (omega arith)
+    go : (l : Bool) → fitting mode b ≡ l → Runs mode based base b′ w′ i []
+    go false e = let z = start-unfit x e .0 in absurd (omega arith)
     go true e =
-        let h = x .good (eqb-true (length b) 11_112 e) in
+        let h = start-fits x e in
         let q = number-tells (h .report .answer) Done (sym (h .answer)) in
         record { state = h .report .state; read = h .done q .read; ran = reader.started (h .call) q }
 
-module _ {based : Bool} {base b w i o : Bytes} (f : Runs based base b w i o) where
-  one-more : {last : Bool} {input out : Bytes} {n c k : ℕ} {b′ w′ i′ out′ : Bytes} → StepsIn last input b w i out n c k b′ w′ i′ out′ → Runs based base b′ w′ i′ (o ++ take k out′)
+module _ {mode : ℕ} {based : Bool} {base b w i o : Bytes} (f : Runs mode based base b w i o) where
+  one-more : {last : Bool} {input out : Bytes} {n c k : ℕ} {b′ w′ i′ out′ : Bytes} → StepsIn last input b w i out n c k b′ w′ i′ out′ → Runs mode based base b′ w′ i′ (o ++ take k out′)
   one-more x =
       let g = x .good (f .state) (f .read) in
       record { state = g .report .state; read = g .behind .read; ran = rw (g .call .2) (reader.stepped (f .ran) (g .call .0)) }
 
-  closed : {n : ℕ} {b′ : Bytes} → FinishesIn b w i n b′ → Runs based base b′ w i o
+  closed : {n : ℕ} {b′ : Bytes} → FinishesIn b w i n b′ → Runs mode based base b′ w i o
   closed x =
       let g = x .good (f .state) (f .read) in
       record { state = g .report .state; read = g .behind .read; ran = reader.ended (f .ran) (g .call) }
 
-  unmoved : {b′ w′ : Bytes} → (b′ ≡ b) × (w′ ≡ w) → Runs based base b′ w′ i o
+  unmoved : {b′ w′ : Bytes} → (b′ ≡ b) × (w′ ≡ w) → Runs mode based base b′ w′ i o
   unmoved l = record { state = f .state; read = rw (l .0) (f .read); ran = rw (l .1) (f .ran) }
 
-pub runs : {based : Bool} {base b w i o : Bytes} → RanIn based base b w i o → Runs based base b w i o
+pub runs : {mode : ℕ} {based : Bool} {base b w i o : Bytes} → RanIn mode based base b w i o
+    → Runs mode based base b w i o
 runs (started x) = begun x
 runs (stepped h x) = one-more (runs h) x
 runs (ended h x) = closed (runs h) x
 runs (declined h x z) = unmoved (runs h) (start-leaves x z)
 
-module _ {based : Bool} {base b w i o : Bytes} (h : RanIn based base b w i o) where
+module _ {mode : ℕ} {based : Bool} {base b w i o : Bytes} (h : RanIn mode based base b w i o) where
   -- no call of a document gets 3
   pub step-never-bad : {last : Bool} {input out : Bytes} {c k : ℕ} {b′ w′ i′ out′ : Bytes} → StepsIn last input b w i out 3 c k b′ w′ i′ out′ → ⊥
   step-never-bad x =

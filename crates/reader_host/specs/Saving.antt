@@ -23,10 +23,10 @@ use Rattle.reader_host.specs.Rows.{WroteRows}
 pub loads-none : {b : Bytes} {i : Image} → i .good ≡ false → decode b ≡ none → Loads b i
 loads-none g d = record { bad = λ _. d; good = λ e. let z : _≡_ {A = ℕ} 0 1 = cc in absurd (omega arith) }
 
-module _ (b : Bytes) (h : Below 256 b) (l : length b ≡ stateBytes) {ns fs bs is ia il : List ℕ} {r : Registers} (n : ns ≡ rowsAt 8 b 0 13) (f : flagsOk ns ≡ true) (e : r ≡ registersOf ns)
-    (x : fs ≡ rowsAt 4 b 104 1_152) (y : bs ≡ rowsAt 4 b 4_712 384) (z : is ≡ rowsAt 4 b 6_248 192) (u : ia ≡ rowsAt 4 b 7_016 512) (v : il ≡ rowsAt 4 b 9_064 512) where
+module _ (b : Bytes) (h : Below 256 b) (l : length b ≡ stateBytes) {ns fs bs is ia il : List ℕ} {r : Registers} (n : ns ≡ rowsAt 8 b 0 15) (f : flagsOk ns ≡ true) (e : r ≡ registersOf ns)
+    (x : fs ≡ rowsAt 4 b 120 1_152) (y : bs ≡ rowsAt 4 b 4_728 384) (z : is ≡ rowsAt 4 b 6_264 192) (u : ia ≡ rowsAt 4 b 7_032 512) (v : il ≡ rowsAt 4 b 9_080 512) where
   abbrev made : State
-  made = record { registers = r; frames = fs; bindings = bs; inners = is; ids = record { count = getD ns 11 0; used = getD ns 12 0; at = ia; len = il } }
+  made = record { registers = r; frames = fs; bindings = bs; inners = is; ids = record { count = getD ns 13 0; used = getD ns 14 0; at = ia; len = il } }
 
   read : decode b ≡ some made
   unfolding stateOf
@@ -40,7 +40,7 @@ module _ (b : Bytes) (h : Below 256 b) (l : length b ≡ stateBytes) {ns fs bs i
 -- the table of rdf:IDs stands at the end
 pub record WroteIds (b : Bytes) (t : IdTable) (b′ : Bytes) : Type 0 where
   pub same : length b′ ≡ length b
-  pub wrote : Wrote b b′ 7_016 11_112 (rows 4 (t .at) ++ rows 4 (t .len))
+  pub wrote : Wrote b b′ 7_032 11_128 (rows 4 (t .at) ++ rows 4 (t .len))
   pub at : Words 512 (t .at)
   pub len : Words 512 (t .len)
 
@@ -48,17 +48,17 @@ pub record WroteIds (b : Bytes) (t : IdTable) (b′ : Bytes) : Type 0 where
 ended : {k : ℕ} {b : Bytes} {at : ℕ} {ns : List ℕ} {b′ : Bytes} (to n : ℕ) → WroteRows k b at ns b′ → length ns ≡ n → at + n * k ≡ to → Wrote b b′ at to (rows k ns)
 ended to n p l e = rw (l, e) at (p .wrote)
 
-pub write-both : {b c d : Bytes} {t : IdTable} → WroteRows 4 b 7_016 (t .at) c → WroteRows 4 c 9_064 (t .len) d → length (t .at) ≡ 512 → length (t .len) ≡ 512 → WroteIds b t d
+pub write-both : {b c d : Bytes} {t : IdTable} → WroteRows 4 b 7_032 (t .at) c → WroteRows 4 c 9_080 (t .len) d → length (t .at) ≡ 512 → length (t .len) ≡ 512 → WroteIds b t d
 write-both p q l m =
     record {
       same = q .same ∙ p .same;
-      wrote = then (ended 9_064 512 p l (omega arith)) (ended 11_112 512 q m (omega arith));
+      wrote = then (ended 9_080 512 p l (omega arith)) (ended 11_128 512 q m (omega arith));
       at = record { size = l; fits = p .fits };
       len = record { size = m; fits = q .fits };
     }
 
-module _ {b b₁ b₂ b₃ b₄ b₅ : Bytes} (s : State) (l : length b ≡ stateBytes) (p : WroteRows 8 b 0 (numbersOf s) b₁) (q : WroteRows 4 b₁ 104 (s .frames) b₂)
-    (r : WroteRows 4 b₂ 4_712 (s .bindings) b₃) (t : WroteRows 4 b₃ 6_248 (s .inners) b₄) (u : WroteIds b₄ (s .ids) b₅)
+module _ {b b₁ b₂ b₃ b₄ b₅ : Bytes} (s : State) (l : length b ≡ stateBytes) (p : WroteRows 8 b 0 (numbersOf s) b₁) (q : WroteRows 4 b₁ 120 (s .frames) b₂)
+    (r : WroteRows 4 b₂ 4_728 (s .bindings) b₃) (t : WroteRows 4 b₃ 6_264 (s .inners) b₄) (u : WroteIds b₄ (s .ids) b₅)
     (x : length (s .frames) ≡ 1_152) (y : length (s .bindings) ≡ 384) (z : length (s .inners) ≡ 192) where
   typed : Typed s
   typed =
@@ -71,13 +71,13 @@ module _ {b b₁ b₂ b₃ b₄ b₅ : Bytes} (s : State) (l : length b ≡ stat
         len = u .len;
       }
 
-  all : Wrote b b₅ 0 11_112 (encode s)
+  all : Wrote b b₅ 0 11_128 (encode s)
   unfolding encode numbersOf
   all =
-      then (p .wrote) (then (ended 4_712 1_152 q x (omega arith)) (then (ended 6_248 384 r y (omega arith)) (then (ended 7_016 192 t z (omega arith)) (u .wrote))))
+      then (p .wrote) (then (ended 4_728 1_152 q x (omega arith)) (then (ended 6_264 384 r y (omega arith)) (then (ended 7_032 192 t z (omega arith)) (u .wrote))))
 
   pub saved : Stands b₅ s
   saved =
-      let n : length b₅ ≡ 11_112 = u .same ∙ (t .same ∙ (r .same ∙ (q .same ∙ (p .same ∙ l)))) in
-      let e : b₅ ≡ encode s = sym (take-all 11_112 b₅ (omega arith)) ∙ wrote-front all in
+      let n : length b₅ ≡ 11_128 = u .same ∙ (t .same ∙ (r .same ∙ (q .same ∙ (p .same ∙ l)))) in
+      let e : b₅ ≡ encode s = sym (take-all 11_128 b₅ (omega arith)) ∙ wrote-front all in
       record { read = rw e (decode-encode s typed); written = e }

@@ -7,15 +7,12 @@ use mathlib.Core.Logic.{_⊎_, inl, inr, ⊎-elim}
 use mathlib.Core.Option.{Option, none, some}
 use mathlib.Core.List.{List, []}
 use native.Mathlib.Omega.{arith}
-use lib.Dec.{eqb}
 use lib.ListN.{length}
-use borrow.Author.Tests.{eqb-true, eqb-false}
 use Rattle.spec.specs.Bytes.{Bytes, _>>_, require_or_}
 use Rattle.spec.specs.Numbers as numbers
 use Rattle.spec.specs.Numbers.{refuse, good}
 use Rattle.spec.specs.declared.Refusal.the-variants.{BadState}
 use Rattle.spec.specs.declared.Mode.{Mode}
-use Rattle.spec.specs.Modes.{baseMode}
 use Rattle.spec.specs.Calls.{unlawful, markedBy, refused, refusedIn, mayStart, started, callStart, callStep, callFinish}
 use Rattle.spec.specs.Calls as calls
 use Rattle.theorems.specs.Calls.{number-positive}
@@ -26,9 +23,9 @@ use Rattle.reader_contract.specs.declared.Answer.the-variants.{Done}
 use Rattle.reader_contract.specs.Meaning.{baseOf, meaningOf}
 use Rattle.reader_contract.specs.Meets.{lengthsRight}
 use Rattle.reader_contract.specs.Unique.{number-tells}
-use Rattle.reader_host.specs.Image.{stateBytes, decode}
+use Rattle.reader_host.specs.Image.{modeOf, decode}
 use Rattle.reader_host.specs.Meets.{StartsIn, StepsIn, FinishesIn}
-use Rattle.reader_host.specs.Use.{markedBytes, by-state, start-leaves, step-leaves, finish-leaves}
+use Rattle.reader_host.specs.Use.{markedBytes, by-state, fitting, start-fits, start-unfit, start-leaves, step-leaves, finish-leaves}
 
 -- what a host keeps: the state's bytes, the work store and the ID store
 abbrev pub kept : Option State → List ℕ → List ℕ → calls.State
@@ -87,9 +84,9 @@ finish-reports {b} {w} {i} {n} {b′} x = by-state b no-state of-state
 
 -- ---- start: the state's bytes count by their length alone
 
--- all three have their lengths
-abbrev pub allRight : Bytes → List ℕ → List ℕ → Bool
-allRight b w i = eqb (length b) stateBytes && lengthsRight w i
+-- all three have their lengths, and the number is a mode's
+abbrev pub allRight : ℕ → Bytes → List ℕ → List ℕ → Bool
+allRight mode b w i = fitting mode b && lengthsRight w i
 
 -- the answer does not depend on the state
 start-number : (l : Bool) (m : Mode) (o : Option Bytes) (s t : calls.State)
@@ -116,23 +113,27 @@ start-behind l m o s t = go (mayStart l o)
     go (refuse r) = inr (number-positive r, refl)
     go (good u) = inl (refl, refl)
 
-pub start-reports : {based : Bool} {base b w i : Bytes} {n : ℕ} {b′ w′ : Bytes} → StartsIn based base b w i n b′ w′
-    → (n ≡ callStart (allRight b w i) baseMode (baseOf based base) (meansIn b w i) .answer) × (meansIn b′ w′ i ≡ callStart (allRight b w i) baseMode (baseOf based base) (meansIn b w i) .behind)
+pub start-reports : {mode : ℕ} {based : Bool} {base b w i : Bytes} {n : ℕ} {b′ w′ : Bytes}
+    → StartsIn mode based base b w i n b′ w′
+    → (n ≡ callStart (allRight mode b w i) (modeOf mode) (baseOf based base) (meansIn b w i) .answer)
+    × (meansIn b′ w′ i ≡ callStart (allRight mode b w i) (modeOf mode) (baseOf based base) (meansIn b w i) .behind)
 unfolding refused
-start-reports {based} {base} {b} {w} {i} {n} {b′} {w′} x = go (eqb (length b) 11_112) refl
+start-reports {mode} {based} {base} {b} {w} {i} {n} {b′} {w′} x = go (fitting mode b) refl
   where
-    go : (l : Bool) → eqb (length b) 11_112 ≡ l
-        → (n ≡ callStart (l && lengthsRight w i) baseMode (baseOf based base) (meansIn b w i) .answer) × (meansIn b′ w′ i ≡ callStart (l && lengthsRight w i) baseMode (baseOf based base) (meansIn b w i) .behind)
-    go false e = let h = x .bad (eqb-false (length b) 11_112 e) in rw (h .0, h .1, h .2, start-short baseMode (baseOf based base) (meansIn b w i)) (refl, refl)
+    go : (l : Bool) → fitting mode b ≡ l
+        → (n ≡ callStart (l && lengthsRight w i) (modeOf mode) (baseOf based base) (meansIn b w i) .answer)
+        × (meansIn b′ w′ i ≡ callStart (l && lengthsRight w i) (modeOf mode) (baseOf based base) (meansIn b w i) .behind)
+    go false e = let h = start-unfit x e in rw (h .0, h .1, h .2, start-short (modeOf mode) (baseOf based base) (meansIn b w i)) (refl, refl)
     go true e =
-        let h = x .good (eqb-true (length b) 11_112 e) in
+        let h = start-fits x e in
         let m = h .call .meets in
-        let a : n ≡ callStart (lengthsRight w i) baseMode (baseOf based base) (meaningOf (h .before) w i) .answer = h .answer ∙ m .answer in (
-          a ∙ start-number (lengthsRight w i) baseMode (baseOf based base) (meaningOf (h .before) w i) (meansIn b w i),
+        let a : n ≡ callStart (lengthsRight w i) (modeOf mode) (baseOf based base) (meaningOf (h .before) w i) .answer = h .answer ∙ m .answer in (
+          a ∙ start-number (lengthsRight w i) (modeOf mode) (baseOf based base) (meaningOf (h .before) w i)
+              (meansIn b w i),
           ⊎-elim
               (λ y. means-some b′ w′ i (h .done (number-tells (h .report .answer) Done (m .answer ∙ y .0)) .read) ∙ (m .behind ∙ y .1))
               (λ y. let z = start-leaves x (λ q. y .0 (sym a ∙ q)) in rw (z .0, z .1) (sym (y .1)))
-              (start-behind (lengthsRight w i) baseMode (baseOf based base) (meaningOf (h .before) w i)
+              (start-behind (lengthsRight w i) (modeOf mode) (baseOf based base) (meaningOf (h .before) w i)
               (meansIn b w i)),
         )
 
@@ -179,7 +180,8 @@ finish-unique {b = b} x y =
       refused = λ z. (finish-leaves x z ∙ (ap (λ (a : ℕ). markedBytes a b) e ∙ sym (finish-leaves y (λ h. z (e ∙ h)))), refl, refl);
     }
 
-pub start-unique : {based : Bool} {base b w i : Bytes} {n : ℕ} {b₁ w₁ : Bytes} {m : ℕ} {b₂ w₂ : Bytes} → StartsIn based base b w i n b₁ w₁ → StartsIn based base b w i m b₂ w₂
+pub start-unique : {mode : ℕ} {based : Bool} {base b w i : Bytes} {n : ℕ} {b₁ w₁ : Bytes} {m : ℕ} {b₂ w₂ : Bytes}
+    → StartsIn mode based base b w i n b₁ w₁ → StartsIn mode based base b w i m b₂ w₂
     → Same n 0 0 b₁ w₁ i [] m 0 0 b₂ w₂ i []
 start-unique x y =
     let p = start-reports x in

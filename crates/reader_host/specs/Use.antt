@@ -1,13 +1,13 @@
 -- The rules of use that host/iceshaft.h states, as theorems about the contracts.
-use Prim.Native.Nat.{ℕ, suc, _≤_}
+use Prim.Native.Nat.{ℕ, suc, _≤_, _<_}
 use mathlib.Core.Path.{_≡_, refl, sym, ap, _∙_}
-use mathlib.Core.Bool.{Bool, true, false}
+use mathlib.Core.Bool.{Bool, true, false, _&&_}
 use mathlib.Core.Option.{Option, none, some}
 use mathlib.Core.List.{List, [], _∷_, _++_}
 use native.Mathlib.Omega.{arith}
-use lib.Dec.{eqb, ltb}
+use lib.Dec.{eqb, leb, ltb}
 use lib.ListN.{length, set}
-use borrow.Author.Tests.{eqb-true, eqb-false, ltb-false}
+use borrow.Author.Tests.{eqb-true, eqb-false, leb-true, leb-false, ltb-false}
 use Rattle.spec.specs.Bytes.{Bytes, byte, if_then_else_}
 use Rattle.spec.specs.Limits.{mostEventBytes}
 use Rattle.spec.specs.Numbers.{number, closes}
@@ -16,6 +16,7 @@ use Rattle.spec.specs.declared.Refusal.the-variants.{Incomplete}
 use Rattle.spec.specs.PyxCut.{goesOn, Ending, sure, lineEnd, midLine, inFront, reach, wait, tooLong, ended, inLength, cut}
 use Rattle.spec.specs.Calls.{callStep}
 use Rattle.spec.specs.Calls as calls
+use Rattle.spec.proofs.Booleans.{and-left, and-right}
 use Rattle.theorems.specs.Calls.{step-by-table, zero-counts}
 use Rattle.theorems.specs.Refusals.{Why, no-event, given-only-when}
 use Rattle.state_words.specs.Words.{pick}
@@ -26,8 +27,8 @@ use Rattle.reader_contract.specs.declared.Answer.the-variants.{Done, Refused}
 use Rattle.reader_contract.specs.Meaning.{closedState, marked, meaningOf}
 use Rattle.reader_contract.specs.Meets.{numberOf, closing-numbers, Meets}
 use Rattle.reader_host.specs.Little.{little, rows}
-use Rattle.reader_host.specs.Image.{flag, numbersOf, encode, decode}
-use Rattle.reader_host.specs.Meets.{Stands, StartsIn, StepsIn, FinishesIn}
+use Rattle.reader_host.specs.Image.{flag, stateBytes, modeOf, numbersOf, encode, decode}
+use Rattle.reader_host.specs.Meets.{Stands, Begins, StartsIn, StepsIn, FinishesIn}
 
 -- ---- the closing mark in the bytes
 
@@ -117,14 +118,32 @@ pub finish-leaves : {b w i : Bytes} {n : ℕ} {b′ : Bytes} → FinishesIn b w 
 finish-leaves {b} {w} {i} {n} {b′} x z =
     by-state b (λ e. rw (x .bad e .0) (x .bad e .1)) (λ s e. let h = x .good s e in left s (h .report) (h .before) (h .behind) (h .answer) z (h .call .meets) .0)
 
+-- what start asks before all else: the buffer has its length, and the number is a mode's
+abbrev pub fitting : ℕ → Bytes → Bool
+fitting mode b = eqb (length b) stateBytes && leb mode 1
+
+module _ {mode : ℕ} {based : Bool} {base b w i : Bytes} {n : ℕ} {b′ w′ : Bytes}
+    (x : StartsIn mode based base b w i n b′ w′) where
+  pub start-fits : fitting mode b ≡ true → Begins (modeOf mode) based base b w i n b′ w′
+  start-fits e =
+      x .good (eqb-true (length b) 11_128 (and-left _ _ e)) (leb-true mode 1 (and-right (eqb (length b) 11_128) _ e))
+
+  pub start-unfit : fitting mode b ≡ false → (n ≡ 3) × (b′ ≡ b) × (w′ ≡ w)
+  start-unfit = go (eqb (length b) 11_128) refl
+    where
+      go : (l : Bool) → eqb (length b) 11_128 ≡ l → (l && leb mode 1) ≡ false → (n ≡ 3) × (b′ ≡ b) × (w′ ≡ w)
+      go false e q = x .bad (eqb-false (length b) 11_128 e)
+      go true e q = x .unknown (leb-false mode 1 q)
+
 -- a refused start changes nothing
-pub start-leaves : {based : Bool} {base b w i : Bytes} {n : ℕ} {b′ w′ : Bytes} → StartsIn based base b w i n b′ w′ → (n ≡ 0 → ⊥) → (b′ ≡ b) × (w′ ≡ w)
-start-leaves {b = b} {w = w} {n = n} {b′ = b′} {w′ = w′} x z = go (eqb (length b) 11_112) refl
+pub start-leaves : {mode : ℕ} {based : Bool} {base b w i : Bytes} {n : ℕ} {b′ w′ : Bytes} → StartsIn mode based base b w i n b′ w′ → (n ≡ 0 → ⊥)
+    → (b′ ≡ b) × (w′ ≡ w)
+start-leaves {mode} {b = b} {w = w} {n = n} {b′ = b′} {w′ = w′} x z = go (fitting mode b) refl
   where
-    go : (l : Bool) → eqb (length b) 11_112 ≡ l → (b′ ≡ b) × (w′ ≡ w)
-    go false e = let h = x .bad (eqb-false (length b) 11_112 e) in (h .1, h .2)
+    go : (l : Bool) → fitting mode b ≡ l → (b′ ≡ b) × (w′ ≡ w)
+    go false e = let h = start-unfit x e in (h .1, h .2)
     go true e =
-        let h = x .good (eqb-true (length b) 11_112 e) in
+        let h = start-fits x e in
         let q = refusal (h .report .answer) (λ y. z (h .answer ∙ y)) in
         (h .refused (q .0) (q .1), h .call .meets .kept (q .0) (q .1) .work)
 

@@ -7,11 +7,12 @@ ghost use mathlib.Core.List.{[], _∷_};
 ghost use lib.ListN.{length};
 ghost use Rattle.copy.specs.Copy.{part, Wrote};
 ghost use Rattle.reader_host.specs.Little.{little, valueOf, rowsAt};
-ghost use Rattle.reader_host.specs.Image.{flag, stateBytes, numbersOf, flagsOk, registersOf};
+ghost use Rattle.reader_host.specs.Image.{flag, modeNumber, modeOf, stateBytes, numbersOf, flagsOk, registersOf};
 ghost use Rattle.reader_host.specs.Meets.{yes, Stands, Loads, StartsIn, StepsIn, FinishesIn};
 ghost use Rattle.reader_host.specs.Rows.{WroteRows};
 ghost use Rattle.reader_host.specs.Saving.{WroteIds};
 use reader_contract::State;
+use spec::Mode;
 use state::Counts;
 use state::Flags;
 use state::Registers;
@@ -28,8 +29,8 @@ pub struct Image {
 }
 
 impl Image {
-    // Its numbers; the flags are the first three.
-    pub const NUMBERS: usize = 13;
+    // Its numbers; the flags are the first three, then comes the mode.
+    pub const NUMBERS: usize = 15;
 
     // Where its tables begin.
     pub const FRAMES: usize = Self::NUMBERS * 8;
@@ -62,22 +63,26 @@ pub extern "C" fn iceshaft_state_bytes() -> usize
     Image::BYTES
 }
 
-// A document begins, with a start base where `based` is not 0.
+// A document begins in the mode of this number, with a start base where `based` is not 0.
 #[no_mangle]
 pub extern "C" fn iceshaft_start(
     state: &mut [u8],
     work: &mut [u8],
     ids: &[u8],
+    mode: u32,
     based: u32,
     base: &[u8],
 ) -> u8
-    ensures { λ n. ⌜ StartsIn (yes based) (now (base .entry)) (now (state .entry)) (now (work .entry)) (now (ids .entry)) n (now (state .exit)) (now (work .exit)) ⌝ }
+    ensures { λ n. ⌜ StartsIn mode (yes based) (now (base .entry)) (now (state .entry)) (now (work .entry)) (now (ids .entry)) n (now (state .exit)) (now (work .exit)) ⌝ }
 {
     if state.len() != Image::BYTES {
         return 3;
     }
+    if mode > 1 {
+        return 3;
+    }
     let before = State::none();
-    let report = reader::start(before, based != 0, base, work, ids);
+    let report = reader::start(before, mode_of(mode as usize), based != 0, base, work, ids);
     let answer = report.answer;
     let number = answer.number();
     if number != 0 {
@@ -159,8 +164,8 @@ fn load(b: &[u8]) -> Image
     read_words(b, Image::IDS_LEN, &mut len);
     let registers = registers_of(numbers);
     let ids = IdTable {
-        count: numbers[11],
-        used: numbers[12],
+        count: numbers[13],
+        used: numbers[14],
         at,
         len,
     };
@@ -212,6 +217,7 @@ fn numbers_of(s: State) -> [usize; Image::NUMBERS]
         flag(r.flags.closed),
         flag(r.flags.rooted),
         flag(r.flags.based),
+        mode_number(r.mode),
         r.store.base,
         r.counts.depth,
         r.counts.inner,
@@ -219,10 +225,29 @@ fn numbers_of(s: State) -> [usize; Image::NUMBERS]
         r.counts.bindings,
         r.store.top,
         r.store.low,
+        r.store.noted,
         r.counts.labels as usize,
         ids.count,
         ids.used,
     ]
+}
+
+// The number of a mode: 0 the base, 1 XMP packets.
+fn mode_number(mode: Mode) -> usize
+    ensures { λ n. ⌜ n ≡ modeNumber mode ⌝ }
+{
+    if mode.xmp { 1 } else { 0 }
+}
+
+// The mode that it is the number of.
+fn mode_of(number: usize) -> Mode
+    ensures { λ m. ⌜ m ≡ modeOf number ⌝ }
+{
+    if number == 1 {
+        Mode::xmp()
+    } else {
+        Mode::base()
+    }
 }
 
 fn flag(f: bool) -> usize
@@ -231,33 +256,35 @@ fn flag(f: bool) -> usize
     if f { 1 } else { 0 }
 }
 
-// Is each flag 0 or 1?
+// Is each flag 0 or 1, and the mode a known one?
 fn flags_ok(ns: [usize; Image::NUMBERS]) -> bool
     ensures { λ r. ⌜ r ≡ flagsOk ns ⌝ }
 {
-    (ns[0] <= 1) & ((ns[1] <= 1) & (ns[2] <= 1))
+    (ns[0] <= 1) & ((ns[1] <= 1) & ((ns[2] <= 1) & (ns[3] <= 1)))
 }
 
 fn registers_of(ns: [usize; Image::NUMBERS]) -> Registers
     ensures { λ r. ⌜ r ≡ registersOf ns ⌝ }
 {
     Registers {
+        mode: mode_of(ns[3]),
         flags: Flags {
             closed: ns[0] == 1,
             rooted: ns[1] == 1,
             based: ns[2] == 1,
         },
         store: Store {
-            base: ns[3],
-            top: ns[8],
-            low: ns[9],
+            base: ns[4],
+            top: ns[9],
+            low: ns[10],
+            noted: ns[11],
         },
         counts: Counts {
-            depth: ns[4],
-            inner: ns[5],
-            outer: ns[6],
-            bindings: ns[7],
-            labels: ns[10] as u64,
+            depth: ns[5],
+            inner: ns[6],
+            outer: ns[7],
+            bindings: ns[8],
+            labels: ns[12] as u64,
         },
     }
 }

@@ -12,7 +12,7 @@ use Rattle.spec.specs.Bytes.{Bytes}
 use Rattle.spec.specs.Numbers.{good}
 use Rattle.spec.specs.Pyx.{Event, opening, closing, text, instruction}
 use Rattle.spec.specs.NTriples.{Triple}
-use Rattle.spec.specs.Modes.{baseMode}
+use Rattle.spec.specs.declared.Mode.{Mode}
 use Rattle.spec.specs.Document.{Frame, Doc, fresh}
 use Rattle.spec.specs.RdfXml.{next}
 use Rattle.spec.specs.Lists.{After, here, event}
@@ -105,20 +105,23 @@ since k (event {d = d} a e d′ us q) lo hi = go (leb (suc k) (length (d .frames
 -- ---- its end tag
 
 -- an element of a document's own events, of which its end tag is the last: those before its start tag and its own are all
-pub record Closed (b : Option Bytes) (d′ : Doc) (es : List Event) (ts : List Triple) : Type 0 where
+pub record Closed (mode : Mode) (b : Option Bytes) (d′ : Doc) (es : List Event) (ts : List Triple) : Type 0 where
   pub before : Doc
   pub earlier : List Triple
-  pub prior : After (fresh baseMode b) before earlier
+  pub prior : After (fresh mode b) before earlier
   pub element : Element before d′
   pub events : es ≡ eventsOf prior ++ eventsIn element
   pub lines : ts ≡ earlier ++ linesIn element
 
-pub closed : {b : Option Bytes} {d : Doc} {ts : List Triple} (a : After (fresh baseMode b) d ts) (n : Bytes) (us : List Triple) (d′ : Doc) → next (closing n) d ≡ good (us, d′)
-    → (c : Closed b d′ (eventsOf a ++ (closing n ∷ [])) (ts ++ us)) × (c .element .last ≡ d) × (c .element .endLines ≡ us)
+pub closed : {mode : Mode} {b : Option Bytes} {d : Doc} {ts : List Triple} (a : After (fresh mode b) d ts) (n : Bytes)
+    (us : List Triple) (d′ : Doc) → next (closing n) d ≡ good (us, d′)
+    → (c : Closed mode b d′ (eventsOf a ++ (closing n ∷ [])) (ts ++ us)) × (c .element .last ≡ d)
+    × (c .element .endLines ≡ us)
 unfolding fresh eventsIn linesIn
-closed {b} {d} {ts} a n us d′ q = go (since (length (d′ .frames)) a (omega arith) (omega (arith, turn (closing n) d d′ q)))
+closed {mode} {b} {d} {ts} a n us d′ q =
+    go (since (length (d′ .frames)) a (omega arith) (omega (arith, turn (closing n) d d′ q)))
   where
-    go : Since (length (d′ .frames)) a → (c : Closed b d′ (eventsOf a ++ (closing n ∷ [])) (ts ++ us)) × (c .element .last ≡ d) × (c .element .endLines ≡ us)
+    go : Since (length (d′ .frames)) a → (c : Closed mode b d′ (eventsOf a ++ (closing n ∷ [])) (ts ++ us)) × (c .element .last ≡ d) × (c .element .endLines ≡ us)
     go s = (
       record {
         before = s .before;

@@ -9,6 +9,7 @@ use Rattle.spec.specs.declared.Refusal.{Refusal}
 use Rattle.spec.specs.declared.Refusal.the-variants.{Incomplete, NotPyx, OverLimit}
 use Rattle.spec.specs.Pyx.{Event, opening, closing, readEvent}
 use Rattle.spec.specs.PyxCut.{Cut, wait, unended, tooLong, whole, cut}
+use Rattle.spec.specs.declared.Mode.{Mode}
 use Rattle.spec.specs.NTriples.{Triple, write}
 use Rattle.spec.specs.Document.{Doc}
 use Rattle.spec.specs.Opening.{Step}
@@ -36,7 +37,7 @@ taken Done (refuse n) = []
 taken (Refused n) a = []
 
 -- all that the steps took, in order
-unfoldable pub runEvents : {based : Bool} {base : Bytes} {s : State} {w i : List ℕ} {o : Bytes} → Ran based base s w i o → List Event
+unfoldable pub runEvents : {mode : Mode} {based : Bool} {base : Bytes} {s : State} {w i : List ℕ} {o : Bytes} → Ran mode based base s w i o → List Event
 runEvents (started x q) = []
 runEvents (stepped {last = last} {input = input} {r = r} h x) = runEvents h ++ taken (r .answer) (firstOf last input)
 runEvents (ended h x) = runEvents h

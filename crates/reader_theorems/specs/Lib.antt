@@ -9,3 +9,5 @@ pub mod Rust
 pub mod Elements
 pub mod Collections
 pub mod Lists
+-- ---- document 02, request 1: packets
+pub mod Packets

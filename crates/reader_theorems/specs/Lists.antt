@@ -9,7 +9,7 @@ use Rattle.spec.specs.Bytes.{Bytes}
 use Rattle.spec.specs.Numbers.{good}
 use Rattle.spec.specs.Pyx.{Event, closing}
 use Rattle.spec.specs.NTriples.{Subject, node, Triple, triple, write}
-use Rattle.spec.specs.Modes.{baseMode}
+use Rattle.spec.specs.declared.Mode.{Mode}
 use Rattle.spec.specs.Document.{collection, Property, propertyElement}
 use Rattle.spec.specs.Productions.{reification, statement}
 use Rattle.spec.specs.RdfXml.{next}
@@ -30,14 +30,17 @@ use Rattle.reader_theorems.specs.Elements.{Closed, closed}
 use Rattle.reader_theorems.specs.Collections.{InCollection, began, stayed}
 
 -- an element of a run's own events, which the last of them closed
-abbrev pub ClosedIn : {based : Bool} {base : Bytes} {s : State} {w i : List ℕ} {o : Bytes} → Ran based base s w i o → Type 0
-ClosedIn {based} {base} h = Closed (baseOf based base) (run-lines h .doc) (runEvents h) (run-lines h .lines)
+abbrev pub ClosedIn : {mode : Mode} {based : Bool} {base : Bytes} {s : State} {w i : List ℕ} {o : Bytes} → Ran mode based base s w i o → Type 0
+ClosedIn {mode} {based} {base} h = Closed mode (baseOf based base) (run-lines h .doc) (runEvents h) (run-lines h .lines)
 
 -- ---- a step of a run
 
-module _ {based : Bool} {base : Bytes} {s : State} {w i : List ℕ} {o : Bytes} (h : Ran based base s w i o)
+module _ {mode : Mode} {based : Bool} {base : Bytes} {s : State} {w i : List ℕ} {o : Bytes}
+    (h : Ran mode based base s w i o)
     {last : Bool} {input : Bytes} {out : List ℕ} {r : Report} {w′ i′ out′ : List ℕ} (x : Steps last input s w i out r w′ i′ out′) where
-  took : (e : Event) → r .answer ≡ Done → firstOf last input ≡ good e → runEvents (stepped h x) ≡ runEvents h ++ (e ∷ [])
+  -- an event that it takes is one more of the run
+  pub took : (e : Event) → r .answer ≡ Done → firstOf last input ≡ good e
+      → runEvents (stepped h x) ≡ runEvents h ++ (e ∷ [])
   unfolding runEvents taken
   took e a f = rw (a, f) refl
 
@@ -70,7 +73,7 @@ module _ {based : Bool} {base : Bytes} {s : State} {w i : List ℕ} {o : Bytes} 
     pub list : Subject
     pub others : List Triple
     pub ends : closes .element .endLines ≡ others ++ statement p (node list)
-    pub reads : {s″ : State} {w″ i″ : List ℕ} {o″ : Bytes} (k : Ran based base s″ w″ i″ o″) → Later (stepped h x) k
+    pub reads : {s″ : State} {w″ i″ : List ℕ} {o″ : Bytes} (k : Ran mode based base s″ w″ i″ o″) → Later (stepped h x) k
         → Reads (run-lines h .doc .labels) (run-lines (stepped h x) .doc .labels) (run-lines k .lines) list (children (closes .element .begun))
 
   -- where the element that it closes was opened as a Collection, it closes a Collection
@@ -91,17 +94,18 @@ one-object p y z us vs e = go (last-same (us ++ fourOf y) (vs ++ fourOf z) _ _ (
     go : triple (p .subject) (p .iri) (node y) ≡ triple (p .subject) (p .iri) (node z) → y ≡ z
     go q = cc
 
-module _ {based : Bool} {base : Bytes} {s : State} {w i : List ℕ} {o : Bytes} {h : Ran based base s w i o}
+module _ {mode : Mode} {based : Bool} {base : Bytes} {s : State} {w i : List ℕ} {o : Bytes}
+    {h : Ran mode based base s w i o}
     {last : Bool} {input : Bytes} {out : List ℕ} {r : Report} {w′ i′ out′ : List ℕ} {x : Steps last input s w i out r w′ i′ out′} {p : Property} where
   -- in the lines of one later state
   reads-at : (c : ClosedIn (stepped h x)) → innermost (c .element .begun .first .frames) ≡ some (propertyElement p (collection []))
-      → {s″ : State} {w″ i″ : List ℕ} {o″ : Bytes} (k : Ran based base s″ w″ i″ o″) → Later (stepped h x) k
+      → {s″ : State} {w″ i″ : List ℕ} {o″ : Bytes} (k : Ran mode based base s″ w″ i″ o″) → Later (stepped h x) k
       → (y : Subject) × (us : List Triple) × (c .element .endLines ≡ us ++ statement p (node y))
       × Reads (c .element .last .labels) (run-lines (stepped h x) .doc .labels) (run-lines k .lines) y (children (c .element .begun))
   reads-at c is k l =
       let f = run-further l in
       rw (f .2, c .lines, append-assoc)
-      (collections-read-back baseMode (baseOf based base) (c .before) (run-lines (stepped h x) .doc) (run-lines k .doc) (c .earlier) (f .0) p [] (c .element) (c .prior) is (f .1))
+      (collections-read-back mode (baseOf based base) (c .before) (run-lines (stepped h x) .doc) (run-lines k .doc) (c .earlier) (f .0) p [] (c .element) (c .prior) is (f .1))
 
   -- Every Collection that a step of a run closes can be read back, from there on.
   pub run-reads-back : ClosesCollection h x p → ReadsBack h x p
@@ -123,7 +127,7 @@ module _ {based : Bool} {base : Bytes} {s : State} {w i : List ℕ} {o : Bytes} 
 
   -- The labels that can be cells of one Collection that a step of a run closes can't be of another.
   pub run-no-cell-shared : ClosesCollection h x p
-      → {s″ : State} {w″ i″ : List ℕ} {o″ : Bytes} {k : Ran based base s″ w″ i″ o″} {last′ : Bool} {input′ : Bytes} {out″ : List ℕ} {r′ : Report} {w‴ i‴ out‴ : List ℕ}
+      → {s″ : State} {w″ i″ : List ℕ} {o″ : Bytes} {k : Ran mode based base s″ w″ i″ o″} {last′ : Bool} {input′ : Bytes} {out″ : List ℕ} {r′ : Report} {w‴ i‴ out‴ : List ℕ}
       {y : Steps last′ input′ s″ w″ i″ out″ r′ w‴ i‴ out‴} {q : Property} → ClosesCollection k y q → Later (stepped h x) k
       → (c : Subject) → Cell (run-lines h .doc .labels) (run-lines (stepped h x) .doc .labels) c → Cell (run-lines k .doc .labels) (run-lines (stepped k y) .doc .labels) c → ⊥
   run-no-cell-shared z {k = k} {y = y} z′ l c =
@@ -131,16 +135,17 @@ module _ {based : Bool} {base : Bytes} {s : State} {w i : List ℕ} {o : Bytes} 
       let e′ = run-element k y (z′ .done) (z′ .takes) in
       let f = run-further l in
       rw (← e .1, ← e′ .1)
-      (no-cell-in-two-collections baseMode (baseOf based base) (e .0 .before) (run-lines (stepped h x) .doc) (e′ .0 .before) (run-lines (stepped k y) .doc) (e .0 .earlier) (f .0)
+      (no-cell-in-two-collections mode (baseOf based base) (e .0 .before) (run-lines (stepped h x) .doc) (e′ .0 .before) (run-lines (stepped k y) .doc) (e .0 .earlier) (f .0)
       (e .0 .element) (e′ .0 .element) c (e .0 .prior) (rw (e′ .1) (f .1)))
 
-module _ {based : Bool} {base : Bytes} {s : State} {w i : List ℕ} {o : Bytes} {h : Ran based base s w i o}
+module _ {mode : Mode} {based : Bool} {base : Bytes} {s : State} {w i : List ℕ} {o : Bytes}
+    {h : Ran mode based base s w i o}
     {last : Bool} {input : Bytes} {out : List ℕ} {r : Report} {w₁ i₁ out₁ : List ℕ} {x : Steps last input s w i out r w₁ i₁ out₁} {p : Property}
-    {s′ : State} {w′ i′ : List ℕ} {o′ : Bytes} {k : Ran based base s′ w′ i′ o′}
+    {s′ : State} {w′ i′ : List ℕ} {o′ : Bytes} {k : Ran mode based base s′ w′ i′ o′}
     {last′ : Bool} {input′ : Bytes} {out′ : List ℕ} {r′ : Report} {w₂ i₂ out₂ : List ℕ} {y : Steps last′ input′ s′ w′ i′ out′ r′ w₂ i₂ out₂} {q : Property} where
   -- No cell is in two lists: those of two Collections that steps of one run closed, in all lines then or at any later state of the run.
   pub run-no-cell-in-two-lists : (z : ClosesCollection h x p) (z′ : ClosesCollection k y q) → Later (stepped h x) k
-      → {s″ : State} {w″ i″ : List ℕ} {o″ : Bytes} (m : Ran based base s″ w″ i″ o″) → Later (stepped k y) m
+      → {s″ : State} {w″ i″ : List ℕ} {o″ : Bytes} (m : Ran mode based base s″ w″ i″ o″) → Later (stepped k y) m
       → (c : Subject) → CellOf (run-lines m .lines) (run-reads-back z .list) c → CellOf (run-lines m .lines) (run-reads-back z′ .list) c → ⊥
   run-no-cell-in-two-lists z z′ l m j c =
       no-cell-shared _ _ _ _ (run-lines m .lines) _ _ (children (run-reads-back z .closes .element .begun)) (children (run-reads-back z′ .closes .element .begun))

@@ -1,6 +1,6 @@
 -- Documents run through the calls, each handed the state and the stores as the call before left them: no call answers
--- 3 or 19, and what `spec` proves of the steps of a document holds of them.
-use Prim.Native.Nat.{ℕ, _≤_}
+-- 3, none in the base mode 19, and what `spec` proves of the steps of a document holds of them.
+use Prim.Native.Nat.{ℕ, _≤_, _<_}
 use mathlib.Core.Path.{_≡_, refl, sym, ap, _∙_}
 use mathlib.Core.Logic.{_⊎_, inl, inr}
 use mathlib.Core.Bool.{Bool, true, false, _&&_}
@@ -130,8 +130,8 @@ finish-done unlawful e = absurd (number-positive BadState e)
 finish-done (isClosed d) e = rw (finish-closes (isClosed d)) tt
 finish-done (isOpen d) e = rw (finish-closes (isOpen d)) tt
 
-pub start-lawful : {based : Bool} {base : Bytes} {s : State} {w i : List ℕ} {r : Report} {w′ : List ℕ}
-    → Starts based base s w i r w′ → r .answer ≡ Done → lawfulState (r .state) w′ i ≡ true
+pub start-lawful : {mode : Mode} {based : Bool} {base : Bytes} {s : State} {w i : List ℕ} {r : Report} {w′ : List ℕ}
+    → Starts mode based base s w i r w′ → r .answer ≡ Done → lawfulState (r .state) w′ i ≡ true
 start-lawful x q = sound-lawful _ _ _ (rw (x .meets .behind, start-opens _ _ _ _ (sym (x .meets .answer) ∙ ap numberOf q) .1) tt)
 
 pub step-lawful : {last : Bool} {input : Bytes} {s : State} {w i out : List ℕ} {r : Report} {w′ i′ out′ : List ℕ}
@@ -144,57 +144,63 @@ finish-lawful x q = sound-lawful _ _ _ (rw (x .meets .behind) (finish-done _ (sy
 -- ---- a document
 
 -- the calls from an accepted start on: state, work store and ID store as they are left, and all bytes that the steps wrote
-pub data Ran (based : Bool) (base : Bytes) : State → List ℕ → List ℕ → Bytes → Type 0 where
-  started : {s : State} {w i : List ℕ} {r : Report} {w′ : List ℕ} → Starts based base s w i r w′ → r .answer ≡ Done → Ran based base (r .state) w′ i []
+pub data Ran (mode : Mode) (based : Bool) (base : Bytes) : State → List ℕ → List ℕ → Bytes → Type 0 where
+  started : {s : State} {w i : List ℕ} {r : Report} {w′ : List ℕ} → Starts mode based base s w i r w′ → r .answer ≡ Done → Ran mode based base (r .state) w′ i []
   stepped : {s : State} {w i : List ℕ} {o : Bytes} {last : Bool} {input : Bytes} {out : List ℕ} {r : Report} {w′ i′ out′ : List ℕ}
-      → Ran based base s w i o → Steps last input s w i out r w′ i′ out′ → Ran based base (r .state) w′ i′ (o ++ take (r .written) out′)
-  ended : {s : State} {w i : List ℕ} {o : Bytes} {r : Report} → Ran based base s w i o → Finishes s w i r → Ran based base (r .state) w i o
+      → Ran mode based base s w i o → Steps last input s w i out r w′ i′ out′
+      → Ran mode based base (r .state) w′ i′ (o ++ take (r .written) out′)
+  ended : {s : State} {w i : List ℕ} {o : Bytes} {r : Report} → Ran mode based base s w i o → Finishes s w i r → Ran mode based base (r .state) w i o
   -- a start that is refused changes nothing
-  declined : {s : State} {w i : List ℕ} {o : Bytes} {a : Bool} {b : Bytes} {r : Report} {w′ : List ℕ} (n : Refusal)
-      → Ran based base s w i o → Starts a b s w i r w′ → r .answer ≡ Refused n → Ran based base (r .state) w′ i o
+  declined : {s : State} {w i : List ℕ} {o : Bytes} {m : Mode} {a : Bool} {b : Bytes} {r : Report} {w′ : List ℕ}
+      (n : Refusal)
+      → Ran mode based base s w i o → Starts m a b s w i r w′ → r .answer ≡ Refused n
+      → Ran mode based base (r .state) w′ i o
 
 -- further calls behind those of h
-pub data Onward {based : Bool} {base : Bytes} {s : State} {w i : List ℕ} {o : Bytes} (h : Ran based base s w i o)
-    : (s′ : State) (w′ i′ : List ℕ) (o′ : Bytes) → Ran based base s′ w′ i′ o′ → Type 0 where
+pub data Onward {mode : Mode} {based : Bool} {base : Bytes} {s : State} {w i : List ℕ} {o : Bytes}
+    (h : Ran mode based base s w i o)
+    : (s′ : State) (w′ i′ : List ℕ) (o′ : Bytes) → Ran mode based base s′ w′ i′ o′ → Type 0 where
   now : Onward h s w i o h
-  and-stepped : {s′ : State} {w′ i′ : List ℕ} {o′ : Bytes} {k : Ran based base s′ w′ i′ o′} {last : Bool} {input : Bytes} {out : List ℕ} {r : Report} {w″ i″ out″ : List ℕ}
+  and-stepped : {s′ : State} {w′ i′ : List ℕ} {o′ : Bytes} {k : Ran mode based base s′ w′ i′ o′} {last : Bool} {input : Bytes} {out : List ℕ} {r : Report} {w″ i″ out″ : List ℕ}
       → Onward h s′ w′ i′ o′ k → (x : Steps last input s′ w′ i′ out r w″ i″ out″) → Onward h (r .state) w″ i″ (o′ ++ take (r .written) out″) (stepped k x)
-  and-ended : {s′ : State} {w′ i′ : List ℕ} {o′ : Bytes} {k : Ran based base s′ w′ i′ o′} {r : Report}
+  and-ended : {s′ : State} {w′ i′ : List ℕ} {o′ : Bytes} {k : Ran mode based base s′ w′ i′ o′} {r : Report}
       → Onward h s′ w′ i′ o′ k → (x : Finishes s′ w′ i′ r) → Onward h (r .state) w′ i′ o′ (ended k x)
-  and-declined : {s′ : State} {w′ i′ : List ℕ} {o′ : Bytes} {k : Ran based base s′ w′ i′ o′} {a : Bool} {b : Bytes} {r : Report} {w″ : List ℕ} (n : Refusal)
-      → Onward h s′ w′ i′ o′ k → (x : Starts a b s′ w′ i′ r w″) (q : r .answer ≡ Refused n) → Onward h (r .state) w″ i′ o′ (declined n k x q)
+  and-declined : {s′ : State} {w′ i′ : List ℕ} {o′ : Bytes} {k : Ran mode based base s′ w′ i′ o′} {m : Mode} {a : Bool} {b : Bytes} {r : Report} {w″ : List ℕ} (n : Refusal)
+      → Onward h s′ w′ i′ o′ k → (x : Starts m a b s′ w′ i′ r w″) (q : r .answer ≡ Refused n) → Onward h (r .state) w″ i′ o′ (declined n k x q)
 
 -- the same document at the same state or a later one
-abbrev pub Later : {based : Bool} {base : Bytes} {s : State} {w i : List ℕ} {o : Bytes} {s′ : State} {w′ i′ : List ℕ} {o′ : Bytes}
-    → Ran based base s w i o → Ran based base s′ w′ i′ o′ → Type 0
+abbrev pub Later : {mode : Mode} {based : Bool} {base : Bytes} {s : State} {w i : List ℕ} {o : Bytes} {s′ : State} {w′ i′ : List ℕ} {o′ : Bytes}
+    → Ran mode based base s w i o → Ran mode based base s′ w′ i′ o′ → Type 0
 Later {s′} {w′} {i′} {o′} h k = Onward h s′ w′ i′ o′ k
 
-pub later-still : {based : Bool} {base : Bytes} {s : State} {w i : List ℕ} {o : Bytes} {s′ : State} {w′ i′ : List ℕ} {o′ : Bytes} {s″ : State} {w″ i″ : List ℕ} {o″ : Bytes}
-    {h : Ran based base s w i o} {k : Ran based base s′ w′ i′ o′} {m : Ran based base s″ w″ i″ o″} → Later h k → Later k m → Later h m
+pub later-still : {mode : Mode} {based : Bool} {base : Bytes} {s : State} {w i : List ℕ} {o : Bytes} {s′ : State} {w′ i′ : List ℕ} {o′ : Bytes} {s″ : State} {w″ i″ : List ℕ} {o″ : Bytes}
+    {h : Ran mode based base s w i o} {k : Ran mode based base s′ w′ i′ o′} {m : Ran mode based base s″ w″ i″ o″}
+    → Later h k → Later k m → Later h m
 later-still l now = l
 later-still l (and-stepped j x) = and-stepped (later-still l j) x
 later-still l (and-ended j x) = and-ended (later-still l j) x
 later-still l (and-declined n j x q) = and-declined n (later-still l j) x q
 
 -- the steps of `spec`, up to the mark that finish sets
-pub record Follows (b : Option Bytes) (m : calls.State) (o : Bytes) : Type 0 where
+pub record Follows (mode : Mode) (b : Option Bytes) (m : calls.State) (o : Bytes) : Type 0 where
   pub before : calls.State
-  pub steps : spec.Steps baseMode b before o
+  pub steps : spec.Steps mode b before o
   pub same : (m ≡ before) ⊎ (m ≡ markClosed before)
 
-closed-steps : {b : Option Bytes} {o : Bytes} (last : Bool) (s : Bytes) (room : ℕ) (t : calls.State)
-    → spec.Steps baseMode b t o
-    → Follows b (callStep last s room (markClosed t) .behind) (o ++ callStep last s room (markClosed t) .output)
+closed-steps : {mode : Mode} {b : Option Bytes} {o : Bytes} (last : Bool) (s : Bytes) (room : ℕ) (t : calls.State)
+    → spec.Steps mode b t o
+    → Follows mode b (callStep last s room (markClosed t) .behind) (o ++ callStep last s room (markClosed t) .output)
 unfolding callStep refusedIn refused markedBy markClosed
 closed-steps last s room (isOpen d) h = rw append-nil (record { before = isOpen d; steps = h; same = inr refl })
 closed-steps last s room (isClosed d) h = rw append-nil (record { before = isClosed d; steps = h; same = inr refl })
-closed-steps {b} {o} last s room unlawful h = absurd (always-lawful baseMode b o h)
+closed-steps {mode} {b} {o} last s room unlawful h = absurd (always-lawful mode b o h)
 
-follows-step : {b : Option Bytes} {m : calls.State} {o : Bytes} (last : Bool) (s : Bytes) (room : ℕ) → Follows b m o
-    → Follows b (callStep last s room m .behind) (o ++ callStep last s room m .output)
-follows-step {b} {m} {o} last s room f = go (f .same)
+follows-step : {mode : Mode} {b : Option Bytes} {m : calls.State} {o : Bytes} (last : Bool) (s : Bytes) (room : ℕ)
+    → Follows mode b m o
+    → Follows mode b (callStep last s room m .behind) (o ++ callStep last s room m .output)
+follows-step {mode} {b} {m} {o} last s room f = go (f .same)
   where
-    go : (m ≡ f .before) ⊎ (m ≡ markClosed (f .before)) → Follows b (callStep last s room m .behind) (o ++ callStep last s room m .output)
+    go : (m ≡ f .before) ⊎ (m ≡ markClosed (f .before)) → Follows mode b (callStep last s room m .behind) (o ++ callStep last s room m .output)
     go (inl e) = rw e (record { before = callStep last s room (f .before) .behind; steps = and-step (f .steps) last s room; same = inl refl })
     go (inr e) = rw e (closed-steps last s room (f .before) (f .steps))
 
@@ -204,7 +210,8 @@ twice (isOpen d) = refl
 twice (isClosed d) = refl
 twice unlawful = refl
 
-follows-end : {b : Option Bytes} {m : calls.State} {o : Bytes} → Follows b m o → Follows b (callFinish m .behind) o
+follows-end : {mode : Mode} {b : Option Bytes} {m : calls.State} {o : Bytes} → Follows mode b m o
+    → Follows mode b (callFinish m .behind) o
 follows-end {b} {m} {o} f = rw (finish-closes m) (record { before = f .before; steps = f .steps; same = inr (go (f .same)) })
   where
     go : (m ≡ f .before) ⊎ (m ≡ markClosed (f .before)) → markClosed m ≡ markClosed (f .before)
@@ -212,7 +219,7 @@ follows-end {b} {m} {o} f = rw (finish-closes m) (record { before = f .before; s
     go (inr e) = rw e (twice (f .before))
 
 -- a run of calls is a row of `spec`'s steps
-pub follows : {based : Bool} {base : Bytes} {s : State} {w i : List ℕ} {o : Bytes} → Ran based base s w i o → Follows (baseOf based base) (meaningOf s w i) o
+pub follows : {mode : Mode} {based : Bool} {base : Bytes} {s : State} {w i : List ℕ} {o : Bytes} → Ran mode based base s w i o → Follows mode (baseOf based base) (meaningOf s w i) o
 follows (started x q) =
     let k = start-opens _ _ _ _ (sym (x .meets .answer) ∙ ap numberOf q) in
     record { before = _; steps = at-start; same = inl (x .meets .behind ∙ k .1) }
@@ -222,15 +229,15 @@ follows (declined n h x q) = let k = x .meets .kept n q in rw (k .state, k .work
 
 -- ---- no call of a document answers 3
 
-steps-sound : {b : Option Bytes} {o : Bytes} (t : calls.State) → spec.Steps baseMode b t o
+steps-sound : {mode : Mode} {b : Option Bytes} {o : Bytes} (t : calls.State) → spec.Steps mode b t o
     → Sound t × Sound (markClosed t)
 unfolding markClosed
 steps-sound (isOpen d) h = (tt, tt)
 steps-sound (isClosed d) h = (tt, tt)
-steps-sound {b} {o} unlawful h = absurd (always-lawful baseMode b o h)
+steps-sound {mode} {b} {o} unlawful h = absurd (always-lawful mode b o h)
 
 -- the state behind each call is by the rules
-pub ran-sound : {based : Bool} {base : Bytes} {s : State} {w i : List ℕ} {o : Bytes} → Ran based base s w i o → Sound (meaningOf s w i)
+pub ran-sound : {mode : Mode} {based : Bool} {base : Bytes} {s : State} {w i : List ℕ} {o : Bytes} → Ran mode based base s w i o → Sound (meaningOf s w i)
 ran-sound {s = s} {w = w} {i = i} h = go (follows h .same)
   where
     go : (meaningOf s w i ≡ follows h .before) ⊎ (meaningOf s w i ≡ markClosed (follows h .before)) → Sound (meaningOf s w i)
@@ -244,39 +251,57 @@ lawful-lengths s w i h =
     let k : eqb (length i) 32_768 ≡ true = and-left _ _ (and-right (validState (s .registers) (s .frames) (s .bindings) (s .inners) w) _ h) in
     rw (eq-eqb (length w) 65_536 (v .store)) k
 
-module _ {based : Bool} {base : Bytes} {s : State} {w i : List ℕ} {o : Bytes} (h : Ran based base s w i o) {r : Report} where
+module _ {mode : Mode} {based : Bool} {base : Bytes} {s : State} {w i : List ℕ} {o : Bytes}
+    (h : Ran mode based base s w i o) {r : Report} where
   pub step-never-three : {last : Bool} {input : Bytes} {out w′ i′ out′ : List ℕ} → Steps last input s w i out r w′ i′ out′ → numberOf (r .answer) ≡ 3 → ⊥
   step-never-three x e = step-three _ _ _ _ (ran-sound h) (sym (x .meets .answer) ∙ e)
 
   pub finish-never-three : Finishes s w i r → numberOf (r .answer) ≡ 3 → ⊥
   finish-never-three x e = finish-three _ (ran-sound h) (sym (x .meets .answer) ∙ e)
 
-  -- a further start too, whatever its base
-  pub start-never-three : {a : Bool} {b : Bytes} {w′ : List ℕ} → Starts a b s w i r w′ → numberOf (r .answer) ≡ 3 → ⊥
-  start-never-three {a} {b} x e =
-      start-three baseMode (baseOf a b) (meaningOf s w i) (ap (λ (l : Bool). callStart l baseMode (baseOf a b) (meaningOf s w i) .answer) (sym (lawful-lengths s w i (sound-lawful s w i (ran-sound h)))) ∙ (sym (x .meets .answer) ∙ e))
+  -- a further start too, whatever its mode and base
+  pub start-never-three : {m : Mode} {a : Bool} {b : Bytes} {w′ : List ℕ} → Starts m a b s w i r w′
+      → numberOf (r .answer) ≡ 3 → ⊥
+  start-never-three {m} {a} {b} x e =
+      let right : true ≡ lengthsRight w i = sym (lawful-lengths s w i (sound-lawful s w i (ran-sound h))) in
+      start-three m (baseOf a b) (meaningOf s w i)
+      (ap (λ (l : Bool). callStart l m (baseOf a b) (meaningOf s w i) .answer) right ∙ (sym (x .meets .answer) ∙ e))
 
--- ---- no call answers 19: it is the profile's, and all documents are in the base mode
+-- ---- what no step answers in a mode, by the definitions, none of the calls answers there
 
-closed-nineteen : (last : Bool) (s : Bytes) (room : ℕ) (t : calls.State)
-    → callStep last s room (markClosed t) .answer ≡ 19 → ⊥
+-- behind the mark that finish sets there is 4 alone, and 3 without a document
+closed-low : (last : Bool) (s : Bytes) (room : ℕ) (t : calls.State) → callStep last s room (markClosed t) .answer ≤ 4
 unfolding callStep refusedIn refused markClosed
-closed-nineteen last s room (isOpen d) e = omega arith
-closed-nineteen last s room (isClosed d) e = omega arith
-closed-nineteen last s room unlawful e = omega arith
+closed-low last s room (isOpen d) = omega arith
+closed-low last s room (isClosed d) = omega arith
+closed-low last s room unlawful = omega arith
 
-step-nineteen : {b : Option Bytes} {m : calls.State} {o : Bytes} (last : Bool) (s : Bytes) (room : ℕ)
-    → Follows b m o → callStep last s room m .answer ≡ 19 → ⊥
-step-nineteen {b} {m} {o} last s room f e = go (f .same)
+-- no step of the definitions answers n
+abbrev pub NeverIn : Mode → Option Bytes → ℕ → Type 0
+NeverIn mode b n = (t : calls.State) (o : Bytes) → spec.Steps mode b t o
+    → (last : Bool) (s : Bytes) (room : ℕ) → callStep last s room t .answer ≡ n → ⊥
+
+follows-never : {mode : Mode} {b : Option Bytes} {m : calls.State} {o : Bytes} {n : ℕ} → NeverIn mode b n → 4 < n
+    → (last : Bool) (s : Bytes) (room : ℕ) → Follows mode b m o → callStep last s room m .answer ≡ n → ⊥
+follows-never {m = m} {o = o} never above last s room f e = go (f .same)
   where
     go : (m ≡ f .before) ⊎ (m ≡ markClosed (f .before)) → ⊥
-    go (inl q) = base-never-19 b (f .before) o (f .steps) last s room (rw q at e)
-    go (inr q) = closed-nineteen last s room (f .before) (rw q at e)
+    go (inl q) = never (f .before) o (f .steps) last s room (rw q at e)
+    go (inr q) = let k = closed-low last s room (f .before) in omega (arith, above, k, rw q at e)
 
-pub step-never-nineteen : {based : Bool} {base : Bytes} {s : State} {w i : List ℕ} {o : Bytes} → Ran based base s w i o
+pub step-never : {mode : Mode} {based : Bool} {base : Bytes} {s : State} {w i : List ℕ} {o : Bytes} {n : ℕ}
+    → NeverIn mode (baseOf based base) n → 4 < n → Ran mode based base s w i o
+    → {last : Bool} {input : Bytes} {out : List ℕ} {r : Report} {w′ i′ out′ : List ℕ}
+    → Steps last input s w i out r w′ i′ out′ → numberOf (r .answer) ≡ n → ⊥
+step-never never above h x e = follows-never never above _ _ _ (follows h) (sym (x .meets .answer) ∙ e)
+
+-- ---- 19 is the profile's: no call of a document in the base mode answers it
+
+pub step-never-nineteen : {based : Bool} {base : Bytes} {s : State} {w i : List ℕ} {o : Bytes}
+    → Ran baseMode based base s w i o
     → {last : Bool} {input : Bytes} {out : List ℕ} {r : Report} {w′ i′ out′ : List ℕ}
     → Steps last input s w i out r w′ i′ out′ → numberOf (r .answer) ≡ 19 → ⊥
-step-never-nineteen h x e = step-nineteen _ _ _ (follows h) (sym (x .meets .answer) ∙ e)
+step-never-nineteen {based} {base} h = step-never (base-never-19 (baseOf based base)) (omega arith) h
 
 -- finish and start answer no such number, whatever they are handed
 finish-low : (t : calls.State) → callFinish t .answer ≤ 6
@@ -304,7 +329,7 @@ start-low true m (some b) t = go (isIri b) (leb (length b) mostNameBytes)
 pub finish-never-nineteen : {s : State} {w i : List ℕ} {r : Report} → Finishes s w i r → numberOf (r .answer) ≡ 19 → ⊥
 finish-never-nineteen {s} {w} {i} x e = omega (arith, finish-low (meaningOf s w i), x .meets .answer, e)
 
-pub start-never-nineteen : {a : Bool} {b : Bytes} {s : State} {w i : List ℕ} {r : Report} {w′ : List ℕ}
-    → Starts a b s w i r w′ → numberOf (r .answer) ≡ 19 → ⊥
-start-never-nineteen {a} {b} {s} {w} {i} x e =
-    omega (arith, start-low (lengthsRight w i) baseMode (baseOf a b) (meaningOf s w i), x .meets .answer, e)
+pub start-never-nineteen : {m : Mode} {a : Bool} {b : Bytes} {s : State} {w i : List ℕ} {r : Report} {w′ : List ℕ}
+    → Starts m a b s w i r w′ → numberOf (r .answer) ≡ 19 → ⊥
+start-never-nineteen {m} {a} {b} {s} {w} {i} x e =
+    omega (arith, start-low (lengthsRight w i) m (baseOf a b) (meaningOf s w i), x .meets .answer, e)

@@ -1,5 +1,5 @@
--- Demand 2, the Rust, of documents that are run through the calls: what they write is the N-Triples text of exactly
--- the Rust's triples, in its order, and what they refuse in the domain the Rust refuses.
+-- Demand 2, the Rust, of documents that are run through the calls in the base mode: what they write is the N-Triples
+-- text of exactly the Rust's triples, in its order, and what they refuse in the domain the Rust refuses.
 use Prim.Native.Nat.{ℕ}
 use mathlib.Core.Path.{_≡_, refl, sym, ap, _∙_, subst}
 use mathlib.Core.Logic.{_⊎_, inl, inr}
@@ -120,7 +120,8 @@ finish-accepts t d (inr e) h = absurd (number-positive Closed (rw e at h))
 
 -- ---- of the calls
 
-module _ {based : Bool} {base : Bytes} {s : State} {w i : List ℕ} {o : Bytes} (h : Ran based base s w i o) where
+module _ {based : Bool} {base : Bytes} {s : State} {w i : List ℕ} {o : Bytes}
+    (h : Ran baseMode based base s w i o) where
   -- the Rust on the events that the calls took
   rust : OnRust (baseOf based base) (run-lines h .doc) (run-lines h .lines) (runEvents h)
   rust =

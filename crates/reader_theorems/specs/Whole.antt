@@ -14,7 +14,7 @@ use Rattle.spec.specs.Pyx.{Event}
 use Rattle.spec.specs.NTriples.{blank, Triple, line, write, label}
 use Rattle.spec.specs.NTriplesGrammar.{isNTriples}
 use Rattle.spec.specs.NTriplesReading.{ntriplesDoc}
-use Rattle.spec.specs.Modes.{baseMode}
+use Rattle.spec.specs.declared.Mode.{Mode}
 use Rattle.spec.specs.Document.{Doc, fresh}
 use Rattle.spec.specs.StartTag.{rdf-nodeID, judge}
 use Rattle.spec.specs.RdfXml.{next}
@@ -44,10 +44,10 @@ use Rattle.reader_theorems.specs.Events.{firstOf, taken, runEvents, even
 -- ---- lines
 
 -- these events, accepted, lead to the document, and all bytes written are their lines
-pub record Lines (b : Option Bytes) (es : List Event) (m : calls.State) (o : Bytes) : Type 0 where
+pub record Lines (mode : Mode) (b : Option Bytes) (es : List Event) (m : calls.State) (o : Bytes) : Type 0 where
   pub doc : Doc
   pub lines : List Triple
-  pub after : After (fresh baseMode b) doc lines
+  pub after : After (fresh mode b) doc lines
   pub events : eventsOf after ≡ es
   pub bytes : o ≡ write lines
   pub means : (m ≡ isOpen doc) ⊎ (m ≡ isClosed doc)
@@ -64,20 +64,24 @@ closed-or-open unchanged d = inl refl
 closed-or-open becomes-closed d = inr refl
 
 -- refused, a step takes no event and changes no more than the mark
-lines-kept : {b : Option Bytes} {es : List Event} {m : calls.State} {o : Bytes} (f : Lines b es m o) (a : called.Answer) (e : Answer Event) (x : Refusal) (m′ : calls.State)
-    → numberOf a ≡ number x → (m′ ≡ isOpen (f .doc)) ⊎ (m′ ≡ isClosed (f .doc)) → Lines b (es ++ taken a e) m′ (o ++ [])
+lines-kept : {mode : Mode} {b : Option Bytes} {es : List Event} {m : calls.State} {o : Bytes} (f : Lines mode b es m o)
+    (a : called.Answer) (e : Answer Event) (x : Refusal) (m′ : calls.State)
+    → numberOf a ≡ number x → (m′ ≡ isOpen (f .doc)) ⊎ (m′ ≡ isClosed (f .doc))
+    → Lines mode b (es ++ taken a e) m′ (o ++ [])
 unfolding taken
 lines-kept f Done e x m′ n h = absurd (number-positive x (sym n))
 lines-kept {es} {o} f (Refused y) e x m′ n h =
     rw (append-nil es, append-nil o) (record { doc = f .doc; lines = f .lines; after = f .after; events = f .events; bytes = f .bytes; means = h })
 
-lines-step : {b : Option Bytes} {es : List Event} {m : calls.State} {o : Bytes} (last : Bool) (s : Bytes) (room : ℕ) (a : called.Answer) (f : Lines b es m o)
+lines-step : {mode : Mode} {b : Option Bytes} {es : List Event} {m : calls.State} {o : Bytes} (last : Bool) (s : Bytes)
+    (room : ℕ) (a : called.Answer) (f : Lines mode b es m o)
     → numberOf a ≡ callStep last s room m .answer
-    → Lines b (es ++ taken a (firstOf last s)) (callStep last s room m .behind) (o ++ callStep last s room m .output)
+    → Lines mode b (es ++ taken a (firstOf last s)) (callStep last s room m .behind)
+    (o ++ callStep last s room m .output)
 unfolding taken eventsOf refusedIn refused callStep markedBy
-lines-step {b} {es} {m} {o} last s room a f n = go (f .means)
+lines-step {mode} {b} {es} {m} {o} last s room a f n = go (f .means)
   where
-    on-report : (a : called.Answer) (e : Answer Event) (r : calls.Report) → Reported (f .doc) e r → numberOf a ≡ r .answer → Lines b (es ++ taken a e) (r .behind) (o ++ r .output)
+    on-report : (a : called.Answer) (e : Answer Event) (r : calls.Report) → Reported (f .doc) e r → numberOf a ≡ r .answer → Lines mode b (es ++ taken a e) (r .behind) (o ++ r .output)
     on-report a e r (gave x) n = lines-kept f a e x _ n (closed-or-open (effect x) (f .doc))
     on-report Done e r (did i us d′ k p q) n =
         rw p (record {
@@ -90,11 +94,12 @@ lines-step {b} {es} {m} {o} last s room a f n = go (f .means)
         })
     on-report (Refused y) e r (did i us d′ k p q) n = absurd (number-positive y n)
 
-    go : (m ≡ isOpen (f .doc)) ⊎ (m ≡ isClosed (f .doc)) → Lines b (es ++ taken a (firstOf last s)) (callStep last s room m .behind) (o ++ callStep last s room m .output)
+    go : (m ≡ isOpen (f .doc)) ⊎ (m ≡ isClosed (f .doc)) → Lines mode b (es ++ taken a (firstOf last s)) (callStep last s room m .behind) (o ++ callStep last s room m .output)
     go (inl e) = rw e (on-report a (firstOf last s) (callStep last s room (isOpen (f .doc))) (reported last s room (f .doc)) (rw e at n))
     go (inr e) = rw e (lines-kept f a (firstOf last s) Closed _ (rw e at n) (inr refl))
 
-lines-end : {b : Option Bytes} {es : List Event} {m : calls.State} {o : Bytes} → Lines b es m o → Lines b es (markClosed m) o
+lines-end : {mode : Mode} {b : Option Bytes} {es : List Event} {m : calls.State} {o : Bytes} → Lines mode b es m o
+    → Lines mode b es (markClosed m) o
 unfolding markClosed
 lines-end {m} f = record { doc = f .doc; lines = f .lines; after = f .after; events = f .events; bytes = f .bytes; means = inr (go (f .means)) }
   where
@@ -103,25 +108,27 @@ lines-end {m} f = record { doc = f .doc; lines = f .lines; after = f .after; eve
     go (inr e) = rw e
 
 -- by call
-lines-started : {based : Bool} {base : Bytes} {s : State} {w i : List ℕ} {r : Report} {w′ : List ℕ} → Starts based base s w i r w′ → r .answer ≡ Done
-    → Lines (baseOf based base) [] (meaningOf (r .state) w′ i) []
+lines-started : {mode : Mode} {based : Bool} {base : Bytes} {s : State} {w i : List ℕ} {r : Report} {w′ : List ℕ} → Starts mode based base s w i r w′ → r .answer ≡ Done
+    → Lines mode (baseOf based base) [] (meaningOf (r .state) w′ i) []
 unfolding eventsOf write
 lines-started x q =
     record { doc = _; lines = []; after = here; events = refl; bytes = refl; means = inl (x .meets .behind ∙ start-opens _ _ _ _ (sym (x .meets .answer) ∙ ap numberOf q) .1) }
 
-module _ {b : Option Bytes} {es : List Event} {s : State} {w i : List ℕ} {o : Bytes} (f : Lines b es (meaningOf s w i) o) {r : Report} where
+module _ {mode : Mode} {b : Option Bytes} {es : List Event} {s : State} {w i : List ℕ} {o : Bytes}
+    (f : Lines mode b es (meaningOf s w i) o) {r : Report} where
   lines-stepped : {last : Bool} {input : Bytes} {out w′ i′ out′ : List ℕ} → Steps last input s w i out r w′ i′ out′
-      → Lines b (es ++ taken (r .answer) (firstOf last input)) (meaningOf (r .state) w′ i′) (o ++ take (r .written) out′)
+      → Lines mode b (es ++ taken (r .answer) (firstOf last input)) (meaningOf (r .state) w′ i′)
+      (o ++ take (r .written) out′)
   lines-stepped x = rw (x .meets .behind, wrote-front (x .meets .wrote)) (lines-step _ _ _ _ f (x .meets .answer))
 
-  lines-ended : Finishes s w i r → Lines b es (meaningOf (r .state) w i) o
+  lines-ended : Finishes s w i r → Lines mode b es (meaningOf (r .state) w i) o
   lines-ended x = rw (x .meets .behind, finish-closes) (lines-end f)
 
-  lines-declined : {a : Bool} {c : Bytes} {w′ : List ℕ} (n : Refusal) → Starts a c s w i r w′ → r .answer ≡ Refused n → Lines b es (meaningOf (r .state) w′ i) o
+  lines-declined : {m : Mode} {a : Bool} {c : Bytes} {w′ : List ℕ} (n : Refusal) → Starts m a c s w i r w′ → r .answer ≡ Refused n → Lines mode b es (meaningOf (r .state) w′ i) o
   lines-declined n x q = let k = x .meets .kept n q in rw (k .state, k .work) f
 
 -- the calls of a document accepted its events, and wrote their lines
-pub run-lines : {based : Bool} {base : Bytes} {s : State} {w i : List ℕ} {o : Bytes} (h : Ran based base s w i o) → Lines (baseOf based base) (runEvents h) (meaningOf s w i) o
+pub run-lines : {mode : Mode} {based : Bool} {base : Bytes} {s : State} {w i : List ℕ} {o : Bytes} (h : Ran mode based base s w i o) → Lines mode (baseOf based base) (runEvents h) (meaningOf s w i) o
 unfolding runEvents
 run-lines (started x q) = lines-started x q
 run-lines (stepped h x) = lines-stepped (run-lines h) x
@@ -130,7 +137,8 @@ run-lines (declined n h x q) = lines-declined (run-lines h) n x q
 
 -- ---- the events determine the lines
 
-module _ {b : Option Bytes} {es es′ : List Event} {m m′ : calls.State} {o o′ : Bytes} (f : Lines b es m o) (g : Lines b es′ m′ o′) where
+module _ {mode : Mode} {b : Option Bytes} {es es′ : List Event} {m m′ : calls.State} {o o′ : Bytes}
+    (f : Lines mode b es m o) (g : Lines mode b es′ m′ o′) where
   -- with the same events
   same-lines : es′ ≡ es → (g .doc ≡ f .doc) × (g .lines ≡ f .lines)
   same-lines e = same-events (g .after) (f .after) (g .events ∙ (e ∙ sym (f .events)))
@@ -145,14 +153,14 @@ module _ {b : Option Bytes} {es es′ : List Event} {m m′ : calls.State} {o o�
       append-cancel-left o u (write us) (sym e ∙ (g .bytes ∙ (ap write q ∙ (write-append (f .lines) us ∙ ap (_++ write us) (sym (f .bytes))))))
 
 -- accepted events lead from the one document to the other, whose lines are those of the one and then theirs
-abbrev pub Further : {b : Option Bytes} {es es′ : List Event} {m m′ : calls.State} {o o′ : Bytes} → Lines b es m o → Lines b es′ m′ o′ → Type 0
+abbrev pub Further : {mode : Mode} {b : Option Bytes} {es es′ : List Event} {m m′ : calls.State} {o o′ : Bytes} → Lines mode b es m o → Lines mode b es′ m′ o′ → Type 0
 Further f g = (vs : List Triple) × After (f .doc) (g .doc) vs × (g .lines ≡ f .lines ++ vs)
 
-further-same : {b : Option Bytes} {es es′ es″ : List Event} {m m′ m″ : calls.State} {o o′ o″ : Bytes} (f : Lines b es m o) (g : Lines b es′ m′ o′) (k : Lines b es″ m″ o″)
+further-same : {mode : Mode} {b : Option Bytes} {es es′ es″ : List Event} {m m′ m″ : calls.State} {o o′ o″ : Bytes} (f : Lines mode b es m o) (g : Lines mode b es′ m′ o′) (k : Lines mode b es″ m″ o″)
     → es″ ≡ es′ → Further f g → Further f k
 further-same f g k e h = let r = same-lines g k e in rw (r .0, r .1) h
 
-further-step : {b : Option Bytes} {es es′ es″ : List Event} {m m′ m″ : calls.State} {o o′ o″ : Bytes} (f : Lines b es m o) (g : Lines b es′ m′ o′) (k : Lines b es″ m″ o″)
+further-step : {mode : Mode} {b : Option Bytes} {es es′ es″ : List Event} {m m′ m″ : calls.State} {o o′ o″ : Bytes} (f : Lines mode b es m o) (g : Lines mode b es′ m′ o′) (k : Lines mode b es″ m″ o″)
     (a : called.Answer) (e : Answer Event) → es″ ≡ es′ ++ taken a e → Further f g → Further f k
 unfolding taken
 further-step {es′} f g k Done (refuse n) q h = further-same f g k (q ∙ append-nil es′) h
@@ -162,7 +170,7 @@ further-step f g k Done (good e) q (vs, a, is) =
     (vs ++ r .0, event a e (k .doc) (r .0) (r .1), r .2 ∙ (ap (_++ r .0) is ∙ append-assoc (f .lines) vs (r .0)))
 
 -- what a document has written stays, and later lines come behind it
-pub run-further : {based : Bool} {base : Bytes} {s : State} {w i : List ℕ} {o : Bytes} {s′ : State} {w′ i′ : List ℕ} {o′ : Bytes} {h : Ran based base s w i o} {k : Ran based base s′ w′ i′ o′}
+pub run-further : {mode : Mode} {based : Bool} {base : Bytes} {s : State} {w i : List ℕ} {o : Bytes} {s′ : State} {w′ i′ : List ℕ} {o′ : Bytes} {h : Ran mode based base s w i o} {k : Ran mode based base s′ w′ i′ o′}
     → Later h k → Further (run-lines h) (run-lines k)
 unfolding runEvents
 run-further {h} now = ([], here, sym (append-nil (run-lines h .lines)))
@@ -173,13 +181,13 @@ run-further {h} (and-declined {k = k} n l x q) = further-same (run-lines h) (run
 -- ---- what holds of them
 
 -- the start was accepted
-pub record Begun (b : Option Bytes) : Type 0 where
+pub record Begun (mode : Mode) (b : Option Bytes) : Type 0 where
   pub lengths : Bool
   pub before : calls.State
   pub allowed : mayStart lengths b ≡ good tt
-  pub answer : callStart lengths baseMode b before .answer ≡ 0
+  pub answer : callStart lengths mode b before .answer ≡ 0
 
-pub ran-begun : {based : Bool} {base : Bytes} {s : State} {w i : List ℕ} {o : Bytes} → Ran based base s w i o → Begun (baseOf based base)
+pub ran-begun : {mode : Mode} {based : Bool} {base : Bytes} {s : State} {w i : List ℕ} {o : Bytes} → Ran mode based base s w i o → Begun mode (baseOf based base)
 ran-begun (started x q) =
     let e = sym (x .meets .answer) ∙ ap numberOf q in
     record { lengths = _; before = _; allowed = start-opens _ _ _ _ e .0; answer = e }
@@ -187,20 +195,21 @@ ran-begun (stepped h x) = ran-begun h
 ran-begun (ended h x) = ran-begun h
 ran-begun (declined n h x q) = ran-begun h
 
-module _ {based : Bool} {base : Bytes} {s : State} {w i : List ℕ} {o : Bytes} (h : Ran based base s w i o) where
+module _ {mode : Mode} {based : Bool} {base : Bytes} {s : State} {w i : List ℕ} {o : Bytes}
+    (h : Ran mode based base s w i o) where
   -- its lines can be written
   pub run-spelled : SpelledLines (run-lines h .lines)
   run-spelled =
       let b = baseOf based base in
       let g : GoodBase b = always-good (λ u. GoodBase b) (started-base (ran-begun h .lengths) b) (ran-begun h .allowed) in
-      go (follows h .before) (all-spelled baseMode b (follows h .before) o g (follows h .steps))
+      go (follows h .before) (all-spelled mode b (follows h .before) o g (follows h .steps))
     where
-      same : (d : Doc) → (ts : List Triple) × (After (fresh baseMode (baseOf based base)) d ts × SpelledLines ts) × (o ≡ write ts) → SpelledLines (run-lines h .lines)
+      same : (d : Doc) → (ts : List Triple) × (After (fresh mode (baseOf based base)) d ts × SpelledLines ts) × (o ≡ write ts) → SpelledLines (run-lines h .lines)
       same d (ts, k, e) =
-          rw (← same-bytes-same-triples ts (run-lines h .lines) (whole-given baseMode (baseOf based base) d ts (k .0)) (whole-given baseMode (baseOf based base) (run-lines h .doc) (run-lines h .lines) (run-lines h .after))
+          rw (← same-bytes-same-triples ts (run-lines h .lines) (whole-given mode (baseOf based base) d ts (k .0)) (whole-given mode (baseOf based base) (run-lines h .doc) (run-lines h .lines) (run-lines h .after))
           (sym e ∙ run-lines h .bytes)) (k .1)
 
-      go : (t : calls.State) → Holds (λ d ts. After (fresh baseMode (baseOf based base)) d ts × SpelledLines ts) t o → SpelledLines (run-lines h .lines)
+      go : (t : calls.State) → Holds (λ d ts. After (fresh mode (baseOf based base)) d ts × SpelledLines ts) t o → SpelledLines (run-lines h .lines)
       go (isOpen d) k = same d k
       go (isClosed d) k = same d k
       go unlawful k = absurd k
@@ -219,11 +228,11 @@ module _ {based : Bool} {base : Bytes} {s : State} {w i : List ℕ} {o : Bytes} 
       → ((l : Bytes) → judge rdf-nodeID l ≡ good tt → l ≡ label k → ⊥)
       × ((j : ℕ) → j ≤ d′ .labels → label j ≡ label k → j ≡ k)
       × Unnamed (blank (label k)) (run-lines h .lines)
-  run-labels-new d′ us e q k lo hi = labels.labels-new baseMode (baseOf based base) (run-lines h .doc) d′ (run-lines h .lines) us e (run-lines h .after) q k lo hi
+  run-labels-new d′ us e q k lo hi = labels.labels-new mode (baseOf based base) (run-lines h .doc) d′ (run-lines h .lines) us e (run-lines h .after) q k lo hi
 
   -- behind each call all limits hold
   pub run-within : Within (run-lines h .doc)
-  run-within = always-within baseMode (baseOf based base) (run-lines h .doc) (run-lines h .lines) (start-short (ran-begun h .lengths) baseMode (baseOf based base) (ran-begun h .before) (ran-begun h .answer)) (run-lines h .after)
+  run-within = always-within mode (baseOf based base) (run-lines h .doc) (run-lines h .lines) (start-short (ran-begun h .lengths) mode (baseOf based base) (ran-begun h .before) (ran-begun h .answer)) (run-lines h .after)
 
 -- ---- parts of documents, and documents one after the other
 
@@ -231,8 +240,9 @@ module _ {based : Bool} {base : Bytes} {s : State} {w i : List ℕ} {o : Bytes} 
 -- the same document or in another. So of a step, of a part of a document, of a whole one, of several.
 pub data Output : Bytes → List Triple → Type 0 where
   no-output : Output [] []
-  more-output : {u : Bytes} {ts : List Triple} {based : Bool} {base : Bytes} {s : State} {w i : List ℕ} {o : Bytes} {s′ : State} {w′ i′ : List ℕ} {o′ : Bytes}
-      {h : Ran based base s w i o} {k : Ran based base s′ w′ i′ o′} → Output u ts → (l : Later h k) (v : Bytes) → o′ ≡ o ++ v → Output (u ++ v) (ts ++ run-further l .0)
+  more-output : {u : Bytes} {ts : List Triple} {mode : Mode} {based : Bool} {base : Bytes} {s : State} {w i : List ℕ} {o : Bytes} {s′ : State} {w′ i′ : List ℕ} {o′ : Bytes}
+      {h : Ran mode based base s w i o} {k : Ran mode based base s′ w′ i′ o′} → Output u ts
+      → (l : Later h k) (v : Bytes) → o′ ≡ o ++ v → Output (u ++ v) (ts ++ run-further l .0)
 
 record Stands (u : Bytes) (ts : List Triple) : Type 0 where
   pub bytes : u ≡ write ts
@@ -240,13 +250,13 @@ record Stands (u : Bytes) (ts : List Triple) : Type 0 where
   pub spelled : SpelledLines ts
 
 -- of a part
-stands-part : {based : Bool} {base : Bytes} {s : State} {w i : List ℕ} {o : Bytes} {s′ : State} {w′ i′ : List ℕ} {o′ : Bytes} {h : Ran based base s w i o} {k : Ran based base s′ w′ i′ o′}
+stands-part : {mode : Mode} {based : Bool} {base : Bytes} {s : State} {w i : List ℕ} {o : Bytes} {s′ : State} {w′ i′ : List ℕ} {o′ : Bytes} {h : Ran mode based base s w i o} {k : Ran mode based base s′ w′ i′ o′}
     (l : Later h k) (v : Bytes) → o′ ≡ o ++ v → Stands v (run-further l .0)
-stands-part {based} {base} {h = h} {k = k} l v e =
+stands-part {mode} {based} {base} {h = h} {k = k} l v e =
     let f = run-further l in
     record {
       bytes = more-bytes (run-lines h) (run-lines k) (f .0) v e (f .2);
-      given = part-given baseMode (baseOf based base) (run-lines h .doc) (run-lines k .doc) (run-lines h .lines) (f .0) (run-lines h .after) (f .1);
+      given = part-given mode (baseOf based base) (run-lines h .doc) (run-lines k .doc) (run-lines h .lines) (f .0) (run-lines h .after) (f .1);
       spelled = spelled-behind (run-lines h .lines) (f .0) (subst SpelledLines (f .2) (run-spelled k));
     }
 
@@ -272,6 +282,6 @@ pub same-output : {u v : Bytes} {ts us : List Triple} → Output u ts → Output
 same-output {ts = ts} {us = us} x y e = same-bytes-same-triples ts us (stands x .given) (stands y .given) (sym (stands x .bytes) ∙ (e ∙ stands y .bytes))
 
 -- two documents that wrote the same bytes wrote the same triples
-pub same-bytes : {a : Bool} {b : Bytes} {s : State} {w i : List ℕ} {o : Bytes} {a′ : Bool} {b′ : Bytes} {s′ : State} {w′ i′ : List ℕ} {o′ : Bytes}
-    (h : Ran a b s w i o) (k : Ran a′ b′ s′ w′ i′ o′) → o ≡ o′ → run-lines h .lines ≡ run-lines k .lines
+pub same-bytes : {m : Mode} {a : Bool} {b : Bytes} {s : State} {w i : List ℕ} {o : Bytes} {m′ : Mode} {a′ : Bool} {b′ : Bytes} {s′ : State} {w′ i′ : List ℕ} {o′ : Bytes}
+    (h : Ran m a b s w i o) (k : Ran m′ a′ b′ s′ w′ i′ o′) → o ≡ o′ → run-lines h .lines ≡ run-lines k .lines
 same-bytes h k e = Option·some-injective _ _ (sym (run-lines-read-back h) ∙ (ap ntriplesDoc e ∙ run-lines-read-back k))

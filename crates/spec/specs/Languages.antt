@@ -36,7 +36,7 @@ valueNamed m (attribute n v ∷ as′) = if same n m then some v else valueNamed
 
 -- does xml:lang mean nothing in a start tag? So it is in Literal content, and in the wrapper
 unfoldable pub isMute : Place → Bytes → List Attribute → Doc → Bool
-isMute outside n as′ d = startsWrapper (d .mode .profile) n as′ (d .frames)
+isMute outside n as′ d = startsWrapper (d .mode .xmp) n as′ (d .frames)
 isMute nodes n as′ d = false
 isMute nodesOrText n as′ d = false
 isMute (properties s li) n as′ d = false

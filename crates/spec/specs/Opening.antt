@@ -78,8 +78,8 @@ opened t d o = (
           ownBase = t .ownBase;
           ownTag = t .ownTag;
           kind = o .kind;
-          part = newPart (d .mode .profile) (placeIn (d .frames)) (t .iri);
-        } ∷ countLi (t .iri) (noted (d .mode .profile) t) (d .frames);
+          part = newPart (d .mode .xmp) (placeIn (d .frames)) (t .iri);
+        } ∷ countLi (t .iri) (noted (d .mode .xmp) t) (d .frames);
     rooted = true;
     labels = o .labels;
     ids = enter (t .id) (d .ids);
@@ -88,7 +88,7 @@ opened t d o = (
 
 -- the rules that the mode of a document adds for a start tag (19)
 unfoldable pub modeRules : Mode → List Frame → Tag → Answer (Unit {0})
-modeRules m fs t = require keeps (m .profile) fs t or ProfileBroken
+modeRules m fs t = require keeps (m .xmp) fs t or ProfileBroken
 
 -- the order of a production's refusals and these: 14 comes first, all others after them
 unfoldable pub underRules : Answer (Unit {0}) → Answer Opened → Answer Opened
@@ -106,7 +106,7 @@ openElement production n as′ d = do
 
 -- by what the start tag stands in
 unfoldable pub openIn : Place → Bytes → List Attribute → Doc → Answer Step
-openIn outside n as′ d = if startsWrapper (d .mode .profile) n as′ (d .frames) then openWrapper n as′ d else openElement openRoot n as′ d
+openIn outside n as′ d = if startsWrapper (d .mode .xmp) n as′ (d .frames) then openWrapper n as′ d else openElement openRoot n as′ d
 openIn nodes n as′ d = openElement openNode n as′ d
 openIn nodesOrText n as′ d = openElement openNode n as′ d
 openIn (properties s li) n as′ d = openElement (λ t. openProperty t s li) n as′ d

@@ -2,13 +2,11 @@
 -- and the wrapper's namespace bindings" (theorem: crate `theorems`, Packets).
 use mathlib.Core.Path.{_≡_}
 use mathlib.Core.Logic.{_⊎_}
-use mathlib.Core.Bool.{Bool}
+use mathlib.Core.Bool.{Bool, true, false}
 use mathlib.Core.List.{List, [], map}
 use mathlib.Core.Option.{Option, none, some}
 use Rattle.spec.specs.Bytes.{Bytes, All}
 use Rattle.spec.specs.Numbers.{good}
-use Rattle.spec.specs.declared.Profile.{Profile}
-use Rattle.spec.specs.declared.Profile.the-variants.{NoProfile, XmpProfile}
 use Rattle.spec.specs.Modes.{baseMode, xmpMode}
 use Rattle.spec.specs.Pyx.{Attribute, opening}
 use Rattle.spec.specs.Rdf.{rdf}
@@ -48,15 +46,15 @@ pub data Packet (b : Option Bytes) : Doc → List Triple → Type 0 where
 
 -- without the profile nothing; in it the rdf:about in rdf:RDF, and in node elements that are an rdf:Alt whether xml:lang
 -- is carried
-abbrev pub Remembers : Profile → Kind → Part → Type 0
-Remembers NoProfile k p = p ≡ ordinary
-Remembers XmpProfile rdfRDF p = (a : Option Bytes) × (p ≡ topLevel a)
-Remembers XmpProfile (wrapper b) p = p ≡ ordinary
-Remembers XmpProfile (nodeElement s li) p = (p ≡ ordinary) ⊎ ((l : Option Bool) × (p ≡ alternatives l))
-Remembers XmpProfile (propertyElement q v) p = p ≡ ordinary
-Remembers XmpProfile xmlElement p = p ≡ ordinary
+abbrev pub Remembers : Bool → Kind → Part → Type 0
+Remembers false k p = p ≡ ordinary
+Remembers true rdfRDF p = (a : Option Bytes) × (p ≡ topLevel a)
+Remembers true (wrapper b) p = p ≡ ordinary
+Remembers true (nodeElement s li) p = (p ≡ ordinary) ⊎ ((l : Option Bool) × (p ≡ alternatives l))
+Remembers true (propertyElement q v) p = p ≡ ordinary
+Remembers true xmlElement p = p ≡ ordinary
 
-abbrev pub Parts : Profile → List Frame → Type 0
+abbrev pub Parts : Bool → List Frame → Type 0
 Parts p fs = All (λ f. Remembers p (f .kind) (f .part)) fs
 
 -- ---- "rdf:ID, rdf:nodeID, rdf:datatype and every parseType but Resource are out" (theorem: crate `theorems`, NoneOut)

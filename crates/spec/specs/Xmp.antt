@@ -6,8 +6,6 @@ use mathlib.Core.List.{List, [], _∷_, _++_}
 use Rattle.spec.specs.Bytes.{Bytes, ascii, if_then_else_, same, isEmpty, isSome, each, _>>_, require_or_}
 use Rattle.spec.specs.Numbers.{Answer, refuse, good}
 use Rattle.spec.specs.declared.Refusal.the-variants.{OverLimit}
-use Rattle.spec.specs.declared.Profile.{Profile}
-use Rattle.spec.specs.declared.Profile.the-variants.{NoProfile, XmpProfile}
 use Rattle.spec.specs.Pyx.{Attribute}
 use Rattle.spec.specs.Namespaces.{declared, expandElement, knownAttribute, expandedNames}
 use Rattle.spec.specs.NTriples.{Triple}
@@ -27,9 +25,9 @@ namesWrapper (refuse n) = false
 namesWrapper (good i) = same i wrapperName
 
 -- "The wrapper may be absent": is this start tag the wrapper's? Only the root's can be, and only in the profile.
-unfoldable pub startsWrapper : Profile → Bytes → List Attribute → List Frame → Bool
-startsWrapper NoProfile n as′ fs = false
-startsWrapper XmpProfile n as′ fs = isEmpty fs && namesWrapper (expandElement (declared as′ ++ inScope fs) n)
+unfoldable pub startsWrapper : Bool → Bytes → List Attribute → List Frame → Bool
+startsWrapper false n as′ fs = false
+startsWrapper true n as′ fs = isEmpty fs && namesWrapper (expandElement (declared as′ ++ inScope fs) n)
 
 -- "takes no label, and its attributes but xmlns are ignored": the document behind its start tag
 unfoldable pub wrapped : Bytes → List Attribute → Doc → Doc
@@ -99,20 +97,20 @@ keepsAround [] t = isItsRdf false t
 keepsAround (f ∷ fs) t = keepsKind (f .kind) (f .part) t
 
 -- does a start tag keep the rules of the profile?
-unfoldable pub keeps : Profile → List Frame → Tag → Bool
-keeps NoProfile fs t = true
-keeps XmpProfile fs t = keepsAround fs t && hasNoneOut t
+unfoldable pub keeps : Bool → List Frame → Tag → Bool
+keeps false fs t = true
+keeps true fs t = keepsAround fs t && hasNoneOut t
 
 -- ---- what is remembered
 
 -- what a new element is in the packet, by where it stands and its IRI
-unfoldable pub newPart : Profile → Place → Bytes → Part
-newPart NoProfile p i = ordinary
-newPart XmpProfile outside i = topLevel none
-newPart XmpProfile nodes i = if same i (rdf "Alt") then alternatives none else ordinary
-newPart XmpProfile nodesOrText i = if same i (rdf "Alt") then alternatives none else ordinary
-newPart XmpProfile (properties s li) i = ordinary
-newPart XmpProfile xml i = ordinary
+unfoldable pub newPart : Bool → Place → Bytes → Part
+newPart false p i = ordinary
+newPart true outside i = topLevel none
+newPart true nodes i = if same i (rdf "Alt") then alternatives none else ordinary
+newPart true nodesOrText i = if same i (rdf "Alt") then alternatives none else ordinary
+newPart true (properties s li) i = ordinary
+newPart true xml i = ordinary
 
 -- the first top-level element gives the rdf:about, the first rdf:li of an rdf:Alt says whether xml:lang is carried
 unfoldable pub withChild : Tag → Part → Part
@@ -122,9 +120,9 @@ withChild t (topLevel (some a)) = topLevel (some a)
 withChild t (alternatives none) = if same (t .iri) (rdf "li") then alternatives (some (isSome (t .ownTag))) else alternatives none
 withChild t (alternatives (some b)) = alternatives (some b)
 
-unfoldable pub noted : Profile → Tag → Part → Part
-noted NoProfile t p = p
-noted XmpProfile t p = withChild t p
+unfoldable pub noted : Bool → Tag → Part → Part
+noted false t p = p
+noted true t p = withChild t p
 
 unfoldable pub all : Unit {0}
 unfolding wrapperName namesWrapper startsWrapper wrapped openWrapper isItsRdf sameAbout isTopLevel resourceAtMost hasNoneOut carriesToo keepsPart keepsKind keepsAround keeps newPart withChild noted

@@ -13,11 +13,8 @@ use Rattle.spec.specs.declared.Refusal.the-variants.{NoRoom}
 use Rattle.spec.specs.Limits as L
 use Rattle.spec.specs.NTriples.{write}
 use Rattle.spec.specs.Pyx.{opening}
-use Rattle.spec.specs.declared.Profile.the-variants.{NoProfile}
-use Rattle.spec.specs.Modes.{baseMode}
-use Rattle.spec.specs.Xmp.{newPart, noted}
-use Rattle.spec.specs.Document.{Doc, Frame as Element, heldBytes, fits}
-use Rattle.spec.specs.Opening.{Step, opened, countLi, enter}
+use Rattle.spec.specs.Document.{heldBytes, fits}
+use Rattle.spec.specs.Opening.{Step, enter}
 use Rattle.spec.specs.RdfXml.{onEvent}
 use Rattle.state_ids.specs.declared.Added.{Added}
 use Rattle.state_ids.specs.Ids.{idsOf, roomFor, ValidIds, length-ids, total-ids}
@@ -37,7 +34,7 @@ use Rattle.start_element.specs.Element.{textOf, maybe, newElement}
 use Rattle.start_element.specs.Laws.{held-with, Commits}
 use Rattle.start_plan.specs.declared.Start.{Start}
 use Rattle.start_plan.specs.Plan.{isThere}
-use Rattle.start_plan.specs.Goes.{Goes}
+use Rattle.start_plan.specs.Goes.{linesBy, behindBy, Goes}
 use Rattle.writer.specs.declared.Said.{Said}
 use Rattle.writer.specs.Said.{Says}
 use Rattle.start_commit.specs.Told.{linesOf, lines-are}
@@ -60,42 +57,25 @@ module _ {x : Start} {r : Registers} {count used : ℕ} {fs bs is w ia il st out
     (z : r .counts .inner ≡ 0) (g : Goes x (docIn r count (lent fs bs is w ia il st out)) r fs bs w e v m k a cs rs count used) where
   -- the lines and the document behind it
   abbrev pub step : Step
-  step = opened (g .tag) (docIn r count (lent fs bs is w ia il st out)) (g .what)
-
-  -- the element that it opens
-  abbrev new : Element
-  new = newElement e v m k a (x .plan .parts) (subjectBelow fs w (r .counts .depth))
-
-  -- the document from what was planned
-  abbrev planned : Doc
-  planned =
-      record {
-        mode = baseMode;
-        startBase = startOf r w;
-        frames = new ∷ countLi (g .tag .iri) (noted NoProfile (g .tag)) (elementsOf r fs bs is w);
-        rooted = true;
-        labels = x .plan .labels;
-        ids = enter (maybe (x .id) e a) (idsOf ia il st count);
-      }
-
-  behind : planned ≡ step .1
-  unfolding opened docIn docOf newElement newPart
-  behind = rw (g .name, g .bindings, g .base, g .ownTag, g .does .kind, g .does .part, g .does .labels, g .id)
+  step = (
+    linesBy x (docIn r count (lent fs bs is w ia il st out)) (subjectBelow fs w (r .counts .depth)) w e v k a cs rs,
+    behindBy x (docIn r count (lent fs bs is w ia il st out)) (g .iri) (g .notes) (subjectBelow fs w (r .counts .depth)) e v m k a,
+  )
 
   pub behind-fits : fits (step .1) ≡ true
-  unfolding heldBytes L.all
+  unfolding heldBytes L.all docIn docOf
   behind-fits =
-      rw (← behind, fits-held planned (ids-fit (y .table) (x .id) e a (g .room)))
-      (le-leb (heldBytes planned) 49_152
-      (omega (arith, held-with (y .valid) z (g .tag .iri) (noted NoProfile (g .tag)) new, g .granted .ready .room (subjectBelow fs w (r .counts .depth)))))
+      rw (fits-held (step .1) (ids-fit (y .table) (x .id) e a (g .room)))
+      (le-leb (heldBytes (step .1)) 49_152
+      (omega (arith, held-with (y .valid) z (g .iri) (g .notes) (newElement e v m k a (x .plan .parts) (subjectBelow fs w (r .counts .depth))), g .granted .ready .room (subjectBelow fs w (r .counts .depth)))))
 
   handled-is : handled (opening (take m e) (attributesOf e v k)) (length out) (docIn r count (lent fs bs is w ia il st out)) ≡ concluded (length out) (good step)
   unfolding onEvent
   handled-is = handled-by (opening (take m e) (attributesOf e v k)) (length out) (docIn r count (lent fs bs is w ia il st out)) (g .steps)
 
   lines-step : write (linesOf x (topFrame r fs) (languageIn r fs) w e v k a cs rs) ≡ write (step .0)
-  unfolding opened docIn docOf
-  lines-step = ap write (lines-are (y .valid) refl g)
+  unfolding docIn docOf
+  lines-step = ap write (lines-are x (docIn r count (lent fs bs is w ia il st out)) e v k a cs rs (y .valid) refl)
 
   module _ {out′ : List ℕ} {s : Said} (p : Says out out′ (write (linesOf x (topFrame r fs) (languageIn r fs) w e v k a cs rs)) s) where
     -- 2
@@ -110,10 +90,10 @@ module _ {x : Start} {r : Registers} {count used : ℕ} {fs bs is w ia il st out
         → Commits r fs bs w e v m k a (x .plan .parts) (x .li) (x .plan .labels) q fs′ bs′ w′ → Enters (maybe (x .id) e a) count ia il st t ia′ il′ st′
         → HandlesAll (opening (take m e) (attributesOf e v k)) r count (Did (record { written = s .written; registers = q; count = t .count; used = t .used }))
         (lent fs bs is w ia il st out) (lent fs′ bs′ is w′ ia′ il′ st′ out′)
-    unfolding docIn noted
+    unfolding docIn docOf
     act-done {q} {t} {fs′} {bs′} {w′} {ia′} {il′} {st′} c f o i =
         let room : leb (length (write (step .0))) (length out) ≡ true = rw (← lines-step) (sym (p .answer) ∙ f) in
-        let h = o .holds is (y .valid) (g .tag .iri) (g .li) (noted NoProfile (g .tag)) (λ p. refl) in
+        let h = o .holds is (y .valid) (g .iri) (g .counted) (g .notes) (g .noted) in
         record {
           frameWords = o .frames;
           bindingWords = o .bindings;
@@ -129,6 +109,6 @@ module _ {x : Start} {r : Registers} {count used : ℕ} {fs bs is w ia il st out
             wrote = rw lines-step at (p .wrote f);
             lawful = record { valid = h .valid; table = i .valid };
             mark = o .closed ∙ c;
-            doc = holds-doc h (idsOf ia′ il′ st′ (t .count)) ∙ (rw (i .means) behind);
+            doc = holds-doc h (idsOf ia′ il′ st′ (t .count)) ∙ rw (i .means);
           };
         }

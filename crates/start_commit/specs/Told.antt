@@ -36,7 +36,7 @@ use Rattle.start_plan.specs.declared.Lines.the-variants.{Nothing, Object, Resou
 use Rattle.start_plan.specs.declared.Lines.the-variants as lines-kind
 use Rattle.start_plan.specs.declared.Start.{Start}
 use Rattle.start_plan.specs.Plan.{isThere}
-use Rattle.start_plan.specs.Goes.{told, mainOf, objectOf, propertyOf, Goes}
+use Rattle.start_plan.specs.Goes.{told, mainOf, objectOf, propertyOf, linesBy}
 
 -- ---- which lines
 
@@ -183,11 +183,9 @@ below-top r fs w h = go (r .counts .depth) refl
     go zero z = rw (eq-eqb (r .counts .depth) 0 z, z) (top-none w)
     go (suc n) z = let q : r .counts .depth - 1 ≡ n = omega arith in rw (ne-eqb (r .counts .depth) 0 (λ i. omega arith), q, load-frame fs n (omega arith), z)
 
-pub lines-are : {x : Start} {d : Doc} {r : Registers} {fs bs is w e v : List ℕ} {m k : ℕ} {a cs rs : List ℕ} {count used : ℕ} → Valid r fs bs is w → d .frames ≡ elementsOf r fs bs is w
-    → (g : Goes x d r fs bs w e v m k a cs rs count used) → linesOf x (topFrame r fs) (languageIn r fs) w e v k a cs rs ≡ g .what .lines
+pub lines-are : (x : Start) (d : Doc) {r : Registers} {fs bs is w : List ℕ} (e v : List ℕ) (k : ℕ) (a cs rs : List ℕ) → Valid r fs bs is w → d .frames ≡ elementsOf r fs bs is w
+    → linesOf x (topFrame r fs) (languageIn r fs) w e v k a cs rs ≡ linesBy x d (subjectBelow fs w (r .counts .depth)) w e v k a cs rs
 unfolding linesOf
-lines-are {x} {d} {r} {fs} {bs} {is} {w} {e} {v} {m} {k} {a} {cs} {rs} y f g =
+lines-are x d {r = r} {fs} {w = w} e v k a cs rs y f =
     let deep : r .counts .depth * FRAME ≤ length fs = omega (arith, y .frameWords, y .deep) in
-    let l : orElse (maybe (x .plan .parts .tag) e a) (found (languageIn r fs) w) ≡ g .tag .language =
-    rw (language-read y, ← f, g .ownTag) (sym (g .language)) in
-    rw (below-top r fs w deep, l, ← g .attributes, g .kind, g .type) (sym (g .lines))
+    rw (below-top r fs w deep, language-read y, ← f)

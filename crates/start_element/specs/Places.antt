@@ -17,7 +17,7 @@ use Rattle.state_words.specs.declared.Kind.the-variants.{Rdf, NodeElt, Property
 use Rattle.state_words.specs.declared.Frame.{Frame}
 use Rattle.state_words.specs.Words.{pick}
 use Rattle.state.specs.Meaning.{at, optional, nodeOf, childrenOf, subjectOf, propertyOf, whatOf, partOf}
-use Rattle.state.specs.Valid.{emptyOr, partsOk, childrenOk, kindOk}
+use Rattle.state.specs.Valid.{notedBy, emptyOr, partsOk, childrenOk, kindOk}
 use Rattle.state_stack.specs.Laid.{Laid, laid}
 use Rattle.state_stack.specs.Calls.{frameOf}
 use Rattle.start_element.specs.declared.Source.{Source}
@@ -208,8 +208,8 @@ module _ {w v e a : List ℕ} {p : Parts} {name bound from : ℕ} {at′ : List 
   pub lays-kind : (q : Kind) → Lacks q p → kindOk q (frameIs p at′ b) v ≡ true
   unfolding kindOk childrenOk mostLabels
   lays-kind Rdf z =
-      eq-eqb (getD at′ MAIN 0) (getD at′ END 0)
-      (omega (arith, l .idAt, l .typeAt, l .tailAt, l .endAt, missing-size e a (z .0), missing-size e a (z .1), missing-size e a (z .2), missing-size e a (z .3)))
+      eq-eqb (getD at′ MAIN 0) (getD at′ TAIL 0)
+      (omega (arith, l .idAt, l .typeAt, l .tailAt, missing-size e a (z .0), missing-size e a (z .1), missing-size e a (z .2)))
   lays-kind Wrapper z =
       eq-eqb (getD at′ MAIN 0) (getD at′ END 0)
       (omega (arith, l .idAt, l .typeAt, l .tailAt, l .endAt, missing-size e a (z .0), missing-size e a (z .1), missing-size e a (z .2), missing-size e a (z .3)))
@@ -224,6 +224,17 @@ module _ {w v e a : List ℕ} {p : Parts} {name bound from : ℕ} {at′ : List 
   lays-kind ParseTypeLiteralPropertyElt z = eq-eqb (getD at′ DATATYPE 0) (getD at′ TAIL 0) (omega (arith, l .tailAt, missing-size e a (z .0)))
   lays-kind ParseTypeOtherPropertyElt z =
       eq-eqb (getD at′ DATATYPE 0) (getD at′ END 0) (omega (arith, l .tailAt, l .endAt, missing-size e a (z .0), missing-size e a (z .1)))
+
+  -- a new element has noted nothing
+  pub lays-nothing : (q : Kind) → Lacks q p → notedBy q (frameIs p at′ b) ≡ 0
+  unfolding notedBy
+  lays-nothing Rdf z = omega (arith, l .endAt, missing-size e a (z .3))
+  lays-nothing NodeElt z = refl
+  lays-nothing PropertyElt z = refl
+  lays-nothing ParseTypeCollectionPropertyElt z = refl
+  lays-nothing ParseTypeLiteralPropertyElt z = refl
+  lays-nothing ParseTypeOtherPropertyElt z = refl
+  lays-nothing Wrapper z = refl
 
   property-is : (s : Subject) → propertyOf (frameIs p at′ b) v s ≡ propertyIs p e a s
   unfolding propertyOf propertyIs

@@ -1,13 +1,13 @@
 -- The form of a start tag outside Literal content: refusal 6, and the counts (7).
 use Prim.Native.Nat.{ℕ, zero, suc, _+_, _-_, _*_, _/_, _<_, _≤_}
 use mathlib.Core.Path.{_≡_, refl, sym, ap, _∙_}
-use mathlib.Core.Bool.{Bool, true, false, _&&_, not}
+use mathlib.Core.Bool.{Bool, true, false, _&&_, _||_, not, false≢true}
 use mathlib.Core.List.{List, [], _∷_, _++_}
 use native.Mathlib.Omega.{arith}
 use lib.Dec.{eqb, leb}
 use lib.ListN.{length, take, length-append}
 use borrow.Author.Tests.{eq-eqb, ne-eqb, le-leb, lt-leb}
-use Rattle.spec.specs.Bytes.{Bytes, isEmpty}
+use Rattle.spec.specs.Bytes.{Bytes, isEmpty, those}
 use Rattle.spec.specs.Numbers.{Answer, refuse, good}
 use Rattle.spec.specs.declared.Refusal.{Refusal}
 use Rattle.spec.specs.declared.Refusal.the-variants.{NotWellFormed, OverLimit}
@@ -25,7 +25,7 @@ use Rattle.state.specs.Held as H
 use Rattle.state.specs.Live.{in-scope}
 use Rattle.start_names.specs.Tag.{attributeAt, attributesFrom, attributesOf, nameAt, colonAt, startAt, sizeAt, valueSizeAt, Split, Splits}
 use Rattle.start_names.specs.Found.{scope}
-use Rattle.start_names.specs.Pairs.{pairs}
+use Rattle.start_names.specs.Pairs.{behind, pairs}
 use Rattle.start_names.specs.Classes.{sameKeys, Classified, Classifies, expanded-means}
 use Rattle.event.specs.declared.Place.{Place}
 use Rattle.event.specs.declared.Place.the-variants.{Outside, Nodes, Properties, NodesOrText, Xml}
@@ -93,6 +93,49 @@ module _ (r : Registers) (fs bs is w : List ℕ) (ids : List Bytes) where
       let e : length (elementsOf r fs bs is w) ≡ r .counts .depth = omega (arith, H.depth r fs bs is w) in
       rw (no-elements (elementsOf r fs bs is w), e)
 
+-- ---- what `has_fault` answers
+
+-- b: is a binding illegal, or do two attributes repeat? Where all are legal, each has its class in the words, now ds
+pub record Faults (b : Bool) (e v : List ℕ) (k : ℕ) (w bs : List ℕ) (n : ℕ) (cs ds : List ℕ) : Type 0 where
+  pub answer : b ≡ (not (allLegal (declared (attributesOf e v k))) || pairs (sameKeys e v w ds) 0 k)
+  pub same : length ds ≡ length cs
+  pub are : allLegal (declared (attributesOf e v k)) ≡ true → Classified e v k w bs n ds k
+
+module _ {e v : List ℕ} {k : ℕ} {w bs : List ℕ} {n : ℕ} {cs : List ℕ} where
+  pub fault-none : k ≡ 0 → Faults false e v k w bs n cs cs
+  unfolding attributesFrom declared allLegal those pairs
+  fault-none z = record { answer = rw z; same = refl; are = λ l. record { each = λ j b. absurd (omega arith) } }
+
+  pub fault-illegal : {t : Bool} → t ≡ allLegal (declared (attributesOf e v k)) → t ≡ false
+      → Faults true e v k w bs n cs cs
+  fault-illegal q h =
+      let l : allLegal (declared (attributesOf e v k)) ≡ false = sym q ∙ h in
+      record { answer = rw l; same = refl; are = λ y. absurd (false≢true (sym l ∙ y)) }
+
+  module _ {t y : Bool} {ds : List ℕ} (q : t ≡ allLegal (declared (attributesOf e v k))) (h : t ≡ true)
+      (z : Classifies e v k w bs n cs ds y) (few : k ≤ 64) (words : 192 ≤ length cs) where
+    pub fault-twice : {b : Bool} → b ≡ pairs (sameKeys e v w ds) 0 k → Faults b e v k w bs n cs ds
+    fault-twice p =
+        let l : allLegal (declared (attributesOf e v k)) ≡ true = sym q ∙ h in
+        let told : y ≡ true = z .answer ∙ le-leb k (length cs / 3) (omega arith) in
+        record { answer = p ∙ rw l; same = z .same; are = λ x. z .are told }
+
+    -- one attribute repeats none
+    pub fault-alone : k ≡ 1 → Faults false e v k w bs n cs ds
+    unfolding pairs behind
+    fault-alone o = fault-twice (rw o)
+
+  module _ {b : Bool} {ds : List ℕ} (z : Faults b e v k w bs n cs ds) where
+    pub by-pairs : allLegal (declared (attributesOf e v k)) ≡ true → b ≡ pairs (sameKeys e v w ds) 0 k
+    by-pairs l = z .answer ∙ rw l
+
+    all-legal-by : b ≡ false → (l : Bool) → allLegal (declared (attributesOf e v k)) ≡ l → l ≡ true
+    all-legal-by h true l = refl
+    all-legal-by h false l = absurd (false≢true (sym h ∙ (z .answer ∙ rw l)))
+
+    pub all-legal : b ≡ false → allLegal (declared (attributesOf e v k)) ≡ true
+    all-legal h = all-legal-by h _ refl
+
 -- ---- what `check_form` answers
 
 -- good: well-formed in its place, the counts fit, and each attribute has its class
@@ -133,24 +176,25 @@ module _ {r : Registers} {fs bs is w e v : List ℕ} {m c k : ℕ} {cs : List �
     f : (ids : List Bytes) → isSecondRoot (docOf r fs bs is w ids) ≡ false
     f ids = second-read r fs bs is w ids (a .flat) ∙ (sym s ∙ n)
 
-    pub form-illegal : {t : Bool} → t ≡ allLegal (declared (attributesOf e v k)) → t ≡ false → Checks (Stop NotWellFormed) r fs bs is w e v m k cs cs
-    form-illegal q h = record { cases = λ ids. illegal (starts ids) (f ids) (sym q ∙ h); same = refl }
-
-    module _ {ds : List ℕ} {y : Bool} (l : allLegal (declared (attributesOf e v k)) ≡ true) (z : Classifies e v k w bs (r .counts .bindings) cs ds y) where
-      told : y ≡ true
-      told = z .answer ∙ le-leb k (length cs / 3) (omega (arith, a .words, a .tag .few))
-
-      twice : (ids : List Bytes) {t : Bool} → t ≡ pairs (sameKeys e v w ds) 0 k
+    module _ {ds : List ℕ} {t : Bool} (z : Faults t e v k w bs (r .counts .bindings) cs ds) where
+      twice : (ids : List Bytes) → allLegal (declared (attributesOf e v k)) ≡ true
           → repeatsExpanded (declared (attributesOf e v k) ++ inScope (docOf r fs bs is w ids .frames)) (attributesOf e v k) ≡ t
       unfolding docOf scope
-      twice ids q = rw (in-scope (a .valid)) (sym (q ∙ expanded-means (z .are told) (a .tag .splits)))
+      twice ids l = rw (in-scope (a .valid)) (sym (by-pairs z l ∙ expanded-means (z .are l) (a .tag .splits)))
 
-      pub form-repeats : {t : Bool} → t ≡ pairs (sameKeys e v w ds) 0 k → t ≡ true → Checks (Stop NotWellFormed) r fs bs is w e v m k cs ds
-      form-repeats q h = record { cases = λ ids. repeats (starts ids) (f ids) l (twice ids q ∙ h); same = z .same }
+      fault : t ≡ true → (ids : List Bytes) (l : Bool) → allLegal (declared (attributesOf e v k)) ≡ l
+          → onOpening (take m e) (attributesOf e v k) (docOf r fs bs is w ids) ≡ refuse NotWellFormed
+      fault h ids false l = illegal (starts ids) (f ids) l
+      fault h ids true l = repeats (starts ids) (f ids) l (twice ids l ∙ h)
 
-      module _ {t : Bool} (q : t ≡ pairs (sameKeys e v w ds) 0 k) (h : t ≡ false) where
+      pub form-fault : t ≡ true → Checks (Stop NotWellFormed) r fs bs is w e v m k cs ds
+      form-fault h = record { cases = λ ids. fault h ids _ refl; same = z .same }
+
+      module _ (h : t ≡ false) where
         well : (ids : List Bytes) → WellFormed (placeIn (elementsOf r fs bs is w)) (take m e) (attributesOf e v k) (docOf r fs bs is w ids)
-        well ids = record { starts = starts ids; first = f ids; legal = l; once = twice ids q ∙ h }
+        well ids =
+            let l : allLegal (declared (attributesOf e v k)) ≡ true = all-legal z h in
+            record { starts = starts ids; first = f ids; legal = l; once = twice ids l ∙ h }
 
         many : (ids : List Bytes) → countsFit (attributesOf e v k) (elementsOf r fs bs is w) ≡ false → onOpening (take m e) (attributesOf e v k) (docOf r fs bs is w ids) ≡ refuse OverLimit
         unfolding docOf
@@ -168,7 +212,7 @@ module _ {r : Registers} {fs bs is w e v : List ℕ} {m c k : ℕ} {cs : List �
               cases = record {
                 form = well;
                 counts = counts-fit (a .valid) e v k (omega (arith, a .flat)) (a .tag .few) (omega arith);
-                classes = z .are told;
+                classes = z .are (all-legal z h);
                 deep = g;
                 bound = omega arith;
               };

@@ -2,12 +2,12 @@
 use Prim.Native.Nat.{ℕ, suc, _≤_}
 use mathlib.Core.Path.{_≡_, refl, sym, ap, _∙_}
 use mathlib.Core.Bool.{Bool, true, false, _&&_, false≢true}
-use mathlib.Core.List.{List, _++_}
+use mathlib.Core.List.{List, [], _∷_, _++_}
 use native.Mathlib.Omega.{arith}
 use lib.Dec.{leb}
 use lib.ListN.{length}
 use borrow.Author.Tests.{le-leb, lt-leb}
-use Rattle.spec.specs.Bytes.{Bytes, if_then_else_, _>>=_, _>>_, require_or_}
+use Rattle.spec.specs.Bytes.{Bytes, if_then_else_, isEmpty, _>>=_, _>>_, require_or_}
 use Rattle.spec.specs.Numbers.{Answer, refuse, good}
 use Rattle.spec.specs.declared.Refusal.{Refusal}
 use Rattle.spec.specs.declared.Refusal.the-variants.{NotWellFormed, OverLimit}
@@ -18,7 +18,7 @@ use Rattle.spec.specs.NTriples.{Subject}
 use Rattle.spec.specs.Document.{Frame, Doc, inScope, Place, outside, nodes, nodesOrText, xml, properties, placeIn}
 use Rattle.spec.specs.StartTag.{Tag, readTag, isShort}
 use Rattle.spec.specs.Productions.{Opened, openNode, openProperty, openRoot}
-use Rattle.spec.specs.Xmp.{startsWrapper}
+use Rattle.spec.specs.Xmp.{startsWrapper, openWrapper}
 use Rattle.spec.specs.Opening.{Step, isSecondRoot, countsFit, opened, modeRules, underRules, openElement, openIn, isXml, repeated, onOpening}
 
 -- the production of a place outside Literal content; the last line is for a place that `by-production` leaves out
@@ -30,7 +30,7 @@ productionIn (properties s li) t n = openProperty t s li n
 productionIn xml t n = openNode t n
 
 -- a start tag that does not open the wrapper
-by-production : (p : Place) → isXml p ≡ false → (n : Bytes) (as′ : List Attribute) (d : Doc) → startsWrapper (d .mode .profile) n as′ (d .frames) ≡ false
+by-production : (p : Place) → isXml p ≡ false → (n : Bytes) (as′ : List Attribute) (d : Doc) → startsWrapper (d .mode .xmp) n as′ (d .frames) ≡ false
     → openIn p n as′ d ≡ openElement (productionIn p) n as′ d
 unfolding openIn isXml productionIn openElement if_then_else_
 by-production outside h n as′ d o = rw o
@@ -42,6 +42,13 @@ by-production xml h n as′ d o = absurd (false≢true (sym h))
 -- what the production of place p makes of a tag, under the rules of the document's mode
 unfoldable pub producedIn : Place → Tag → Doc → Answer Opened
 producedIn p t d = underRules (modeRules (d .mode) (d .frames) t) (productionIn p t (d .labels))
+
+-- the wrapper stands in nothing
+wrapper-outside : (p : Bool) (n : Bytes) (as′ : List Attribute) (fs : List Frame) → startsWrapper p n as′ fs ≡ true → placeIn fs ≡ outside
+unfolding startsWrapper placeIn isEmpty
+wrapper-outside false n as′ fs h = absurd (false≢true h)
+wrapper-outside true n as′ [] h = refl
+wrapper-outside true n as′ (f ∷ fs) h = absurd (false≢true h)
 
 -- a start tag, with the place that it stands in
 pub record Starts (p : Place) (n : Bytes) (as′ : List Attribute) (d : Doc) : Type 0 where
@@ -80,7 +87,12 @@ module _ {p : Place} {n : Bytes} {as′ : List Attribute} {d : Doc} (w : WellFor
   unfolding onOpening _>>_ require_or_
   too-many h = rw (w .first, w .legal, not-repeated (w .starts) (w .once), h)
 
-  module _ (c : countsFit as′ (d .frames) ≡ true) (other : startsWrapper (d .mode .profile) n as′ (d .frames) ≡ false) where
+  -- the wrapper of a packet
+  pub opens-wrapper : countsFit as′ (d .frames) ≡ true → startsWrapper (d .mode .xmp) n as′ (d .frames) ≡ true → onOpening n as′ d ≡ openWrapper n as′ d
+  unfolding onOpening openIn _>>_ require_or_ if_then_else_
+  opens-wrapper c h = rw (w .first, w .legal, not-repeated (w .starts) (w .once), c, wrapper-outside (d .mode .xmp) n as′ (d .frames) h, h)
+
+  module _ (c : countsFit as′ (d .frames) ≡ true) (other : startsWrapper (d .mode .xmp) n as′ (d .frames) ≡ false) where
     opens : onOpening n as′ d ≡ openElement (productionIn p) n as′ d
     unfolding onOpening _>>_ require_or_
     opens = rw (w .first, w .legal, not-repeated (w .starts) (w .once), c, w .starts .at) (by-production p (w .starts .outer) n as′ d other)

@@ -1,8 +1,10 @@
 // Start tags outside Literal content.
 ghost use mathlib.Core.Path.{_≡_};
 ghost use mathlib.Core.Bool.{_&&_};
+ghost use Prim.Native.Nat.{_≤_};
 ghost use lib.Dec.{eqb};
-ghost use Rattle.start_form.specs.Form.{Asked, Checks};
+ghost use lib.ListN.{length};
+ghost use Rattle.start_form.specs.Form.{Asked, Checks, Faults};
 
 pub mod crowded;
 mod marks;
@@ -39,10 +41,7 @@ pub fn check_form<'a>(
     if is_second_root(r) {
         return Form::Stop(Refusal::NotWellFormed);
     }
-    if !start_names::all_legal(scratch, spans, k) {
-        return Form::Stop(Refusal::NotWellFormed);
-    }
-    start_names::classify(
+    if has_fault(
         scratch,
         spans,
         k,
@@ -50,8 +49,7 @@ pub fn check_form<'a>(
         bindings,
         r.counts.bindings,
         classes,
-    );
-    if start_names::repeated_expanded(scratch, spans, k, work, classes) {
+    ) {
         return Form::Stop(Refusal::NotWellFormed);
     }
     if r.counts.depth >= Frame::MOST {
@@ -72,4 +70,32 @@ fn is_second_root(r: Registers) -> bool
     ensures { λ b. ⌜ b ≡ (r .flags .rooted && eqb (r .counts .depth) 0) ⌝ }
 {
     r.flags.rooted & (r.counts.depth == 0)
+}
+
+// 6: an illegal binding, or two attributes of one name. `classes` gets what is known of each attribute's name.
+// Most tags have no attributes: nothing is walked then.
+fn has_fault<'a>(
+    scratch: &'a [u8],
+    spans: &[u32],
+    k: usize,
+    work: &'a [u8],
+    bindings: &[u32],
+    n: usize,
+    classes: &mut [usize],
+) -> bool
+    requires { ⌜ (k ≤ 64) × (192 ≤ length (now classes)) ⌝ }
+    ensures { λ b. ⌜ Faults b (now (scratch .entry)) (now (spans .entry)) k
+        (now (work .entry)) (now (bindings .entry)) n (now (classes .entry)) (now (classes .exit)) ⌝ }
+{
+    if k == 0 {
+        return false;
+    }
+    if !start_names::all_legal(scratch, spans, k) {
+        return true;
+    }
+    start_names::classify(scratch, spans, k, work, bindings, n, classes);
+    if k == 1 {
+        return false;
+    }
+    start_names::repeated_expanded(scratch, spans, k, work, classes)
 }

@@ -6,10 +6,12 @@ use mathlib.Core.Option.{Option, none, some}
 use mathlib.Core.List.{List, []}
 use native.Mathlib.Omega.{arith}
 use lib.Dec.{eqb}
+use lib.ListN.{take}
 use Rattle.spec.specs.Bytes.{Bytes, if_then_else_, orElse, isSome, isEmpty}
 use Rattle.spec.specs.NTriples.{Subject, named, blank, label}
 use Rattle.spec.specs.Document.{Object, noObject, nodeObject, default, collection, literal, other, Property}
-use Rattle.spec.specs.Document.{Kind as What, rdfRDF, nodeElement, propertyElement, ordinary, Frame as Element}
+use Rattle.spec.specs.Document.{Kind as What, rdfRDF, wrapper, nodeElement, propertyElement, Part, ordinary, Frame as Element}
+use Rattle.spec.specs.Pyx.{Attribute}
 use Rattle.spec.specs.Namespaces.{declared}
 use Rattle.spec.specs.StartTag.{Tag}
 use Rattle.spec.specs.Productions.{Opened, subjectOf, noParseType, asCollection, asResource, asLiteral, asOther, hasNode}
@@ -27,7 +29,7 @@ use Rattle.start_rules.specs.Judged.{nodeSubject, nodeOpened, propertyIn, label
 use Rattle.start_rules.specs.Judged as J
 use Rattle.start_plan.specs.declared.Given.{Given}
 use Rattle.start_plan.specs.declared.Plan.{Plan}
-use Rattle.start_plan.specs.Plan.{isThere, madeLabel, subjectIn, objectIn, rootPlan, nodePlan, defaultPlan, heldPlan, resourcePlan}
+use Rattle.start_plan.specs.Plan.{isThere, madeLabel, subjectIn, objectIn, rootPlan, wrapperPlan, nodePlan, defaultPlan, heldPlan, resourcePlan}
 use Rattle.start_plan.specs.Says.{Says, there-is, node-subject, objectBy, object-means, no-object}
 
 -- no object, no part of one
@@ -45,26 +47,41 @@ pub lacking-object : (g : Given) (u : Bool) → objectIn g u .what ≡ 0 → obj
 unfolding objectIn
 lacking-object g u = lacking (g .resource) (g .node) u
 
--- s: the subject of the node around
-pub record Does (p : Plan) (e a : List ℕ) (s : Subject) (o : Opened) : Type 0 where
+-- ---- the wrapper of a packet: n is its name
+
+unfoldable pub wrapperElement : Bytes → List Attribute → Element
+wrapperElement n as′ = record { name = n; bindings = declared as′; ownBase = none; ownTag = none; kind = wrapper false; part = ordinary }
+
+pub wrapper-element : (e v : List ℕ) (m k : ℕ) (a : List ℕ) (n : ℕ) (s : Subject)
+    → newElement e v m k a (wrapperPlan n .parts) s ≡ wrapperElement (take m e) (attributesOf e v k)
+unfolding wrapperElement newElement maybe kindIs partIs
+wrapper-element e v m k a n s = refl
+
+pub wrapper-fitting : (n : ℕ) → Fitting (wrapperPlan n .parts)
+wrapper-fitting n = record { lacks = (refl, refl, refl, refl) }
+
+-- ---- by production
+
+-- s: the subject of the node around; q: what the element is in a packet
+pub record Does (p : Plan) (e a : List ℕ) (s : Subject) (o : Opened) (q : Part) : Type 0 where
   pub kind : kindIs (p .parts .kind) (p .parts) e a s ≡ o .kind
-  pub part : partIs (p .parts .kind) (p .parts) e a ≡ ordinary
+  pub part : partIs (p .parts .kind) (p .parts) e a ≡ q
   pub labels : p .labels ≡ o .labels
   pub fitting : Fitting (p .parts)
 
 module _ (g : Given) (e a : List ℕ) (s : Subject) where
-  pub does-root : (n : ℕ) → Does (rootPlan g n) e a s (record { lines = []; kind = rdfRDF; labels = n })
-  unfolding kindIs partIs
-  does-root n = record { kind = refl; part = refl; labels = refl; fitting = record { lacks = (refl, refl, refl, refl) } }
+  pub does-root : (k n : ℕ) {q : Part} → partIs Rdf (rootPlan g k n .parts) e a ≡ q → Does (rootPlan g k n) e a s (record { lines = []; kind = rdfRDF; labels = n }) q
+  unfolding kindIs
+  does-root k n h = record { kind = refl; part = h; labels = refl; fitting = record { lacks = (refl, refl, refl, refl) } }
 
   -- the label that was made is the next
   module _ {t : Tag} (y : Says g e a t) (n : ℕ) where
-    pub does-node : part a 6144 12 ≡ label (suc n) → Does (nodePlan g (suc n)) e a s (nodeOpened t n)
-    unfolding kindIs partIs nodeOpened nodeSubject
-    does-node m =
+    pub does-node : part a 6144 12 ≡ label (suc n) → (k : ℕ) {q : Part} → partIs NodeElt (nodePlan g k (suc n) .parts) e a ≡ q → Does (nodePlan g k (suc n)) e a s (nodeOpened t n) q
+    unfolding kindIs nodeOpened nodeSubject
+    does-node m k h =
         record {
           kind = ap (λ (x : Subject). nodeElement x 0) (node-subject e a (label (suc n)) m g y);
-          part = refl;
+          part = h;
           labels = refl;
           fitting = record { lacks = (refl, refl, refl) };
         }
@@ -81,22 +98,22 @@ module _ (g : Given) (e a : List ℕ) (s : Subject) where
               → _≡_ {A = Property} (record { subject = u; iri = i; id = x }) p
           made f h q = rw (f, h, q)
 
-      pub does-collection : Does (heldPlan ParseTypeCollectionPropertyElt g main n) e a s (propertyOpened asCollection t p n)
+      pub does-collection : Does (heldPlan ParseTypeCollectionPropertyElt g main n) e a s (propertyOpened asCollection t p n) ordinary
       unfolding kindIs partIs propertyOpened
       does-collection =
           record { kind = ap (λ (x : Property). propertyElement x (collection [])) (property ParseTypeCollectionPropertyElt Missing Missing 0 false); part = refl; labels = refl; fitting = record { lacks = (refl, refl) } }
 
-      pub does-literal : Does (heldPlan ParseTypeLiteralPropertyElt g main n) e a s (propertyOpened asLiteral t p n)
+      pub does-literal : Does (heldPlan ParseTypeLiteralPropertyElt g main n) e a s (propertyOpened asLiteral t p n) ordinary
       unfolding kindIs partIs propertyOpened
       does-literal =
           record { kind = ap (λ (x : Property). propertyElement x (literal [])) (property ParseTypeLiteralPropertyElt Missing Missing 0 false); part = refl; labels = refl; fitting = record { lacks = (refl, refl) } }
 
-      pub does-other : Does (heldPlan ParseTypeOtherPropertyElt g main n) e a s (propertyOpened asOther t p n)
+      pub does-other : Does (heldPlan ParseTypeOtherPropertyElt g main n) e a s (propertyOpened asOther t p n) ordinary
       unfolding kindIs partIs propertyOpened
       does-other =
           record { kind = ap (λ (x : Property). propertyElement x other) (property ParseTypeOtherPropertyElt Missing Missing 0 false); part = refl; labels = refl; fitting = record { lacks = (refl, refl) } }
 
-      pub does-resource : part a 6144 12 ≡ label (suc n) → Does (resourcePlan g (suc n)) e a s (propertyOpened asResource t p n)
+      pub does-resource : part a 6144 12 ≡ label (suc n) → Does (resourcePlan g (suc n)) e a s (propertyOpened asResource t p n) ordinary
       unfolding kindIs partIs propertyOpened nodeIs textOf
       does-resource m = record { kind = ap (λ (x : Bytes). nodeElement (blank x) 0) m; part = refl; labels = refl; fitting = record { lacks = (refl, refl, refl) } }
 
@@ -105,7 +122,7 @@ module _ (g : Given) (e a : List ℕ) (s : Subject) where
         -- with this object
         with-object : {o : Object} {labels : ℕ} → objectOf (objectIn g u .what) (textOf (objectIn g u .source) e a) ≡ o
             → propertyOpened noParseType t p n .kind ≡ propertyElement p (default (t .datatype) o) → labels ≡ propertyOpened noParseType t p n .labels
-            → Does (defaultPlan g main u labels) e a s (propertyOpened noParseType t p n)
+            → Does (defaultPlan g main u labels) e a s (propertyOpened noParseType t p n) ordinary
         unfolding kindIs partIs objectIn
         with-object {o} {labels} f h l =
             record {
@@ -116,12 +133,12 @@ module _ (g : Given) (e a : List ℕ) (s : Subject) where
               fitting = record { lacks = lacking (g .resource) (g .node) u };
             }
 
-        pub does-default : Does (defaultPlan g main u (pick (takesLabel noParseType (isSome (t .resource)) (isSome (t .nodeID)) u) (suc n) n)) e a s (propertyOpened noParseType t p n)
+        pub does-default : Does (defaultPlan g main u (pick (takesLabel noParseType (isSome (t .resource)) (isSome (t .nodeID)) u) (suc n) n)) e a s (propertyOpened noParseType t p n) ordinary
         unfolding propertyOpened hasNode J.objectIn labelsBehind subjectOf isSome if_then_else_ objectBy
         does-default = go (t .resource) (t .nodeID) u refl refl refl
           where
             go : (r l : Option Bytes) (v : Bool) → t .resource ≡ r → t .nodeID ≡ l → u ≡ v
-                → Does (defaultPlan g main u (pick (takesLabel noParseType (isSome (t .resource)) (isSome (t .nodeID)) u) (suc n) n)) e a s (propertyOpened noParseType t p n)
+                → Does (defaultPlan g main u (pick (takesLabel noParseType (isSome (t .resource)) (isSome (t .nodeID)) u) (suc n) n)) e a s (propertyOpened noParseType t p n) ordinary
             go (some i) l v f h k = with-object {o = nodeObject (named i)} (object-means e a (part a 6144 12) refl g y u ∙ rw f) (rw f) (rw f)
             go none (some i) v f h k = with-object {o = nodeObject (blank i)} (object-means e a (part a 6144 12) refl g y u ∙ rw (f, h)) (rw (f, h)) (rw (f, h))
             go none none true f h k = with-object {o = nodeObject (blank (label (suc n)))} (object-means e a (label (suc n)) (m (rw (f, h, k))) g y u ∙ rw (f, h, k)) (rw (f, h, ← q, k)) (rw (f, h, ← q, k))

@@ -9,11 +9,9 @@ use lib.ListN.{length, take}
 use Rattle.spec.specs.Bytes.{Bytes, orElse}
 use Rattle.spec.specs.Numbers.{good}
 use Rattle.spec.specs.NTriples.{Subject, node, Triple}
-use Rattle.spec.specs.Namespaces.{declared}
-use Rattle.spec.specs.Document.{Doc, Property, languageInForce}
-use Rattle.spec.specs.StartTag.{Tag}
-use Rattle.spec.specs.Productions.{Opened, attributeLines, typeLine, statement, elementType, isLi}
-use Rattle.spec.specs.Opening.{opened, onOpening}
+use Rattle.spec.specs.Document.{Part, Doc, Property, languageInForce}
+use Rattle.spec.specs.Productions.{attributeLines, typeLine, statement}
+use Rattle.spec.specs.Opening.{countLi, enter, onOpening}
 use Rattle.state_ids.specs.Ids.{roomFor}
 use Rattle.state.specs.declared.Registers.{Registers}
 use Rattle.state.specs.Meaning.{subjectBelow}
@@ -21,13 +19,12 @@ use Rattle.start_names.specs.Tag.{attributesOf}
 use Rattle.ntriples.specs.Terms.{idOf as given}
 use Rattle.start_attributes.specs.Properties.{propertiesFrom}
 use Rattle.start_element.specs.declared.Source.{Source}
-use Rattle.start_element.specs.Element.{textOf, maybe, nodeIs}
-use Rattle.start_element.specs.Laws.{Granted}
+use Rattle.start_element.specs.Element.{textOf, maybe, nodeIs, newElement}
+use Rattle.start_element.specs.Laws.{Granted, CountedBy, NotedBy, noting, isGiven}
 use Rattle.start_plan.specs.declared.Lines.{Lines}
 use Rattle.start_plan.specs.declared.Lines.the-variants.{Nothing, Node, Object, Resource}
 use Rattle.start_plan.specs.declared.Start.{Start}
 use Rattle.start_plan.specs.Plan.{isThere}
-use Rattle.start_plan.specs.Does.{Does}
 
 -- the lines of a start tag: of its own node m, with its element's type; of its object o; the statement of property p, whose object its node is.
 -- l is the language in force, ty its rdf:type
@@ -48,22 +45,31 @@ objectOf x e a = nodeIs (eqb (x .plan .parts .what) 2) (textOf (x .plan .parts .
 abbrev pub propertyOf : Start → List ℕ → List ℕ → Subject → Property
 propertyOf x e a s = record { subject = s; iri = textOf (x .property) e a; id = maybe (x .id) e a }
 
--- a decoded start tag e, v, m, k, with what was made for it in a, its classes cs and roles rs, in a document d of the state r, fs, bs, w
+-- its lines by the plan, about or in the subject s, in a document d whose state has the work store w; cs, rs: the classes and roles of its attributes
+abbrev pub linesBy : Start → Doc → Subject → List ℕ → List ℕ → List ℕ → ℕ → List ℕ → List ℕ → List ℕ → List Triple
+linesBy x d s w e v k a cs rs =
+    told (x .plan .lines) (mainOf x e a) (objectOf x e a) (orElse (maybe (x .plan .parts .tag) e a) (languageInForce (d .frames))) (propertiesFrom e v w cs rs 0 k) (maybe (x .kind) e a)
+    (given (x .named) (textOf (x .iri) e a)) (propertyOf x e a s)
+
+-- the document behind it by the plan: its element has the IRI i, and h is noted in the one around it
+abbrev pub behindBy : Start → Doc → Bytes → (Part → Part) → Subject → List ℕ → List ℕ → ℕ → ℕ → List ℕ → Doc
+behindBy x d i h s e v m k a =
+    record {
+      mode = d .mode;
+      startBase = d .startBase;
+      frames = newElement e v m k a (x .plan .parts) s ∷ countLi i h (d .frames);
+      rooted = true;
+      labels = x .plan .labels;
+      ids = enter (maybe (x .id) e a) (d .ids);
+    }
+
+-- a decoded start tag e, v, m, k, with what was made for it in a, in a document d of the state r, fs, bs, w: the definitions do what is planned
 pub record Goes (x : Start) (d : Doc) (r : Registers) (fs bs w e v : List ℕ) (m k : ℕ) (a cs rs : List ℕ) (count used : ℕ) : Type 0 where
-  pub tag : Tag
-  pub what : Opened
-  pub steps : onOpening (take m e) (attributesOf e v k) d ≡ good (opened tag d what)
-  pub name : tag .name ≡ take m e
-  pub bindings : tag .bindings ≡ declared (attributesOf e v k)
-  pub base : maybe (x .plan .parts .base) e a ≡ tag .ownBase
-  pub ownTag : maybe (x .plan .parts .tag) e a ≡ tag .ownTag
-  pub language : tag .language ≡ orElse (tag .ownTag) (languageInForce (d .frames))
-  pub attributes : tag .attributes ≡ propertiesFrom e v w cs rs 0 k
-  pub kind : maybe (x .kind) e a ≡ tag .type
-  pub type : given (x .named) (textOf (x .iri) e a) ≡ elementType (tag .iri)
-  pub id : maybe (x .id) e a ≡ tag .id
-  pub li : isLi (tag .iri) ≡ x .li
-  pub does : Does (x .plan) e a (subjectBelow fs w (r .counts .depth)) what
-  pub lines : what .lines ≡ told (x .plan .lines) (mainOf x e a) (objectOf x e a) (tag .language) (tag .attributes) (tag .type) (elementType (tag .iri)) (propertyOf x e a (subjectBelow fs w (r .counts .depth)))
+  pub iri : Bytes
+  pub notes : Part → Part
+  pub steps : onOpening (take m e) (attributesOf e v k) d
+      ≡ good (linesBy x d (subjectBelow fs w (r .counts .depth)) w e v k a cs rs, behindBy x d iri notes (subjectBelow fs w (r .counts .depth)) e v m k a)
+  pub counted : CountedBy r fs iri (x .li)
+  pub noted : NotedBy notes (noting (r .mode .xmp) (x .li) (textOf (x .plan .parts .main) e a) (isGiven (x .plan .parts .tag))) (d .frames)
   pub granted : Granted r fs bs w e v m k a (x .plan .parts) (x .li) (x .plan .labels)
   pub room : isThere (x .id) ≡ true → roomFor count used (length (textOf (x .id) e a)) ≡ true

@@ -40,18 +40,28 @@ objectIn g attributes =
     pick (isThere (g .resource)) (record { source = g .resource; what = 1 })
     (pick (isThere (g .node)) (record { source = g .node; what = 2 }) (pick attributes labelled (record { source = Missing; what = 0 })))
 
-abbrev pub rootPlan : Given → ℕ → Plan
-rootPlan g labels =
+-- n: what it is in a packet
+abbrev pub rootPlan : Given → ℕ → ℕ → Plan
+rootPlan g n labels =
     record {
-      parts = record { kind = Rdf; blank = false; base = g .base; tag = g .tag; main = Missing; id = Missing; datatype = Missing; what = 0; object = Missing };
+      parts = record { kind = Rdf; blank = false; base = g .base; tag = g .tag; main = Missing; id = Missing; datatype = Missing; what = n; object = Missing };
       lines = Nothing;
       labels = labels;
     }
 
-abbrev pub nodePlan : Given → ℕ → Plan
-nodePlan g labels =
+abbrev pub wrapperPlan : ℕ → Plan
+wrapperPlan labels =
     record {
-      parts = record { kind = NodeElt; blank = eqb (subjectIn g .what) 2; base = g .base; tag = g .tag; main = subjectIn g .source; id = Missing; datatype = Missing; what = 0; object = Missing };
+      parts = record { kind = Wrapper; blank = false; base = Missing; tag = Missing; main = Missing; id = Missing; datatype = Missing; what = 0; object = Missing };
+      lines = Nothing;
+      labels = labels;
+    }
+
+-- n: what it is in a packet
+abbrev pub nodePlan : Given → ℕ → ℕ → Plan
+nodePlan g n labels =
+    record {
+      parts = record { kind = NodeElt; blank = eqb (subjectIn g .what) 2; base = g .base; tag = g .tag; main = subjectIn g .source; id = Missing; datatype = Missing; what = n; object = Missing };
       lines = Node;
       labels = labels;
     }
@@ -148,10 +158,10 @@ module _ (g : Given) (property : Source) (t : Bool) (labels : ℕ) {n : Named} (
       } ≡ defaultPlan g property t labels
   default-some h = rw (← e, ne-eqb (n .what) 0 h)
 
-pub node-made : (g : Given) (labels : ℕ) {n : Named} → n ≡ subjectIn g
+pub node-made : (g : Given) (part labels : ℕ) {n : Named} → n ≡ subjectIn g
     → record {
-      parts = record { kind = NodeElt; blank = eqb (n .what) 2; base = g .base; tag = g .tag; main = n .source; id = Missing; datatype = Missing; what = 0; object = Missing };
+      parts = record { kind = NodeElt; blank = eqb (n .what) 2; base = g .base; tag = g .tag; main = n .source; id = Missing; datatype = Missing; what = part; object = Missing };
       lines = Node;
       labels = labels;
-    } ≡ nodePlan g labels
-node-made g labels e = rw e
+    } ≡ nodePlan g part labels
+node-made g part labels e = rw e

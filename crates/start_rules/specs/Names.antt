@@ -162,6 +162,10 @@ module _ (i : Bytes) (h : 1_024 < length i) where
   unfolding F.all
   long-description = long-name "Description" refl
 
+  pub long-alt : same i (rdf "Alt") ≡ false
+  unfolding F.all
+  long-alt = long-name "Alt" refl
+
   pub long-li : isLi i ≡ false
   unfolding F.all isLi
   long-li = long-name "li" refl

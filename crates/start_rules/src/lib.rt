@@ -81,6 +81,12 @@ pub fn is_li(iri: &[u8]) -> bool
     copy::equal(rdf_name(iri), b"li")
 }
 
+pub fn is_alt(iri: &[u8]) -> bool
+    ensures { λ r. ⌜ r ≡ same (now (iri .entry)) (rdf "Alt") ⌝ }
+{
+    copy::equal(rdf_name(iri), b"Alt")
+}
+
 // May no node element have this name?
 pub fn is_reserved_node(iri: &[u8]) -> bool
     ensures { λ r. ⌜ r ≡ not (mayBeNode (now (iri .entry))) ⌝ }

@@ -86,6 +86,14 @@ value-says e a w j k = go (ltb j k)
     go true = refl
     go false = refl
 
+pub value-given : (e w : List ℕ) (k j : ℕ) → isSome (valueIf e w k j) ≡ ltb j k
+unfolding valueIf given isSome
+value-given e w k j = go (ltb j k)
+  where
+    go : (t : Bool) → isSome (pick t (some (valueAt e w j)) none) ≡ t
+    go true = refl
+    go false = refl
+
 -- the language
 pub tag-says : (e a w : List ℕ) (j k : ℕ) → maybe (tagAtPlace e w j k) e a ≡ given (ltb j k) (part a 6224 (length (valueAt e w j)))
 unfolding maybe tagAtPlace given

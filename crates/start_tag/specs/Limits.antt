@@ -10,16 +10,15 @@ use lib.ListN.{length}
 use borrow.Author.Tests.{le-leb, lt-leb, leb-true, leb-false}
 use Rattle.spec.specs.Bytes.{Bytes, total}
 use Rattle.spec.specs.Limits.{mostIds, mostIdBytes, mostHeldBytes, mostNameBytes}
-use Rattle.spec.specs.declared.Profile.the-variants.{NoProfile}
 use Rattle.spec.specs.Xmp.{newPart, noted}
-use Rattle.spec.specs.Document.{ordinary, Frame as Element, frameBytes, heldBytes, fits}
+use Rattle.spec.specs.Document.{Part, ordinary, Frame as Element, placeIn, frameBytes, heldBytes, fits}
 use Rattle.spec.specs.StartTag.{Tag}
 use Rattle.spec.specs.Productions.{Opened}
 use Rattle.spec.specs.Opening.{enter, opened}
 use Rattle.state_ids.specs.Ids.{idsOf, roomFor, ValidIds, room-fits, valid-fits}
 use Rattle.state_words.specs.Words.{pick}
 use Rattle.state.specs.declared.Registers.{Registers}
-use Rattle.state.specs.Meaning.{docOf}
+use Rattle.state.specs.Meaning.{elementsOf, docOf}
 use Rattle.state.specs.Valid.{Valid}
 use Rattle.start_element.specs.declared.Source.{Source}
 use Rattle.start_element.specs.declared.Source.the-variants.{Missing, Own, Made}
@@ -37,9 +36,12 @@ and-assoc : (a b c : Bool) → (a && (b && c)) ≡ ((a && b) && c)
 and-assoc true b c = refl
 and-assoc false b c = refl
 
--- the element that a tag opens
+-- the element that a tag opens, which is so much to a packet; that holds no byte
+abbrev pub opening : Part → Tag → Opened → Element
+opening p t o = record { name = t .name; bindings = t .bindings; ownBase = t .ownBase; ownTag = t .ownTag; kind = o .kind; part = p }
+
 abbrev pub elementOf : Tag → Opened → Element
-elementOf t o = record { name = t .name; bindings = t .bindings; ownBase = t .ownBase; ownTag = t .ownTag; kind = o .kind; part = ordinary }
+elementOf t o = opening ordinary t o
 
 ids-room : {count used : ℕ} {ia il st : List ℕ} → ValidIds count used ia il st → (s : Source) (e a : List ℕ) (o : Option Bytes) → maybe s e a ≡ o → ((i : Bytes) → o ≡ some i → length i ≤ mostNameBytes)
     → (leb (length (enter o (idsOf ia il st count))) mostIds && leb (total length (enter o (idsOf ia il st count))) mostIdBytes) ≡ roomForId count used s e a
@@ -50,12 +52,12 @@ ids-room v (Made i n) e a o q h = rw (← q) (sym (room-fits v (Rattle.copy.spe
 
 module _ {r : Registers} {count used : ℕ} {fs bs is w ia il st : List ℕ} (v : Valid r fs bs is w) (flat : r .counts .inner ≡ 0) (x : ValidIds count used ia il st) where
   pub behind-fits : (t : Tag) (o : Opened) (s : Source) (e a : List ℕ) (n : ℕ) → maybe s e a ≡ t .id → ((i : Bytes) → t .id ≡ some i → length i ≤ mostNameBytes) → frameBytes (elementOf t o) ≡ n
-      → fits (opened t (docOf r fs bs is w (idsOf ia il st count)) o .1) ≡ (roomForId count used s e a && leb (r .store .top + n) mostHeldBytes)
-  unfolding fits opened heldBytes docOf newPart
+      → fits (opened t (docOf r fs bs is w (idsOf ia il st count)) o .1) ≡ (roomForId count used s e a && leb (r .store .top - r .store .noted + n) mostHeldBytes)
+  unfolding fits opened heldBytes docOf frameBytes
   behind-fits t o s e a n q h f =
-      rw (held-with v flat (t .iri) (noted NoProfile t) (elementOf t o), f)
-      (and-assoc (leb (length (enter (t .id) (idsOf ia il st count))) mostIds) (leb (total length (enter (t .id) (idsOf ia il st count))) mostIdBytes) (leb (r .store .top + n) mostHeldBytes)
-      ∙ ap (λ (b : Bool). b && leb (r .store .top + n) mostHeldBytes) (ids-room x s e a (t .id) q h))
+      rw (held-with v flat (t .iri) (noted (r .mode .xmp) t) (opening (newPart (r .mode .xmp) (placeIn (elementsOf r fs bs is w)) (t .iri)) t o), f)
+      (and-assoc (leb (length (enter (t .id) (idsOf ia il st count))) mostIds) (leb (total length (enter (t .id) (idsOf ia il st count))) mostIdBytes) (leb (r .store .top - r .store .noted + n) mostHeldBytes)
+      ∙ ap (λ (b : Bool). b && leb (r .store .top - r .store .noted + n) mostHeldBytes) (ids-room x s e a (t .id) q h))
 
 -- ---- what `fits` answers
 
@@ -66,7 +68,7 @@ pub record Fits (b : Bool) (p : Parts) (s : Source) (top count used : ℕ) (e v 
   pub is : b ≡ (roomForId count used s e a && leb (top + size) mostHeldBytes)
 
 -- the test by what is left
-left-over : (n top most : ℕ) → top ≤ most → leb n (most - top) ≡ leb (top + n) most
+pub left-over : (n top most : ℕ) → top ≤ most → leb n (most - top) ≡ leb (top + n) most
 left-over n top most l = go (leb (top + n) most) refl
   where
     go : (t : Bool) → leb (top + n) most ≡ t → leb n (most - top) ≡ t

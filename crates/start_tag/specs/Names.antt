@@ -14,7 +14,7 @@ use Rattle.copy.specs.Copy.{part}
 use Rattle.start_references.specs.declared.reference.Reference.{Reference}
 use Rattle.start_references.specs.declared.reference.Reference.the-variants.{Missing, Bad, Long, Made}
 use Rattle.start_references.specs.Reference.{Refers}
-use Rattle.start_rules.specs.Names.{long-rdf, long-description, long-li, long-node, long-property}
+use Rattle.start_rules.specs.Names.{long-rdf, long-description, long-alt, long-li, long-node, long-property}
 
 abbrev pub iriText : Reference → List ℕ → Bytes
 iriText Missing a = []
@@ -49,6 +49,10 @@ module _ (a : List ℕ) (i : Bytes) (r : Reference) (h : Refers r a 5120 (good (
   pub description-name : same (iriText r a) (rdf "Description") ≡ same i (rdf "Description")
   unfolding F.all
   description-name = through {f = λ x. same x (rdf "Description")} a i r h (λ l q. long-description l q)
+
+  pub alt-name : same (iriText r a) (rdf "Alt") ≡ same i (rdf "Alt")
+  unfolding F.all
+  alt-name = through {f = λ x. same x (rdf "Alt")} a i r h (λ l q. long-alt l q)
 
 -- ---- the arms of `iri_text`
 

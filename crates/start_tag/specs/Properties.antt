@@ -2,34 +2,42 @@
 use Prim.Native.Nat.{ℕ, suc, _+_, _<_, _≤_}
 use mathlib.Core.Path.{_≡_, refl, sym, ap, _∙_}
 use mathlib.Core.Bool.{Bool, true, false, _||_, not, false≢true}
-use mathlib.Core.Option.{Option}
+use mathlib.Core.Logic.{inl}
+use mathlib.Core.Option.{Option, some}
 use mathlib.Core.List.{List, _++_}
 use native.Mathlib.Omega.{arith}
 use native.Mathlib.Numerals.{add-one}
 use lib.Dec.{eqb, ltb}
 use lib.ListN.{length, length-append}
+use borrow.Author.Tests.{leb-true, not-true, not-false}
 use Rattle.spec.specs.Bytes.{Bytes, same, isSome, if_then_else_, _>>_, require_or_}
 use Rattle.spec.proofs.Bytes.{same-true}
-use Rattle.spec.specs.Numbers.{good}
+use Rattle.spec.specs.Numbers.{refuse, good}
 use Rattle.spec.specs.declared.Refusal.{Refusal}
-use Rattle.spec.specs.declared.Refusal.the-variants.{OverLimit, Reserved}
-use Rattle.spec.specs.Limits.{mostLabels, mostHeldBytes}
+use Rattle.spec.specs.declared.Refusal.the-variants.{OverLimit, Reserved, ProfileBroken}
+use Rattle.spec.specs.Limits.{mostLabels, mostHeldBytes, mostNameBytes}
+use Rattle.spec.specs.Xmp as X
+use Rattle.spec.specs.Xmp.{newPart}
 use Rattle.spec.specs.Rdf.{rdf, mayBeProperty}
 use Rattle.spec.specs.Rdf as F
 use Rattle.spec.specs.NTriples.{Subject, node, label, decimal}
 use Rattle.spec.specs.Document as D
+use Rattle.spec.specs.Document.{ordinary}
 use Rattle.spec.specs.Productions as O
 use Rattle.spec.specs.StartTag as S
 use Rattle.spec.specs.Productions.{Opened, tagLines, elementType, isLi, propertyIri, hasNode, openProperty, parseTypeOf, noParseType}
 use Rattle.copy.specs.Copy.{part, Wrote, wrote-part, wrote-same}
 use Rattle.label.specs.Digits.{length-decimal}
 use Rattle.state_words.specs.Parts.{TABLE}
-use Rattle.state_words.specs.declared.Kind.the-variants.{NodeElt, ParseTypeCollectionPropertyElt, ParseTypeLiteralPropertyElt, ParseTypeOtherPropertyElt, Wrapper}
+use Rattle.state_words.specs.declared.Kind.{Kind}
+use Rattle.state_words.specs.declared.Kind.the-variants.{Rdf, NodeElt, ParseTypeCollectionPropertyElt, ParseTypeLiteralPropertyElt, ParseTypeOtherPropertyElt, Wrapper}
 use Rattle.state_words.specs.Kept.{Kept, kept-all, kept-then, kept-before, kept-behind, kept-less}
-use Rattle.state_words.specs.Words.{pick}
+use Rattle.state_words.specs.declared.Frame.{Frame}
+use Rattle.state_words.specs.Words.{pick, frameAt}
+use Rattle.state_ids.specs.Ids.{idsOf}
 use Rattle.state.specs.declared.Registers.{Registers}
 use Rattle.state.specs.Meaning.{subjectBelow, elementsOf, count}
-use Rattle.state_stack.specs.Calls.{topFrame}
+use Rattle.state_stack.specs.Calls.{topFrame, sameKind}
 use Rattle.start_names.specs.Tag.{valueAt}
 use Rattle.start_references.specs.declared.reference.Reference.{Reference}
 use Rattle.start_references.specs.Reference.{given}
@@ -46,7 +54,7 @@ use Rattle.ntriples.specs.Terms as N
 use Rattle.start_element.specs.declared.Source.{Source}
 use Rattle.start_element.specs.declared.Source.the-variants.{Made}
 use Rattle.start_element.specs.Element.{textOf, maybe, nodeIs, Fitting}
-use Rattle.start_element.specs.Laws.{isWrapper, stands-in}
+use Rattle.start_element.specs.Laws.{Counts, CountedBy, isGiven, isOuter, stands-in}
 use Rattle.start_plan.specs.declared.Given.{Given}
 use Rattle.start_plan.specs.declared.Plan.{Plan}
 use Rattle.start_plan.specs.declared.Start.{Start}
@@ -55,13 +63,19 @@ use Rattle.start_plan.specs.Says.{Says, object-subject, no-object}
 use Rattle.start_plan.specs.Does.{Does, lacking-object, does-collection, does-literal, does-other, does-resource, does-default}
 use Rattle.start_plan.specs.Goes.{told, mainOf, objectOf, propertyOf}
 use Rattle.start_tag.specs.declared.reading.Tag.{Tag}
-use Rattle.start_tag.specs.Giving.{madeAt, isMissing, made-there, Gives, Keeps, given-says, iri-says}
+use Rattle.start_tag.specs.Giving as G
+use Rattle.start_tag.specs.Giving.{madeAt, isMissing, made-there, Gives, shorts, Keeps, given-says, iri-says}
 use Rattle.start_form.specs.Order.{productionIn}
 use Rattle.start_tag.specs.declared.judging.Verdict.{Verdict}
 use Rattle.start_tag.specs.declared.judging.Verdict.the-variants.{Stop, Go}
 use Rattle.start_tag.specs.Names.{iriText, property-name, li-name}
-use Rattle.start_tag.specs.Judges.{Known, Waits, Drafted, Measurable, startBy, text-of, production-stops, long-stops, waits}
-use Rattle.start_tag.specs.Nodes.{Ready, value-there, refused-good, label-made}
+use Rattle.start_tag.specs.Made.{shortIf}
+use Rattle.start_tag.specs.Rules.{isReserved, property-free}
+use Rattle.start_tag.specs.Packets as K
+use Rattle.start_tag.specs.Packets.{part-few}
+use Rattle.start_tag.specs.Remembered.{top-is-frame, given-is, noted-so}
+use Rattle.start_tag.specs.Judges.{Known, Waits, Drafted, Measurable, startBy, text-of, reserved-stops, broken-stops, production-stops, long-stops, waits}
+use Rattle.start_tag.specs.Nodes.{Ready, refused-good, label-made}
 
 -- ---- what is made of a property
 
@@ -74,7 +88,7 @@ propertyPlan parse.Literal g p u n = heldPlan ParseTypeLiteralPropertyElt g p n
 propertyPlan parse.Other g p u n = heldPlan ParseTypeOtherPropertyElt g p n
 
 -- none is the wrapper
-no-wrapper : (q : ParseType) (g : Given) (p : Source) (u : Bool) (n : ℕ) → isWrapper (propertyPlan q g p u n .parts .kind) ≡ false
+no-wrapper : (q : ParseType) (g : Given) (p : Source) (u : Bool) (n : ℕ) → isOuter (propertyPlan q g p u n .parts .kind) ≡ false
 no-wrapper parse.Absent g p u n = refl
 no-wrapper parse.Collection g p u n = refl
 no-wrapper parse.Resource g p u n = refl
@@ -140,10 +154,14 @@ at-most false l f = l
 without : (x y u : Bool) → (x || y || u) ≡ true → x ≡ false → y ≡ false → u ≡ true
 without x y u h p q = rw (p, q) at h
 
+number-short : (c : ℕ) → length (rdf "_" ++ decimal (c + 1)) ≤ 64
+unfolding F.all
+number-short c = omega (arith, length-append (rdf "_") (decimal (c + 1)), length-decimal (c + 1))
+
 -- ---- judged
 
-pub record JudgesProperty (q : Verdict) (t : Tag) (r : Registers) (fs e v : List ℕ) (k : ℕ) (a b : List ℕ) : Type 0 where
-  pub cases : (ids used m : ℕ) (bs is w ia il st cs rs : List ℕ) (y : Known t r ids used fs bs is w ia il st e v m k cs rs a) → topFrame r fs .kind ≡ NodeElt → r .counts .depth ≤ 64 → length fs ≡ TABLE
+pub record JudgesProperty (q : Verdict) (t : Tag) (r : Registers) (fs w e v : List ℕ) (k : ℕ) (a b : List ℕ) : Type 0 where
+  pub cases : (ids used m : ℕ) (bs is ia il st cs rs : List ℕ) (y : Known t r ids used fs bs is w ia il st e v m k cs rs a) → topFrame r fs .kind ≡ NodeElt → r .counts .depth ≤ 64 → length fs ≡ TABLE
       → D.placeIn (elementsOf r fs bs is w) ≡ D.properties (subjectBelow fs w (r .counts .depth)) (count (topFrame r fs))
       → Drafted q r ids used fs bs is w ia il st e v m k cs rs b
   pub measurable : Measurable q
@@ -175,53 +193,102 @@ unfolding given N.idOf
 given-same true s = refl
 given-same false s = refl
 
--- i: the element's name as it was read; f: is its rdf:resource missing?
-module _ {t : Tag} {r : Registers} {fs e v : List ℕ} {k : ℕ} {a : List ℕ} {i : Bytes} {reserved li f : Bool} {p : ParseType} {c : ℕ} {j : Judgment}
-    (ip : i ≡ iriText (t .iri) a) (rp : reserved ≡ not (mayBeProperty i)) (lp : li ≡ isLi i) (fm : f ≡ isMissing (t .resource))
+-- what stands in a node is nothing else to a packet
+property-part : (o : Bool) (s : Subject) (li : ℕ) (i : Bytes) → ordinary ≡ newPart o (D.properties s li) i
+unfolding newPart
+property-part false s li i = refl
+property-part true s li i = refl
+
+reserved-property : (t : S.Tag) (s : Subject) (c n : ℕ) → mayBeProperty (t .iri) ≡ false → openProperty t s c n ≡ refuse Reserved
+unfolding openProperty _>>_ require_or_
+reserved-property t s c n h = rw h
+
+-- i: the element's name as it was read
+module _ {t : Tag} {r : Registers} {fs w e v : List ℕ} {k : ℕ} {a : List ℕ} {i : Bytes} {reserved : Bool} (ip : i ≡ iriText (t .iri) a) (rp : reserved ≡ not (mayBeProperty i)) where
+  named-so : {ids used m : ℕ} {bs is ia il st cs rs : List ℕ} (y : Known t r ids used fs bs is w ia il st e v m k cs rs a) → reserved ≡ not (mayBeProperty (y .tells .is .iri))
+  named-so y = rp ∙ ap (λ (x : Bytes). not (mayBeProperty x)) ip ∙ ap not (property-name a (y .tells .is .iri) (t .iri) (y .tells .iri))
+
+  -- the production of the place
+  produced : {ids used m : ℕ} {bs is ia il st cs rs : List ℕ} (y : Known t r ids used fs bs is w ia il st e v m k cs rs a)
+      → D.placeIn (elementsOf r fs bs is w) ≡ D.properties (subjectBelow fs w (r .counts .depth)) (count (topFrame r fs))
+      → productionIn (D.placeIn (elementsOf r fs bs is w)) (y .tells .is) (r .counts .labels) ≡ openProperty (y .tells .is) (subjectBelow fs w (r .counts .depth)) (count (topFrame r fs)) (r .counts .labels)
+  unfolding productionIn
+  produced y h = rw h
+
+  -- 14
+  pub property-reserved-here : reserved ≡ true → JudgesProperty (Stop Reserved) t r fs w e v k a a
+  property-reserved-here h =
+      record {
+        cases = λ ids used m bs is ia il st cs rs y kd dp fw at.
+            reserved-stops y (produced y at ∙ reserved-property (y .tells .is) (subjectBelow fs w (r .counts .depth)) (count (topFrame r fs)) (r .counts .labels) (not-true (mayBeProperty (y .tells .is .iri)) (sym (named-so y) ∙ h)));
+        measurable = tt;
+        same = refl;
+      }
+
+  module _ (rf : reserved ≡ false) {u : Bool} (kb : K.Keeps u t r fs w e v k a) where
+    pub kept-is : {ids used m : ℕ} {bs is ia il st cs rs : List ℕ} (y : Known t r ids used fs bs is w ia il st e v m k cs rs a) → u ≡ X.keeps (r .mode .xmp) (elementsOf r fs bs is w) (y .tells .is)
+    kept-is {ids = ids} {ia = ia} {il} {st} y = kb .is (idsOf ia il st ids) (y .lawful .valid) (y .level) (y .tells)
+
+    -- 19
+    pub property-broken : u ≡ false → JudgesProperty (Stop ProfileBroken) t r fs w e v k a a
+    property-broken h =
+        record {
+          cases = λ ids used m bs is ia il st cs rs y kd dp fw at.
+              broken-stops y (sym (kept-is y) ∙ h)
+              (ap isReserved (produced y at) ∙ property-free (y .tells .is) (subjectBelow fs w (r .counts .depth)) (count (topFrame r fs)) (r .counts .labels) (not-false (mayBeProperty (y .tells .is .iri)) (sym (named-so y) ∙ rf)));
+          measurable = tt;
+          same = refl;
+        }
+
+-- f: is its rdf:resource missing? u: does it keep the rules of its mode?
+module _ {t : Tag} {r : Registers} {fs w e v : List ℕ} {k : ℕ} {a : List ℕ} {i : Bytes} {reserved li f u : Bool} {p : ParseType} {c : ℕ} {j : Judgment}
+    (ip : i ≡ iriText (t .iri) a) (rp : reserved ≡ not (mayBeProperty i)) (kb : K.Keeps u t r fs w e v k a) (kt : u ≡ true) (lp : li ≡ isLi i) (fm : f ≡ isMissing (t .resource))
     (pp : parseTypeIs p ≡ parseTypeOf (N.idOf (ltb (t .parse) k) (valueAt e v (t .parse)))) (cp : c ≡ count (topFrame r fs))
     (jg : PropertyJudged reserved li c p (not f) (ltb (t .node) k) (t .properties) (r .counts .labels) j) where
-  module _ {ids used m : ℕ} {bs is w ia il st cs rs : List ℕ} (y : Known t r ids used fs bs is w ia il st e v m k cs rs a) where
+  module _ {ids used m : ℕ} {bs is ia il st cs rs : List ℕ} (y : Known t r ids used fs bs is w ia il st e v m k cs rs a) where
+    kept : X.keeps (r .mode .xmp) (elementsOf r fs bs is w) (y .tells .is) ≡ true
+    kept = sym (kb .is (idsOf ia il st ids) (y .lawful .valid) (y .level) (y .tells)) ∙ kt
+
     tagged : PropertyTag (y .tells .is) reserved li p (not f) (ltb (t .node) k) (t .properties)
     tagged =
         record {
-          name = rp ∙ ap (λ (x : Bytes). not (mayBeProperty x)) ip ∙ ap not (property-name a (y .tells .is .iri) (t .iri) (y .tells .iri));
+          name = named-so ip rp y;
           numbered = lp ∙ (ap isLi ip ∙ li-name a (y .tells .is .iri) (t .iri) (y .tells .iri));
           parse = pp ∙ ap parseTypeOf (sym (y .tells .parseType ∙ value-given e v k (t .parse) ∙ given-same (ltb (t .parse) k) (valueAt e v (t .parse))));
           hasResource = ap not fm ∙ sym (made-there a 2048 (y .tells .is .resource) (t .resource) (y .tells .resource));
-          hasNodeID = sym (ap isSome (y .tells .nodeID) ∙ value-there e v k (t .node));
+          hasNodeID = sym (ap isSome (y .tells .nodeID) ∙ G.value-given e v k (t .node));
           hasProperties = y .tells .properties;
         }
 
     -- the production of the place
     asked : D.placeIn (elementsOf r fs bs is w) ≡ D.properties (subjectBelow fs w (r .counts .depth)) (count (topFrame r fs))
         → productionIn (D.placeIn (elementsOf r fs bs is w)) (y .tells .is) (r .counts .labels) ≡ openProperty (y .tells .is) (subjectBelow fs w (r .counts .depth)) c (r .counts .labels)
-    unfolding productionIn
-    asked h = rw (h, cp)
+    asked h = produced ip rp y h ∙ rw cp
 
-  pub property-refused : {n : Refusal} → j ≡ judgment.Stop n → JudgesProperty (Stop n) t r fs e v k a a
+  pub property-refused : {n : Refusal} → j ≡ judgment.Stop n → JudgesProperty (Stop n) t r fs w e v k a a
   property-refused {n} h =
       record {
-        cases = λ ids used m bs is w ia il st cs rs y kd dp fw at. production-stops y (asked y at ∙ (jg .is (y .tells .is) (subjectBelow fs w (r .counts .depth)) (tagged y)
+        cases = λ ids used m bs is ia il st cs rs y kd dp fw at. production-stops y (kept y) (asked y at ∙ (jg .is (y .tells .is) (subjectBelow fs w (r .counts .depth)) (tagged y)
             ∙ ap (λ (x : Judgment). said x (propertyOpened (parseTypeIs p) (y .tells .is) (propertyIn (y .tells .is) (subjectBelow fs w (r .counts .depth)) c) (r .counts .labels))) h));
         measurable = tt;
         same = refl;
       }
 
   module _ (h : j ≡ judgment.Good) where
-    opens : {ids used m : ℕ} {bs is w ia il st cs rs : List ℕ} (y : Known t r ids used fs bs is w ia il st e v m k cs rs a)
+    opens : {ids used m : ℕ} {bs is ia il st cs rs : List ℕ} (y : Known t r ids used fs bs is w ia il st e v m k cs rs a)
         → D.placeIn (elementsOf r fs bs is w) ≡ D.properties (subjectBelow fs w (r .counts .depth)) (count (topFrame r fs))
         → productionIn (D.placeIn (elementsOf r fs bs is w)) (y .tells .is) (r .counts .labels)
         ≡ good (propertyOpened (parseTypeIs p) (y .tells .is) (propertyIn (y .tells .is) (subjectBelow fs w (r .counts .depth)) c) (r .counts .labels))
-    opens {w = w} y at =
+    opens y at =
         asked y at ∙ (jg .is (y .tells .is) (subjectBelow fs w (r .counts .depth)) (tagged y)
         ∙ ap (λ (x : Judgment). said x (propertyOpened (parseTypeIs p) (y .tells .is) (propertyIn (y .tells .is) (subjectBelow fs w (r .counts .depth)) c) (r .counts .labels))) h)
 
-    pub property-long : t .short ≡ false → JudgesProperty (Stop OverLimit) t r fs e v k a a
-    property-long s = record { cases = λ ids used m bs is w ia il st cs rs y kd dp fw at. long-stops y (opens y at) s; measurable = tt; same = refl }
+    pub property-long : t .short ≡ false → JudgesProperty (Stop OverLimit) t r fs w e v k a a
+    property-long s = record { cases = λ ids used m bs is ia il st cs rs y kd dp fw at. long-stops y (kept y) (opens y at) s; measurable = tt; same = refl }
 
     module _ {takes : Bool} {b : List ℕ} {x : Start} (tk : takes ≡ takesLabel (parseTypeIs p) (not f) (ltb (t .node) k) (t .properties)) (s : t .short ≡ true) (rd : Ready e v k a)
         (mk : MakesProperty x t p takes li c (r .counts .labels) e v k a b) where
-      module _ {ids used m : ℕ} {bs is w ia il st cs rs : List ℕ} (y : Known t r ids used fs bs is w ia il st e v m k cs rs a)
+      module _ {ids used m : ℕ} {bs is ia il st cs rs : List ℕ} (y : Known t r ids used fs bs is w ia il st e v m k cs rs a)
           (at : D.placeIn (elementsOf r fs bs is w) ≡ D.properties (subjectBelow fs w (r .counts .depth)) (count (topFrame r fs))) where
         says : Says (mk .parts) e b (y .tells .is)
         says = given-says (y .tells) s (mk .keeps) (rd .event) (mk .gives)
@@ -260,7 +327,7 @@ module _ {t : Tag} {r : Registers} {fs e v : List ℕ} {k : ℕ} {a : List ℕ} 
 
         does-as : (q : ParseType) → p ≡ q
             → Does (propertyPlan q (mk .parts) (mk .property) (t .properties) (pick (takesLabel (parseTypeIs q) (isSome (y .tells .is .resource)) (isSome (y .tells .is .nodeID)) (t .properties)) (r .counts .labels + 1) (r .counts .labels)))
-            e b (subjectBelow fs w (r .counts .depth)) (propertyOpened (parseTypeIs q) (y .tells .is) (propertyIn (y .tells .is) (subjectBelow fs w (r .counts .depth)) c) (r .counts .labels))
+            e b (subjectBelow fs w (r .counts .depth)) (propertyOpened (parseTypeIs q) (y .tells .is) (propertyIn (y .tells .is) (subjectBelow fs w (r .counts .depth)) c) (r .counts .labels)) ordinary
         unfolding propertyIn
         does-as parse.Absent z =
             rw one
@@ -271,6 +338,23 @@ module _ {t : Tag} {r : Registers} {fs e v : List ℕ} {k : ℕ} {a : List ℕ} 
             rw one (does-resource (mk .parts) e b (subjectBelow fs w (r .counts .depth)) says (r .counts .labels) (mk .property) (propertyIn (y .tells .is) (subjectBelow fs w (r .counts .depth)) c) refl written refl (labelled-as z refl))
         does-as parse.Literal z = does-literal (mk .parts) e b (subjectBelow fs w (r .counts .depth)) says (r .counts .labels) (mk .property) (propertyIn (y .tells .is) (subjectBelow fs w (r .counts .depth)) c) refl written refl
         does-as parse.Other z = does-other (mk .parts) e b (subjectBelow fs w (r .counts .depth)) says (r .counts .labels) (mk .property) (propertyIn (y .tells .is) (subjectBelow fs w (r .counts .depth)) c) refl written refl
+
+        -- what it is about is no longer than an IRI may be
+        brief-iri : length (textOf (mk .property) e b) ≤ 1_024
+        unfolding shortIf mostNameBytes
+        brief-iri = rw written (go (isLi (y .tells .is .iri)) refl)
+          where
+            go : (u : Bool) → isLi (y .tells .is .iri) ≡ u → length (propertyIri (y .tells .is .iri) (suc c)) ≤ 1_024
+            go true z = rw (li-iri (y .tells .is .iri) c z) (omega (arith, number-short c))
+            go false z = rw (own-iri (y .tells .is .iri) (suc c) z) (leb-true (length (y .tells .is .iri)) 1_024 (shorts (y .tells .is) (sym (y .tells .short) ∙ s) .iri))
+
+        brief-as : (q : ParseType) (n : ℕ) → length (textOf (propertyPlan q (mk .parts) (mk .property) (t .properties) n .parts .main) e b) ≤ 1_024
+        unfolding textOf
+        brief-as parse.Absent n = brief-iri
+        brief-as parse.Collection n = brief-iri
+        brief-as parse.Resource n = omega (arith, part-few b 6144 12)
+        brief-as parse.Literal n = brief-iri
+        brief-as parse.Other n = brief-iri
 
         -- a default property: has it a node at once?
         default-lines : p ≡ parse.Absent → (u : Bool) → (isSome (y .tells .is .resource) || isSome (y .tells .is .nodeID) || t .properties) ≡ u → (n : ℕ)
@@ -304,11 +388,23 @@ module _ {t : Tag} {r : Registers} {fs e v : List ℕ} {k : ℕ} {a : List ℕ} 
         drafted : topFrame r fs .kind ≡ NodeElt → r .counts .depth ≤ 64 → length fs ≡ TABLE → Waits x r ids used fs bs is w ia il st e v m k cs rs b
         drafted kd dp fw =
             rw is-so
-            (waits y (opens y at) s (mk .keeps) (rd .event) (mk .gives) (base-of p (mk .parts) (mk .property) (t .properties) _) (tag-of p (mk .parts) (mk .property) (t .properties) _) (does-as p refl) li true (mk .property)
-            (sym (ap not (not-description (y .tells .is .iri) (good-property (y .tells .is) (subjectBelow fs w (r .counts .depth)) c (r .counts .labels) (sym (asked y at) ∙ opens y at)))))
-            (sym is-li) (λ u. record { kind = kd; few = numbers u }) few-labels (stands-in r fs kd dp fw (the-plan .parts .kind) (no-wrapper p (mk .parts) (mk .property) (t .properties) _))
-            (lines-as p refl (startBy the-plan t li true (mk .property)) refl stated
-            ∙ ap (told (the-plan .lines) (mainOf (startBy the-plan t li true (mk .property)) e b) (objectOf (startBy the-plan t li true (mk .property)) e b) (y .tells .is .language) (y .tells .is .attributes) (y .tells .is .type) (elementType (y .tells .is .iri))) (sym stated)))
+            (waits y (kept y) (opens y at) s (mk .keeps) (rd .event) (mk .gives) (base-of p (mk .parts) (mk .property) (t .properties) _) (tag-of p (mk .parts) (mk .property) (t .properties) _)
+            (rw (at, ← property-part (r .mode .xmp) (subjectBelow fs w (r .counts .depth)) (count (topFrame r fs)) (y .tells .is .iri)) (does-as p refl)) li true (mk .property)
+            (record {
+              typed = sym (ap not (not-description (y .tells .is .iri) (good-property (y .tells .is) (subjectBelow fs w (r .counts .depth)) c (r .counts .labels) (sym (asked y at) ∙ opens y at))));
+              counted = counted-so;
+              noted =
+                  noted-so (y .tells .is) li (textOf (the-plan .parts .main) e b)
+                  (ap isGiven (tag-of p (mk .parts) (mk .property) (t .properties) _) ∙ (given-is (mk .parts .tag) e b ∙ ap isSome (says .tag)))
+                  (y .lawful .valid) (y .level) counted-so in-node (r .mode .xmp) (kept y);
+              brief = λ z. main-brief;
+              numbered = λ u. inl (record { kind = kd; few = numbers u });
+              few = few-labels;
+              stood = stands-in r fs kd dp fw (the-plan .parts .kind) (no-wrapper p (mk .parts) (mk .property) (t .properties) _);
+              lines =
+                  lines-as p refl (startBy the-plan t li true (mk .property)) refl stated
+                  ∙ ap (told (the-plan .lines) (mainOf (startBy the-plan t li true (mk .property)) e b) (objectOf (startBy the-plan t li true (mk .property)) e b) (y .tells .is .language) (y .tells .is .attributes) (y .tells .is .type) (elementType (y .tells .is .iri))) (sym stated);
+            }))
           where
             -- the plan, in the definitions' words
             the-plan : Plan
@@ -317,6 +413,18 @@ module _ {t : Tag} {r : Registers} {fs e v : List ℕ} {k : ℕ} {a : List ℕ} 
             is-so : x ≡ startBy the-plan t li true (mk .property)
             is-so = mk .is ∙ ap (λ (u : Bool). startBy (propertyPlan p (mk .parts) (mk .property) (t .properties) (pick u (r .counts .labels + 1) (r .counts .labels))) t li true (mk .property)) takes-is
 
+            counted-so : CountedBy r fs (y .tells .is .iri) li
+            counted-so = record { node = λ _. sym is-li; wraps = λ q. absurd (false≢true (sym (ap (λ (g : Kind). sameKind g Wrapper) kd) ∙ q)) }
+
+            -- the element around is no rdf:RDF
+            in-node : (n : ℕ) → r .counts .depth ≡ suc n → sameKind (frameAt fs n .kind) Rdf ≡ true → (x : Bytes) → y .tells .is .about ≡ some x → textOf (the-plan .parts .main) e b ≡ x
+            in-node n d h x q =
+                let f : frameAt fs n .kind ≡ NodeElt = ap (λ (g : Frame). g .kind) (sym (top-is-frame r fs n d (omega (arith, dp, fw, d)))) ∙ kd in
+                absurd (false≢true (sym (ap (λ (g : Kind). sameKind g Rdf) f) ∙ h))
+
+            main-brief : length (textOf (the-plan .parts .main) e b) ≤ 1_024
+            main-brief = brief-as p _
+
             numbers : li ≡ true → count (topFrame r fs) < 99_999_999
             numbers u = rw (← cp) (li-left jg h u)
 
@@ -324,10 +432,10 @@ module _ {t : Tag} {r : Registers} {fs e v : List ℕ} {k : ℕ} {a : List ℕ} 
             few-labels = rw (labels-of p (mk .parts) (mk .property) (t .properties) (pick (takesLabel (parseTypeIs p) (isSome (y .tells .is .resource)) (isSome (y .tells .is .nodeID)) (t .properties)) (r .counts .labels + 1) (r .counts .labels)))
                 (at-most (takesLabel (parseTypeIs p) (isSome (y .tells .is .resource)) (isSome (y .tells .is .nodeID)) (t .properties)) (y .lawful .valid .labels) (λ u. label-left jg h (sym (sym takes-is ∙ tk) ∙ u)))
 
-      pub property-judged : JudgesProperty (Go x) t r fs e v k a b
+      pub property-judged : JudgesProperty (Go x) t r fs w e v k a b
       property-judged =
           record {
-            cases = λ ids used m bs is w ia il st cs rs y kd dp fw at. drafted y at kd dp fw;
+            cases = λ ids used m bs is ia il st cs rs y kd dp fw at. drafted y at kd dp fw;
             measurable = rw (mk .is) (fitting-of p (mk .parts) (mk .property) (t .properties) _);
             same = mk .keeps .same;
           }
@@ -375,10 +483,6 @@ pub record Numbers (li : Bool) (c : ℕ) (i : Reference) (a b : List ℕ) (s : S
 
 pub not-numbered : {li : Bool} {c : ℕ} (i : Reference) {a : List ℕ} {s : Source} → li ≡ false → s ≡ madeAt 5120 i → Numbers li c i a a s
 not-numbered i h q = record { number = λ u. absurd (false≢true (sym h ∙ u)); own = λ u. q; before = kept-all; behind = kept-all; same = refl }
-
-number-short : (c : ℕ) → length (rdf "_" ++ decimal (c + 1)) ≤ 64
-unfolding F.all
-number-short c = omega (arith, length-append (rdf "_") (decimal (c + 1)), length-decimal (c + 1))
 
 pub is-numbered : {li : Bool} {c n : ℕ} (i : Reference) {a b : List ℕ} → li ≡ true → Wrote a b 6160 (6160 + n) (rdf "_" ++ decimal (c + 1)) → Numbers li c i a b (Made 6160 n)
 unfolding textOf

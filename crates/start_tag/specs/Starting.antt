@@ -25,13 +25,15 @@ use Rattle.event.specs.declared.Progress.{Progress}
 use Rattle.event.specs.declared.Progress.the-variants as progress
 use Rattle.start_form.specs.declared.Form.{Form}
 use Rattle.start_form.specs.declared.Form.the-variants as form
-use Rattle.start_form.specs.Order.{WellFormed, unread}
+use Rattle.start_form.specs.Order.{unread}
 use Rattle.start_form.specs.Form.{Decoded, Asked, Formed, Checks}
 use Rattle.start_tag.specs.declared.reading.Tag.{Tag}
 use Rattle.start_tag.specs.declared.reading.Read.{Read}
 use Rattle.start_tag.specs.declared.reading.Read.the-variants as read
 use Rattle.start_tag.specs.Tag as T
-use Rattle.start_tag.specs.Tag.{Tells, Reads}
+use Rattle.start_tag.specs.Tag.{Tells}
+use Rattle.start_tag.specs.Reading.{isWrapping, ReadsTag}
+use Rattle.start_tag.specs.Wrapper.{Wrapping, JudgesWrapper}
 use Rattle.start_plan.specs.declared.Start.{Start}
 use Rattle.start_plan.specs.Goes.{Goes}
 use Rattle.start_tag.specs.declared.judging.Verdict.{Verdict}
@@ -90,34 +92,40 @@ module _ {r : Registers} {count used : ℕ} {fs bs is w ia il st e v : List ℕ}
             classified = formed .classes;
           }
 
-      module _ {t : Read} {rs′ b : List ℕ} (rd : Reads r fs bs w count ia il st e v m k ds rs a rs′ b t) where
-        pub read-stops : {n : Refusal} → t ≡ read.Stop n → JudgesStart (Stop n) r count used (lent fs bs is w ia il st []) e v m k cs rs a ds rs′ b
-        unfolding docOf startsWrapper
-        read-stops {n} q =
-            let z : readTag (take m e) (attributesOf e v k) (docOf r fs bs is w (idsOf ia il st count)) ≡ refuse n = rw q at (rd .cases is used (x .lawful .valid) (x .lawful .table)) in
-            record { rules = stops (unread (formed .form (idsOf ia il st count)) counts no-wrapper z); classes = ch .same; roles = rd .places; area = rd .same }
-          where
-            no-wrapper : startsWrapper (docOf r fs bs is w (idsOf ia il st count) .mode .profile) (take m e) (attributesOf e v k) (docOf r fs bs is w (idsOf ia il st count) .frames) ≡ false
-            no-wrapper = refl
+      module _ {t : Read} {rs′ b : List ℕ} (rd : ReadsTag r fs bs w count ia il st e v m k ds rs a rs′ b t) where
+        wrapping : startsWrapper (r .mode .xmp) (take m e) (attributesOf e v k) (elementsOf r fs bs is w) ≡ isWrapping t
+        wrapping = rd .wraps is (x .lawful .valid) (x .level)
 
+        pub read-stops : {n : Refusal} → t ≡ read.Stop n → JudgesStart (Stop n) r count used (lent fs bs is w ia il st []) e v m k cs rs a ds rs′ b
+        unfolding docOf
+        read-stops {n} q =
+            let z : readTag (take m e) (attributesOf e v k) (docOf r fs bs is w (idsOf ia il st count)) ≡ refuse n = rw q at (rd .reads .cases is used (x .lawful .valid) (x .lawful .table)) in
+            record { rules = stops (unread (formed .form (idsOf ia il st count)) counts (wrapping ∙ ap isWrapping q) z); classes = ch .same; roles = rd .reads .places; area = rd .reads .same }
+          where
             counts : Rattle.spec.specs.Opening.countsFit (attributesOf e v k) (docOf r fs bs is w (idsOf ia il st count) .frames) ≡ true
             counts = formed .counts
+
+        -- the wrapper's
+        pub wrapper-starts : {q : Verdict} → t ≡ read.Wrapper → JudgesWrapper q r e v m k w ds → JudgesStart q r count used (lent fs bs is w ia il st []) e v m k cs rs a ds rs′ b
+        wrapper-starts {q} h j =
+            let y : Wrapping r count used fs bs is w ia il st e v m k ds = record { lawful = x .lawful; level = x .level; formed = formed; splits = x .tag .splits; wraps = wrapping ∙ ap isWrapping h } in
+            record { rules = j .cases count used fs bs is ia il st rs′ b y; classes = ch .same; roles = rd .reads .places; area = rd .reads .same }
 
         pub ready-behind : Ready e v k b
         ready-behind =
             record {
               event = x .ready .event;
               words = x .ready .words;
-              room = omega (arith, x .ready .room, rd .same);
-              small = omega (arith, x .ready .small, rd .same);
+              room = omega (arith, x .ready .room, rd .reads .same);
+              small = omega (arith, x .ready .small, rd .reads .same);
               few = x .ready .few;
             }
 
         pub start-judged : {y : Tag} {q : Verdict} {a′ : List ℕ} → t ≡ read.Good y → Judges q y r count used fs w e v m k b a′ → JudgesStart q r count used (lent fs bs is w ia il st []) e v m k cs rs a ds rs′ a′
         start-judged {y} {q} g j =
-            let z : Tells y e v m k w ds rs′ b (docOf r fs bs is w (idsOf ia il st count)) = rw g at (rd .cases is used (x .lawful .valid) (x .lawful .table)) in
-            let kn : Known y r count used fs bs is w ia il st e v m k ds rs′ b = record { lawful = x .lawful; level = x .level; formed = formed; tells = z } in
-            record { rules = j .cases bs is ia il st ds rs′ kn; classes = ch .same; roles = rd .places; area = j .same ∙ rd .same }
+            let z : Tells y e v m k w ds rs′ b (docOf r fs bs is w (idsOf ia il st count)) = rw g at (rd .reads .cases is used (x .lawful .valid) (x .lawful .table)) in
+            let kn : Known y r count used fs bs is w ia il st e v m k ds rs′ b = record { lawful = x .lawful; level = x .level; formed = formed; other = wrapping ∙ ap isWrapping g; tells = z } in
+            record { rules = j .cases bs is ia il st ds rs′ kn; classes = ch .same; roles = rd .reads .places; area = j .same ∙ rd .reads .same }
 
 -- ---- done
 

@@ -50,7 +50,7 @@ use Rattle.start_attributes.specs.First.{firstIn, properties-some, properties-n
 use Rattle.start_attributes.specs.Short.{short-means}
 use Rattle.start_tag.specs.declared.reading.Tag.{Tag}
 use Rattle.start_tag.specs.declared.reading.Read.{Read}
-use Rattle.start_tag.specs.declared.reading.Read.the-variants.{Stop, Good}
+use Rattle.start_tag.specs.declared.reading.Read.the-variants.{Stop, Wrapper, Good}
 use Rattle.start_tag.specs.Made.{isUnknown, iriOf, Known, known-space, unknown-space, shortIf, shortBy, refers-short, Finished}
 
 -- what is asked: e and w are the decoded event and its words, v the work store, bs the bindings, of which n are in scope
@@ -87,6 +87,7 @@ pub record Tells (t : Tag) (e w : List ℕ) (m k : ℕ) (v cs rs area : List ℕ
 
 abbrev pub Cases : Read → List ℕ → List ℕ → ℕ → ℕ → List ℕ → List ℕ → List ℕ → List ℕ → Doc → Type 0
 Cases (Stop n) e w m k v cs rs area d = readTag (take m e) (attributesOf e w k) d ≡ refuse n
+Cases Wrapper e w m k v cs rs area d = Unit
 Cases (Good t) e w m k v cs rs area d = Tells t e w m k v cs rs area d
 
 -- what `read_tag` does, in any valid state that the registers, frames, bindings and work store belong to, and beside a valid table of rdf:IDs

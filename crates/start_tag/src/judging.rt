@@ -1,18 +1,19 @@
-// The rules that a start tag outside Literal content is judged by, once it is read: 14, 15, 18, and the limits on what is kept (7).
+// The rules that a start tag outside Literal content is judged by, once it is read: 14, 19, 15, 18, and the limits on what is kept (7).
 ghost use mathlib.Core.Path.{_≡_};
 ghost use mathlib.Core.Bool.{not, true};
 ghost use Prim.Native.Nat.{_*_, _<_, _≤_};
 ghost use lib.ListN.{length};
 ghost use Rattle.start_element.specs.Element.{Fitting};
 ghost use Rattle.start_element.specs.Sizes.{Short};
-ghost use Rattle.start_tag.specs.Giving.{isMissing};
+ghost use Rattle.start_tag.specs.Giving.{isMissing, Gives};
 ghost use Rattle.spec.specs.Limits.{mostAttributes, mostHeldBytes, mostLabels};
 ghost use Rattle.start_tag.specs.Names.{iriText};
 ghost use Rattle.start_tag.specs.Limits.{roomForId, Fits};
 ghost use Rattle.start_tag.specs.Judges.{Judges, Drafts, startBy};
 ghost use Rattle.start_tag.specs.Nodes.{Ready, MakesNode, JudgesNode};
 ghost use Rattle.start_tag.specs.Properties.{propertyPlan, MakesProperty, JudgesProperty, Labels, Numbers, Left};
-ghost use Rattle.start_tag.specs.Places.{JudgesRoot, opensAt};
+ghost use Rattle.start_tag.specs.Packets.{Keeps};
+ghost use Rattle.start_tag.specs.Places.{JudgesRoot, opensAt, isWrapped};
 use crate::reading::Tag;
 use event::Place;
 use spec::Refusal;
@@ -59,7 +60,7 @@ pub fn judge_tag(
     requires { ⌜ Ready (now scratch) (now spans) k (now area) ⌝ }
     ensures { λ q. ⌜ Judges q t r count used (now (frames .entry)) (now (work .entry)) (now (scratch .entry)) (now (spans .entry)) m k (now (area .entry)) (now (area .exit)) ⌝ }
 {
-    match draft(t, r, frames, scratch, spans, k, area) {
+    match draft(t, r, frames, work, scratch, spans, k, area) {
         Verdict::Stop(why) => Verdict::Stop(why),
         Verdict::Go(x) => {
             let plan = x.plan;
@@ -68,7 +69,7 @@ pub fn judge_tag(
             if !fits(
                 parts,
                 id,
-                r.store.top,
+                state_stack::nodes::minus(r.store.top, r.store.noted),
                 count,
                 used,
                 scratch,
@@ -89,20 +90,48 @@ fn draft(
     t: Tag,
     r: Registers,
     frames: &[u32],
+    work: &[u8],
     scratch: &[u8],
     spans: &[u32],
     k: usize,
     area: &mut [u8],
 ) -> Verdict
     requires { ⌜ Ready (now scratch) (now spans) k (now area) ⌝ }
-    ensures { λ q. ⌜ Drafts q t r (now (frames .entry)) (now (scratch .entry)) (now (spans .entry)) k (now (area .entry)) (now (area .exit)) ⌝ }
+    ensures { λ q. ⌜ Drafts q t r (now (frames .entry)) (now (work .entry)) (now (scratch .entry)) (now (spans .entry)) k (now (area .entry)) (now (area .exit)) ⌝ }
 {
     let iri = t.iri;
     let place = event::place_at(r, frames);
+    let wrapped = is_wrapped(place, r.counts.depth);
+    let g = crate::giving::given(t, scratch, spans, k);
+    let kept = crate::packets::keeps(t, r, frames, work, scratch, spans, k, area);
     match opened_at(place, iri_text(iri, area)) {
-        Opens::Rdf => judge_root(t, r.counts.labels, scratch, spans, k),
-        Opens::Node => judge_node(t, r, scratch, spans, k, area),
-        Opens::Property => judge_property(t, r, frames, scratch, spans, k, area),
+        Opens::Rdf => judge_root(
+            t,
+            g,
+            r,
+            wrapped,
+            kept,
+            frames,
+            work,
+            scratch,
+            spans,
+            k,
+            area,
+        ),
+        Opens::Node => judge_node(
+            t,
+            g,
+            r,
+            wrapped,
+            kept,
+            frames,
+            work,
+            scratch,
+            spans,
+            k,
+            area,
+        ),
+        Opens::Property => judge_property(t, g, r, kept, frames, work, scratch, spans, k, area),
     }
 }
 
@@ -124,38 +153,79 @@ fn opened_at(place: Place, name: &[u8]) -> Opens
     }
 }
 
-// rdf:RDF.
-fn judge_root(t: Tag, labels: u64, scratch: &[u8], spans: &[u32], k: usize) -> Verdict
-    requires { ⌜ k * 4 ≤ length (now spans) ⌝ }
-    ensures { λ q. ⌜ JudgesRoot q t labels (now (scratch .entry)) (now (spans .entry)) k ⌝ }
+// Does it stand in the wrapper, where its children are counted?
+fn is_wrapped(place: Place, depth: usize) -> bool
+    ensures { λ b. ⌜ b ≡ isWrapped place depth ⌝ }
 {
+    match place {
+        Place::Outside => depth > 0,
+        Place::Nodes => false,
+        Place::Properties => false,
+        Place::NodesOrText => false,
+        Place::Xml => false,
+    }
+}
+
+// rdf:RDF.
+fn judge_root(
+    t: Tag,
+    g: Given,
+    r: Registers,
+    wrapped: bool,
+    kept: bool,
+    frames: &[u32],
+    work: &[u8],
+    scratch: &[u8],
+    spans: &[u32],
+    k: usize,
+    area: &[u8],
+) -> Verdict
+    requires { ⌜ Gives t (now scratch) (now spans) k g
+        × Keeps kept t r (now frames) (now work) (now scratch) (now spans) k (now area) ⌝ }
+    ensures { λ q. ⌜ JudgesRoot q t r wrapped (now (frames .entry)) (now (work .entry)) (now (scratch .entry)) (now (spans .entry)) k (now (area .entry)) ⌝ }
+{
+    if !kept {
+        return Verdict::Stop(Refusal::ProfileBroken);
+    }
     if !t.short {
         return Verdict::Stop(Refusal::OverLimit);
     }
-    let g = crate::giving::given(t, scratch, spans, k);
-    let p = start_plan::root(g, labels);
-    let x = start_by(p, t, false, true, Source::Missing);
+    let p = start_plan::root(g, crate::packets::rdf_part(r.mode), r.counts.labels);
+    let x = start_by(p, t, wrapped, true, Source::Missing);
     Verdict::Go(x)
 }
 
 // A node element. Its label is made in the area.
 fn judge_node(
     t: Tag,
+    g: Given,
     r: Registers,
+    wrapped: bool,
+    kept: bool,
+    frames: &[u32],
+    work: &[u8],
     scratch: &[u8],
     spans: &[u32],
     k: usize,
     area: &mut [u8],
 ) -> Verdict
-    requires { ⌜ Ready (now scratch) (now spans) k (now area) ⌝ }
-    ensures { λ q. ⌜ JudgesNode q t r (now (scratch .entry)) (now (spans .entry)) k (now (area .entry)) (now (area .exit)) ⌝ }
+    requires { ⌜ Ready (now scratch) (now spans) k (now area) × Gives t (now scratch) (now spans) k g
+        × Keeps kept t r (now frames) (now work) (now scratch) (now spans) k (now area) ⌝ }
+    ensures { λ q. ⌜ JudgesNode q t r wrapped (now (frames .entry)) (now (work .entry)) (now (scratch .entry)) (now (spans .entry)) k (now (area .entry)) (now (area .exit)) ⌝ }
 {
     let iri = t.iri;
     let id = t.id;
     let about = t.about;
     let name = iri_text(iri, area);
     let reserved = start_rules::is_reserved_node(name);
+    if reserved {
+        return Verdict::Stop(Refusal::Reserved);
+    }
+    if !kept {
+        return Verdict::Stop(Refusal::ProfileBroken);
+    }
     let described = start_rules::is_description(name);
+    let part = crate::packets::node_part(r.mode, name);
     let named = !is_missing(id);
     let told = !is_missing(about);
     match start_rules::judge_node(reserved, named, t.node < k, told, r.counts.labels) {
@@ -164,7 +234,18 @@ fn judge_node(
             if !t.short {
                 return Verdict::Stop(Refusal::OverLimit);
             }
-            let x = make_node(t, !described, r.counts.labels, scratch, spans, k, area);
+            let x = make_node(
+                t,
+                g,
+                part,
+                !described,
+                wrapped,
+                r.counts.labels,
+                scratch,
+                spans,
+                k,
+                area,
+            );
             Verdict::Go(x)
         }
     }
@@ -173,15 +254,19 @@ fn judge_node(
 // A property element in the node on top. The number of an rdf:li and the label that it takes are made in the area.
 fn judge_property(
     t: Tag,
+    g: Given,
     r: Registers,
+    kept: bool,
     frames: &[u32],
+    work: &[u8],
     scratch: &[u8],
     spans: &[u32],
     k: usize,
     area: &mut [u8],
 ) -> Verdict
-    requires { ⌜ Ready (now scratch) (now spans) k (now area) ⌝ }
-    ensures { λ q. ⌜ JudgesProperty q t r (now (frames .entry)) (now (scratch .entry)) (now (spans .entry)) k (now (area .entry)) (now (area .exit)) ⌝ }
+    requires { ⌜ Ready (now scratch) (now spans) k (now area) × Gives t (now scratch) (now spans) k g
+        × Keeps kept t r (now frames) (now work) (now scratch) (now spans) k (now area) ⌝ }
+    ensures { λ q. ⌜ JudgesProperty q t r (now (frames .entry)) (now (work .entry)) (now (scratch .entry)) (now (spans .entry)) k (now (area .entry)) (now (area .exit)) ⌝ }
 {
     let around = state_stack::top(r, frames);
     let has = around.has;
@@ -190,6 +275,12 @@ fn judge_property(
     let object = t.resource;
     let name = iri_text(iri, area);
     let reserved = start_rules::is_reserved_property(name);
+    if reserved {
+        return Verdict::Stop(Refusal::Reserved);
+    }
+    if !kept {
+        return Verdict::Stop(Refusal::ProfileBroken);
+    }
     let li = start_rules::is_li(name);
     let parse = start_rules::parse_type_of(
         t.parse < k,
@@ -214,6 +305,7 @@ fn judge_property(
             let takes = start_rules::takes_label(parse, resource, t.node < k, t.properties);
             let x = make_property(
                 t,
+                g,
                 parse,
                 takes,
                 li,
@@ -232,6 +324,7 @@ fn judge_property(
 // A property element that is good.
 fn make_property(
     t: Tag,
+    g: Given,
     parse: ParseType,
     takes: bool,
     li: bool,
@@ -242,13 +335,12 @@ fn make_property(
     k: usize,
     area: &mut [u8],
 ) -> Start
-    requires { ⌜ Ready (now scratch) (now spans) k (now area) × Left takes li labels numbers ⌝ }
+    requires { ⌜ Ready (now scratch) (now spans) k (now area) × Gives t (now scratch) (now spans) k g × Left takes li labels numbers ⌝ }
     ensures { λ x. ⌜ MakesProperty x t parse takes li numbers labels (now (scratch .entry)) (now (spans .entry)) k (now (area .entry)) (now (area .exit)) ⌝ }
 {
     let iri = t.iri;
     let behind = label_if(takes, labels, area);
     let property = numbered(li, numbers, iri, area);
-    let g = crate::giving::given(t, scratch, spans, k);
     let p = property_plan(parse, g, property, t.properties, behind);
     start_by(p, t, li, true, property)
 }
@@ -308,20 +400,22 @@ fn label_if(takes: bool, labels: u64, area: &mut [u8]) -> u64
 // A node element that is good, and the label that it takes.
 fn make_node(
     t: Tag,
+    g: Given,
+    part: u32,
     named: bool,
+    wrapped: bool,
     labels: u64,
     scratch: &[u8],
     spans: &[u32],
     k: usize,
     area: &mut [u8],
 ) -> Start
-    requires { ⌜ Ready (now scratch) (now spans) k (now area) × (labels < mostLabels) ⌝ }
-    ensures { λ x. ⌜ MakesNode x t named labels (now (scratch .entry)) (now (spans .entry)) k (now (area .entry)) (now (area .exit)) ⌝ }
+    requires { ⌜ Ready (now scratch) (now spans) k (now area) × Gives t (now scratch) (now spans) k g × (labels < mostLabels) ⌝ }
+    ensures { λ x. ⌜ MakesNode x t part named wrapped labels (now (scratch .entry)) (now (spans .entry)) k (now (area .entry)) (now (area .exit)) ⌝ }
 {
     let behind = start_rules::make_label(area, Area::LABEL, labels);
-    let g = crate::giving::given(t, scratch, spans, k);
-    let p = start_plan::build_node_elt(g, behind);
-    start_by(p, t, false, named, Source::Missing)
+    let p = start_plan::build_node_elt(g, part, behind);
+    start_by(p, t, wrapped, named, Source::Missing)
 }
 
 // What is carried out by a plan; `named` but for rdf:Description, which only a node element has as its name.
@@ -346,7 +440,7 @@ fn start_by(p: Plan, t: Tag, li: bool, named: bool, property: Source) -> Start
 }
 
 // The element's expanded name; empty where it is too long.
-fn iri_text(iri: Reference, area: &[u8]) -> &[u8]
+pub fn iri_text(iri: Reference, area: &[u8]) -> &[u8]
     ensures { λ r. ⌜ now r ≡ iriText iri (now (area .entry)) ⌝ }
 {
     match iri {
@@ -357,7 +451,7 @@ fn iri_text(iri: Reference, area: &[u8]) -> &[u8]
     }
 }
 
-fn is_missing(reference: Reference) -> bool
+pub fn is_missing(reference: Reference) -> bool
     ensures { λ b. ⌜ b ≡ isMissing reference ⌝ }
 {
     match reference {

@@ -10,7 +10,9 @@ ghost use Rattle.start_tag.specs.Starting.{Asks, Roomy, JudgesStart};
 
 mod giving;
 mod judging;
+mod packets;
 pub mod reading;
+mod wrapper;
 
 use crate::judging::Verdict;
 use crate::reading::Read;
@@ -38,12 +40,12 @@ pub fn start_outside(
     c: usize,
     k: usize,
     area: &mut [u8],
+    classes: &mut [usize; Class::TABLE],
     out: &mut [u8],
 ) -> Progress
     requires { ⌜ Asks r count used (lent (now frames) (now bindings) (now inners) (now work) (now places) (now sizes) (now ids) (now out)) (now scratch) (now spans) m c k (now area) × (r .flags .closed ≡ false) ⌝ }
     ensures { λ o. ⌜ HandlesAll (opening (take m (now (scratch .entry))) (attributesOf (now (scratch .entry)) (now (spans .entry)) k)) r count o (lent (now (frames .entry)) (now (bindings .entry)) (now (inners .entry)) (now (work .entry)) (now (places .entry)) (now (sizes .entry)) (now (ids .entry)) (now (out .entry))) (lent (now (frames .exit)) (now (bindings .exit)) (now (inners .entry)) (now (work .exit)) (now (places .exit)) (now (sizes .exit)) (now (ids .exit)) (now (out .exit))) × (length (now (area .exit)) ≡ length (now (area .entry))) ⌝ }
 {
-    let mut classes = [0usize; Class::TABLE];
     let mut roles = [0u8; Class::MOST];
     let verdict = judge_start(
         r,
@@ -61,7 +63,7 @@ pub fn start_outside(
         m,
         c,
         k,
-        &mut classes,
+        classes,
         &mut roles,
         area,
     );
@@ -84,7 +86,7 @@ pub fn start_outside(
             m,
             k,
             area,
-            &classes,
+            classes,
             &roles,
             out,
         ),
@@ -151,6 +153,7 @@ fn judge_start<'a>(
     );
     match read {
         Read::Stop(why) => Verdict::Stop(why),
+        Read::Wrapper => crate::wrapper::judge_wrapper(r, scratch, spans, m, k, work, classes),
         Read::Good(t) => judging::judge_tag(
             t,
             r,

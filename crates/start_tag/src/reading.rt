@@ -15,7 +15,8 @@ ghost use Rattle.start_attributes.specs.Places.{places};
 ghost use Rattle.start_attributes.specs.Short.{shortAt};
 ghost use Rattle.state_ids.specs.Ids.{SpansIn};
 ghost use Rattle.start_tag.specs.Made.{isUnknown, iriOf, Lowered, shortIf, shortBy, RoomToMake, Finished};
-ghost use Rattle.start_tag.specs.Tag.{Asks, Reads};
+ghost use Rattle.start_tag.specs.Tag.{Asks};
+ghost use Rattle.start_tag.specs.Reading.{ReadsTag};
 use resolve::Resolved;
 use spec::Refusal;
 use start_attributes::roles::Judgment;
@@ -50,8 +51,10 @@ pub struct Tag {
     pub short: bool,
 }
 
+// A tag is refused, opens the wrapper of a packet, whose attributes are ignored, or says this.
 pub enum Read {
     Stop(Refusal),
+    Wrapper,
     Good(Tag),
 }
 
@@ -75,7 +78,7 @@ pub fn read_tag<'a>(
     area: &mut [u8],
 ) -> Read
     requires { ⌜ Asks (now scratch) (now spans) m c k (now work) (now bindings) (r .counts .bindings) (now classes) (now roles) (now area) × SpansIn count (now starts) (now sizes) (now ids) ⌝ }
-    ensures { λ t. ⌜ Reads r (now (frames .entry)) (now (bindings .entry)) (now (work .entry)) count (now (starts .entry)) (now (sizes .entry)) (now (ids .entry)) (now (scratch .entry)) (now (spans .entry)) m k (now (classes .entry)) (now (roles .entry)) (now (area .entry)) (now (roles .exit)) (now (area .exit)) t ⌝ }
+    ensures { λ t. ⌜ ReadsTag r (now (frames .entry)) (now (bindings .entry)) (now (work .entry)) count (now (starts .entry)) (now (sizes .entry)) (now (ids .entry)) (now (scratch .entry)) (now (spans .entry)) m k (now (classes .entry)) (now (roles .entry)) (now (area .entry)) (now (roles .exit)) (now (area .exit)) t ⌝ }
 {
     let name = start_names::piece(scratch, 0, m);
     let found = start_names::element(
@@ -90,6 +93,9 @@ pub fn read_tag<'a>(
     );
     if is_unknown(found) {
         return Read::Stop(Refusal::NoNamespace);
+    }
+    if crate::wrapper::is_wrapper(r.mode, r.counts.depth, found, name, c, scratch, work) {
+        return Read::Wrapper;
     }
     let judgment = start_attributes::read_attributes(scratch, spans, k, work, classes, roles);
     if let Judgment::Stop(n) = judgment {

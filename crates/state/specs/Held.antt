@@ -1,4 +1,4 @@
--- Held bytes are stored bytes, and open elements are counted by the registers.
+-- Held bytes are stored bytes but for those that are noted, and open elements are counted by the registers.
 use Prim.Native.Nat.{ℕ, zero, suc, _+_, _-_, _≤_}
 use mathlib.Core.Path.{_≡_, refl, sym, ap}
 use mathlib.Core.Bool.{Bool, true, false}
@@ -22,7 +22,7 @@ use Rattle.state_words.specs.declared.Frame.{Frame}
 use Rattle.state_words.specs.Words.{pick, frameAt, rowAt}
 use Rattle.state.specs.declared.Registers.{Registers}
 use Rattle.state.specs.Meaning.{at, has, count, first, span, optional, nodeOf, objectOf, childSize, childFrom, childOf, childrenOf, bindingOf, bindingsOf, subjectOf, propertyOf, whatOf, elementOf, subjectBelow, framesOf, innerOf, innersOf, startOf, elementsOf, docOf}
-use Rattle.state.specs.Valid.{emptyOr, partsOk, chained, childrenOk, kindOk, framesOk, innersOk, ceiling, Rising, Valid, rising, top-sound, rest-ok, top-inside, inners-rest}
+use Rattle.state.specs.Valid.{notedBy, notedOf, notedIn, emptyOr, partsOk, chained, childrenOk, kindOk, framesOk, innersOk, ceiling, Rising, Valid, rising, top-sound, rest-ok, top-inside, inners-rest}
 use Rattle.state.specs.Stay.{last-bound, chained-up, last-child, collected, inners-up}
 
 -- ---- parts
@@ -99,9 +99,9 @@ parts-of f h =
     record { base = and-left _ _ h; tag = and-left _ _ h1; id = and-left _ _ h2; type = and-right (emptyOr (has f IDENTIFIED) (at f ID) (at f DATATYPE)) _ h2 }
 
 module _ (w : List ℕ) (f : Frame) (r : Rising f) (p : Parts f) (l : at f END ≤ length w) where
-  size-kind : (q : Kind) (s : Subject) → kindOk q f w ≡ true → at f MAIN + kindBytes (whatOf q f w s) ≡ at f END
-  unfolding whatOf kindOk kindBytes valueBytes propertyOf subjectOf
-  size-kind Rdf s h = omega (arith, eqb-true (at f MAIN) (at f END) h)
+  size-kind : (q : Kind) (s : Subject) → kindOk q f w ≡ true → at f MAIN + kindBytes (whatOf q f w s) + notedBy q f ≡ at f END
+  unfolding whatOf kindOk kindBytes valueBytes propertyOf subjectOf notedBy
+  size-kind Rdf s h = omega (arith, eqb-true (at f MAIN) (at f TAIL) h)
   size-kind Wrapper s h = omega (arith, eqb-true (at f MAIN) (at f END) h)
   size-kind NodeElt s h =
       omega (
@@ -144,7 +144,7 @@ module _ (w : List ℕ) (f : Frame) (r : Rising f) (p : Parts f) (l : at f END �
       )
 
   size-element : (bound : List Binding) (s : Subject) → at f BINDINGS + total bindingBytes bound ≡ at f BASE → kindOk (f .kind) f w ≡ true
-      → at f NAME + frameBytes (elementOf f bound w s) ≡ at f END
+      → at f NAME + frameBytes (elementOf f bound w s) + notedOf f ≡ at f END
   unfolding elementOf frameBytes
   size-element bound s e h =
       omega (
@@ -155,8 +155,8 @@ module _ (w : List ℕ) (f : Frame) (r : Rising f) (p : Parts f) (l : at f END �
         size-kind (f .kind) s h,
       )
 
-size-frames : (fs bs w : List ℕ) (base n top b : ℕ) → framesOk fs bs w base n top b ≡ true → top ≤ length w → base + total frameBytes (framesOf fs bs w n b) ≡ top
-unfolding framesOf total framesOk
+size-frames : (fs bs w : List ℕ) (base n top b : ℕ) → framesOk fs bs w base n top b ≡ true → top ≤ length w → base + total frameBytes (framesOf fs bs w n b) + notedIn fs n ≡ top
+unfolding framesOf total framesOk notedIn
 size-frames fs bs w base zero top b h l = omega (arith, eqb-true base top (and-left (eqb base top) _ h))
 size-frames fs bs w base (suc n) top b h l =
     let s = top-sound fs bs w n top b base h in
@@ -198,6 +198,7 @@ pub record Room (r : Registers) : Type 0 where
   pub low : r .store .low ≤ 65_536
   pub outer : r .counts .outer ≤ r .counts .bindings
   pub base : r .store .base ≤ r .store .top
+  pub noted : r .store .noted ≤ r .store .top
 
 pub frames-base : (fs bs w : List ℕ) (base n top b : ℕ) → framesOk fs bs w base n top b ≡ true → base ≤ top
 unfolding framesOk
@@ -212,7 +213,15 @@ frames-base fs bs w base (suc n) top b h =
 pub room : {r : Registers} {fs bs is w : List ℕ} → Valid r fs bs is w → Room r
 room {r} {fs} {bs} {is} {w} v =
     let i = inners-up is bs (r .counts .outer) (r .counts .inner) (r .store .low) (r .counts .bindings) (v .inners) in
-    record { low = i .0; outer = i .1; base = frames-base fs bs w (r .store .base) (r .counts .depth) (r .store .top) (r .counts .outer) (v .frames) }
+    let a = v .apart in
+    let b = v .store in
+    let n = v .noted in
+    record {
+      low = i .0;
+      outer = i .1;
+      base = frames-base fs bs w (r .store .base) (r .counts .depth) (r .store .top) (r .counts .outer) (v .frames);
+      noted = omega (arith, i .0, size-frames fs bs w (r .store .base) (r .counts .depth) (r .store .top) (r .counts .outer) (v .frames) (omega (arith, i .0)));
+    }
 
 size-start : (r : Registers) (w : List ℕ) → pick (r .flags .based) true (eqb (r .store .base) 0) ≡ true → r .store .base ≤ length w → sizeOf (startOf r w) ≡ r .store .base
 unfolding startOf sizeOf
@@ -222,12 +231,14 @@ size-start r w h l = go (r .flags .based) h
     go true x = length-part w 0 (r .store .base) (omega arith)
     go false x = sym (eqb-true (r .store .base) 0 x)
 
-pub held : {r : Registers} {fs bs is w : List ℕ} → Valid r fs bs is w → (ids : List Bytes) → heldBytes (docOf r fs bs is w ids) ≡ r .store .top + (65_536 - r .store .low)
+-- what is noted is stored, and not held
+pub held : {r : Registers} {fs bs is w : List ℕ} → Valid r fs bs is w → (ids : List Bytes) → heldBytes (docOf r fs bs is w ids) ≡ r .store .top - r .store .noted + (65_536 - r .store .low)
 unfolding heldBytes docOf elementsOf
 held {r} {fs} {bs} {is} {w} v ids =
     let m = room v in
     let a = v .apart in
     let b = v .store in
+    let n = v .noted in
     omega (
       arith,
       total-append (innersOf is bs w (r .counts .inner) (r .counts .bindings)) (framesOf fs bs w (r .counts .depth) (r .counts .outer)),

@@ -12,7 +12,7 @@ use lib.Dec.{eqb}
 use lib.ListN.{length}
 use borrow.Author.Tests.{eqb-true, eq-eqb}
 use Rattle.spec.specs.Limits.{workStoreBytes}
-use Rattle.spec.specs.Modes.{baseMode}
+use Rattle.spec.specs.declared.Mode.{Mode}
 use Rattle.spec.specs.Document.{Frame as Element, fresh, inScope}
 use Rattle.spec.proofs.Booleans.{and-right}
 use Rattle.copy.specs.Copy.{part}
@@ -21,7 +21,7 @@ use Rattle.state_words.specs.declared.Frame.{Frame}
 use Rattle.state_words.specs.Words.{pick, frameAt, rowAt}
 use Rattle.state.specs.declared.Registers.{Registers}
 use Rattle.state.specs.Meaning.{at, first, bindingsOf, elementOf, framesOf, innerOf, innersOf, startOf, elementsOf, docOf}
-use Rattle.state.specs.Valid.{chained, framesOk, innersOk, ceiling, Rising, Valid, rising, top-sound, rest-ok, top-inside, inners-rest}
+use Rattle.state.specs.Valid.{notedIn, chained, framesOk, innersOk, ceiling, Rising, Valid, rising, top-sound, rest-ok, top-inside, inners-rest}
 use Rattle.state.specs.Stay.{last-bound, inners-up}
 use Rattle.state.specs.Held.{room}
 
@@ -140,19 +140,20 @@ in-scope {r} {fs} {bs} {is} {w} v =
 -- ---- a document that begins
 
 -- the registers of a fresh document with a start base of n bytes, if there is one
-abbrev pub startedWith : Bool → ℕ → Registers
-startedWith b n =
+abbrev pub startedWith : Mode → Bool → ℕ → Registers
+startedWith m b n =
     record {
+      mode = m;
       flags = record { closed = false; rooted = false; based = b };
-      store = record { base = n; top = n; low = 65_536 };
+      store = record { base = n; top = n; low = 65_536; noted = 0 };
       counts = record { depth = 0; inner = 0; outer = 0; bindings = 0; labels = 0 };
     }
 
 -- whatever tables and store hold behind the start base
-pub started : (b : Bool) (n : ℕ) (fs bs is w : List ℕ) → length fs ≡ TABLE → length bs ≡ 384 → length is ≡ 192 → length w ≡ 65_536 → n ≤ 65_536 → pick b true (eqb n 0) ≡ true
-    → Valid (startedWith b n) fs bs is w
-unfolding framesOk innersOk workStoreBytes
-started b n fs bs is w lf lb li lw l e =
+pub started : (m : Mode) (b : Bool) (n : ℕ) (fs bs is w : List ℕ) → length fs ≡ TABLE → length bs ≡ 384 → length is ≡ 192 → length w ≡ 65_536 → n ≤ 65_536 → pick b true (eqb n 0) ≡ true
+    → Valid (startedWith m b n) fs bs is w
+unfolding framesOk innersOk notedIn workStoreBytes
+started m b n fs bs is w lf lb li lw l e =
     record {
       frameWords = lf;
       bindingWords = lb;
@@ -165,8 +166,10 @@ started b n fs bs is w lf lb li lw l e =
       labels = omega arith;
       frames = rw (eq-eqb n n refl);
       inners = refl;
+      few = omega arith;
+      noted = refl;
     }
 
-pub started-means : (b : Bool) (n : ℕ) (fs bs is w : List ℕ) → docOf (startedWith b n) fs bs is w [] ≡ fresh baseMode (pick b (some (part w 0 n)) none)
+pub started-means : (m : Mode) (b : Bool) (n : ℕ) (fs bs is w : List ℕ) → docOf (startedWith m b n) fs bs is w [] ≡ fresh m (pick b (some (part w 0 n)) none)
 unfolding docOf elementsOf framesOf innersOf startOf fresh
-started-means b n fs bs is w = refl
+started-means m b n fs bs is w = refl

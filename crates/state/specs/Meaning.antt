@@ -10,7 +10,6 @@ use Rattle.spec.specs.Namespaces.{Binding}
 use Rattle.spec.specs.NTriples.{Subject, named, blank}
 use Rattle.spec.specs.Document.{Object, noObject, nodeObject, textObject, default, collection, literal, other, Property, Doc}
 use Rattle.spec.specs.Document.{Kind as What, rdfRDF, wrapper, nodeElement, propertyElement, xmlElement, Part, ordinary, topLevel, alternatives, Frame as Element}
-use Rattle.spec.specs.Modes.{baseMode}
 use Rattle.copy.specs.Copy.{part}
 use Rattle.state_words.specs.Parts.{NAME, BINDINGS, BASE, TAG, MAIN, ID, DATATYPE, TAIL, END, BASED, TAGGED, BLANK, IDENTIFIED, TYPED, PENDING, PART, COUNT, FIRST}
 use Rattle.state_words.specs.declared.Kind.{Kind}
@@ -158,7 +157,7 @@ elementsOf r fs bs is w = innersOf is bs w (r .counts .inner) (r .counts .bindin
 unfoldable pub docOf : Registers → List ℕ → List ℕ → List ℕ → List ℕ → List Bytes → Doc
 docOf r fs bs is w ids =
     record {
-      mode = baseMode;
+      mode = r .mode;
       startBase = startOf r w;
       frames = elementsOf r fs bs is w;
       rooted = r .flags .rooted;

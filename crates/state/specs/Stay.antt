@@ -19,7 +19,7 @@ use Rattle.state_words.specs.declared.Row.{Row}
 use Rattle.state_words.specs.Kept.{Kept, kept-less}
 use Rattle.state_words.specs.Words.{frameAt, rowAt, frame-kept, row-kept}
 use Rattle.state.specs.Meaning.{at, count, first, span, childSize, childFrom, childOf, childrenOf, bindingOf, bindingsOf, subjectOf, propertyOf, whatOf, partOf, elementOf, subjectBelow, framesOf, innerOf, innersOf}
-use Rattle.state.specs.Valid.{chained, childrenOk, kindOk, nodeBelow, stands, framesOk, innersOk, ceiling, Rising, Sound, rising, top-sound, rest-ok, frames-on, top-inside, inners-rest, inners-on}
+use Rattle.state.specs.Valid.{notedIn, chained, childrenOk, kindOk, nodeBelow, isRootIn, stands, framesOk, innersOk, ceiling, Rising, Sound, rising, top-sound, rest-ok, frames-on, top-inside, inners-rest, inners-on}
 
 pub span-kept : {w v : List ℕ} {lo hi : ℕ} → Kept w v lo hi → (a b : ℕ) → lo ≤ a → a ≤ b → b ≤ hi → span v a b ≡ span w a b
 unfolding span
@@ -203,15 +203,19 @@ module _ {w v : List ℕ} {hi : ℕ} (k : Kept w v 0 hi) (f : Frame) (r : Rising
 -- ---- elements outside Literal content
 
 pub stands-kept : {fs gs : List ℕ} (n : ℕ) → Kept fs gs 0 (n * FRAME) → (q : Kind) → stands q gs n ≡ stands q fs n
-unfolding stands nodeBelow
+unfolding stands nodeBelow isRootIn
 stands-kept {fs} {gs} n k q = go q
   where
     below : (n : ℕ) → Kept fs gs 0 (n * FRAME) → nodeBelow gs n ≡ nodeBelow fs n
     below zero k = refl
     below (suc n) k = rw (frame-kept k n (omega arith) (omega arith))
 
+    root : (n : ℕ) → Kept fs gs 0 (n * FRAME) → isRootIn gs n ≡ isRootIn fs n
+    root zero k = refl
+    root (suc n) k = rw (frame-kept k n (omega arith) (omega arith))
+
     go : (q : Kind) → stands q gs n ≡ stands q fs n
-    go Rdf = refl
+    go Rdf = root n k
     go NodeElt = refl
     go PropertyElt = below n k
     go ParseTypeCollectionPropertyElt = below n k
@@ -275,6 +279,12 @@ module _ {fs gs bs cs w v : List ℕ} (base : ℕ) where
         element-kept m (frameAt fs n) r (omega arith) (bindingsOf bs w (first (frameAt fs n)) (b - first (frameAt fs n))) (subjectBelow fs w n) (s .kind),
         frames-kept n (at (frameAt fs n) NAME) (first (frameAt fs n)) k′ (kept-less j (omega arith) (omega arith)) m′ rest,
       )
+
+-- what they have noted
+pub noted-kept : {fs gs : List ℕ} (n : ℕ) → Kept fs gs 0 (n * FRAME) → notedIn gs n ≡ notedIn fs n
+unfolding notedIn
+noted-kept zero k = refl
+noted-kept (suc n) k = rw (noted-kept n (kept-less k (omega arith) (omega arith)), frame-kept k n (omega arith) (omega arith))
 
 -- ---- elements inside Literal content
 

@@ -8,7 +8,7 @@ use lib.Dec.{eqb, leb}
 use lib.ListN.{length, getD}
 use borrow.Author.Tests.{eqb-true, leb-true, eq-eqb, ne-eqb, le-leb, lt-leb, not-true, not-false}
 use Rattle.spec.proofs.Booleans.{and-left, and-right}
-use Rattle.spec.specs.Limits.{mostLabels, mostOpenElements, mostBindings, workStoreBytes}
+use Rattle.spec.specs.Limits.{mostNameBytes, mostLabels, mostOpenElements, mostBindings, workStoreBytes}
 use Rattle.copy.specs.Copy.{getD-part}
 use Rattle.state_words.specs.Parts.{NAME, BINDINGS, BASE, END, FRAME, TABLE}
 use Rattle.state_words.specs.declared.Frame.{Frame}
@@ -16,7 +16,7 @@ use Rattle.state_words.specs.declared.Row.{Row}
 use Rattle.state_words.specs.Words.{pick, frameAt, rowAt, loadFrame, loadRow, load-frame, load-row}
 use Rattle.state.specs.declared.Registers.{Registers}
 use Rattle.state.specs.Meaning.{at, first, childSize, childFrom}
-use Rattle.state.specs.Valid.{rises, isNode, nodeBelow, chained, childrenOk, kindOk, stands, partsOk, elementOk, framesOk, ceiling, innersOk, countsOk, lengthsOk, validState, element-sound, rising}
+use Rattle.state.specs.Valid.{notedOf, notedIn, notedOk, rises, isNode, nodeBelow, isWrapper, isRootIn, chained, childrenOk, kindOk, stands, partsOk, elementOk, framesOk, ceiling, innersOk, countsOk, lengthsOk, validState, element-sound, rising}
 use Rattle.state.specs.Stay.{inners-up}
 
 -- a test that is left to be made with i of n elements passed
@@ -154,6 +154,39 @@ module _ (fs bs is w : List ℕ) where
   unfolding lengthsOk mostOpenElements mostBindings workStoreBytes
   store-decides a b c = rw (eq-eqb (length fs) TABLE a, eq-eqb (length bs) 384 b, eq-eqb (length is) 192 c)
 
+-- ---- what is noted
+
+-- what the first i elements have noted is summed up
+pub record NoteWalk (fs : List ℕ) (n noted i : ℕ) : Type 0 where
+  pub upto : i ≤ n
+  pub sum : noted ≡ notedIn fs i
+  pub below : noted ≤ i * 4_294_967_296
+
+pub note-begins : {fs : List ℕ} {n : ℕ} → NoteWalk fs n 0 0
+unfolding notedIn
+note-begins = record { upto = omega arith; sum = refl; below = omega arith }
+
+pub note-more : {fs : List ℕ} {n noted i : ℕ} → NoteWalk fs n noted i → i < n → {f : Frame} → f ≡ frameAt fs i → {more : ℕ} → more ≡ notedOf f → more < 4_294_967_296 → NoteWalk fs n (noted + more) (i + 1)
+unfolding notedIn
+note-more {fs} {n} {noted} {i} k h {f} e {more} m l =
+    let next : notedIn fs (i + 1) ≡ notedIn fs i + notedOf (frameAt fs i) = one-more i in
+    record { upto = omega arith; sum = rw (next, ← e, ← m, k .sum); below = omega (arith, k .below) }
+  where
+    one-more : (i : ℕ) → notedIn fs (i + 1) ≡ notedIn fs i + notedOf (frameAt fs i)
+    one-more i = let e : i + 1 ≡ suc i = omega arith in rw e
+
+pub note-done : {fs : List ℕ} {n noted i : ℕ} → NoteWalk fs n noted i → n ≤ i → noted ≡ notedIn fs n
+note-done {fs} {n} {noted} {i} k h = let e : i ≡ n = omega (arith, k .upto) in rw e at (k .sum)
+
+module _ (r : Registers) (fs : List ℕ) where
+  pub too-much-noted : 1_024 < r .store .noted → false ≡ notedOk r fs
+  unfolding notedOk mostNameBytes
+  too-much-noted h = rw (lt-leb (r .store .noted) 1_024 h)
+
+  pub sum-decides : r .store .noted ≤ 1_024 → eqb (r .store .noted) (notedIn fs (r .counts .depth)) ≡ notedOk r fs
+  unfolding notedOk mostNameBytes
+  sum-decides h = rw (le-leb (r .store .noted) 1_024 h)
+
 -- ---- the element around, and where an inner element ends
 
 pub ceiling-first : (is : List ℕ) (i : ℕ) → i ≡ 0 → 65_536 ≡ ceiling is i
@@ -175,6 +208,16 @@ unfolding nodeBelow
 node-around fs n {f} z h e =
     let p : 0 < n = positive n z in
     sym (before (nodeBelow fs) n p ∙ ap (λ (x : Frame). isNode (x .kind)) (sym (e ∙ load-frame fs (n - 1) (omega arith))))
+
+pub is-root : (fs : List ℕ) (n : ℕ) → n ≡ 0 → true ≡ isRootIn fs n
+unfolding isRootIn
+is-root fs n e = rw e
+
+pub in-wrapper : (fs : List ℕ) (n : ℕ) {f : Frame} → (n ≡ 0 → ⊥) → n * FRAME ≤ length fs → f ≡ loadFrame fs (n - 1) → isWrapper (f .kind) ≡ isRootIn fs n
+unfolding isRootIn
+in-wrapper fs n {f} z h e =
+    let p : 0 < n = positive n z in
+    sym (before (isRootIn fs) n p ∙ ap (λ (x : Frame). isWrapper (x .kind)) (sym (e ∙ load-frame fs (n - 1) (omega arith))))
 
 -- ---- what a test that was made says of the definition that it equals
 
@@ -349,9 +392,13 @@ module _ (r : Registers) (fs bs is w : List ℕ) where
       wrong-inners h = rw (l, c, h)
 
       module _ (i : innersOk is bs (r .counts .outer) (r .counts .inner) (r .store .low) (r .counts .bindings) ≡ true) where
-        pub frames-decide : {q : Bool} → q ≡ framesOk fs bs w (r .store .base) (r .counts .depth) (r .store .top) (r .counts .outer) → q ≡ validState r fs bs is w
+        pub wrong-noted : notedOk r fs ≡ false → false ≡ validState r fs bs is w
         unfolding validState
-        frames-decide e = rw (l, c, i) e
+        wrong-noted h = rw (l, c, i, h)
+
+        pub frames-decide : notedOk r fs ≡ true → {q : Bool} → q ≡ framesOk fs bs w (r .store .base) (r .counts .depth) (r .store .top) (r .counts .outer) → q ≡ validState r fs bs is w
+        unfolding validState
+        frames-decide k e = rw (l, c, i, k) e
 
         pub frames-fit : (r .counts .depth * FRAME ≤ length fs) × (r .counts .outer * 3 ≤ length bs) × (r .store .top ≤ length w)
         frames-fit =

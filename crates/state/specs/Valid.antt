@@ -6,7 +6,7 @@ use mathlib.Core.List.{List}
 use lib.Dec.{eqb, leb}
 use lib.ListN.{length, getD}
 use borrow.Author.Tests.{eqb-true, leb-true, eq-eqb, le-leb}
-use Rattle.spec.specs.Limits.{mostLabels, mostOpenElements, mostBindings, workStoreBytes}
+use Rattle.spec.specs.Limits.{mostNameBytes, mostLabels, mostOpenElements, mostBindings, workStoreBytes}
 use Rattle.spec.proofs.Booleans.{and-left, and-right}
 use Rattle.state_words.specs.Parts.{NAME, BINDINGS, BASE, TAG, MAIN, ID, DATATYPE, TAIL, END, BASED, TAGGED, IDENTIFIED, TYPED, PENDING, FRAME, TABLE}
 use Rattle.state_words.specs.declared.Kind.{Kind}
@@ -46,7 +46,7 @@ childrenOk w from (suc n) e = leb (from + 4 + childSize w e) e && childrenOk w f
 
 -- what its kind does not have is empty
 unfoldable pub kindOk : Kind → Frame → List ℕ → Bool
-kindOk Rdf f w = eqb (at f MAIN) (at f END)
+kindOk Rdf f w = eqb (at f MAIN) (at f TAIL)
 kindOk NodeElt f w = eqb (at f ID) (at f END) && leb (count f) mostLabels
 kindOk PropertyElt f w = emptyOr (has f PENDING) (at f TAIL) (at f END)
 kindOk ParseTypeCollectionPropertyElt f w = eqb (at f DATATYPE) (at f TAIL) && childrenOk w (at f TAIL) (count f) (at f END)
@@ -63,20 +63,34 @@ isNode ParseTypeLiteralPropertyElt = false
 isNode ParseTypeOtherPropertyElt = false
 isNode Wrapper = false
 
+unfoldable pub isWrapper : Kind → Bool
+isWrapper Rdf = false
+isWrapper NodeElt = false
+isWrapper PropertyElt = false
+isWrapper ParseTypeCollectionPropertyElt = false
+isWrapper ParseTypeLiteralPropertyElt = false
+isWrapper ParseTypeOtherPropertyElt = false
+isWrapper Wrapper = true
+
 -- is the element around element n a node?
 unfoldable pub nodeBelow : List ℕ → ℕ → Bool
 nodeBelow fs zero = false
 nodeBelow fs (suc n) = isNode (frameAt fs n .kind)
 
--- a property stands in a node; the wrapper stands nowhere, as long as all documents are in the base mode
+-- is element n the root, or is the element around it the wrapper?
+unfoldable pub isRootIn : List ℕ → ℕ → Bool
+isRootIn fs zero = true
+isRootIn fs (suc n) = isWrapper (frameAt fs n .kind)
+
+-- a property stands in a node, rdf:RDF as the root or in the wrapper, and the wrapper as the root
 unfoldable pub stands : Kind → List ℕ → ℕ → Bool
-stands Rdf fs n = true
+stands Rdf fs n = isRootIn fs n
 stands NodeElt fs n = true
 stands PropertyElt fs n = nodeBelow fs n
 stands ParseTypeCollectionPropertyElt fs n = nodeBelow fs n
 stands ParseTypeLiteralPropertyElt fs n = nodeBelow fs n
 stands ParseTypeOtherPropertyElt fs n = nodeBelow fs n
-stands Wrapper fs n = false
+stands Wrapper fs n = eqb n 0
 
 -- element n, which ends at top, with bindings up to b
 unfoldable pub elementOk : List ℕ → List ℕ → List ℕ → ℕ → ℕ → ℕ → Bool
@@ -109,6 +123,30 @@ innersOk is bs outer (suc n) low b =
     && (chained bs (rowAt is n .more) (b - rowAt is n .more) (rowAt is n .at + rowAt is n .name) (ceiling is n)
     && innersOk is bs outer n (ceiling is n) (rowAt is n .more)))
 
+-- ---- what is noted
+
+-- by the kind, the bytes that an element has noted: the tail of rdf:RDF
+unfoldable pub notedBy : Kind → Frame → ℕ
+notedBy Rdf f = at f END - at f TAIL
+notedBy NodeElt f = 0
+notedBy PropertyElt f = 0
+notedBy ParseTypeCollectionPropertyElt f = 0
+notedBy ParseTypeLiteralPropertyElt f = 0
+notedBy ParseTypeOtherPropertyElt f = 0
+notedBy Wrapper f = 0
+
+abbrev pub notedOf : Frame → ℕ
+notedOf f = notedBy (f .kind) f
+
+-- those of n elements
+unfoldable pub notedIn : List ℕ → ℕ → ℕ
+notedIn fs zero = 0
+notedIn fs (suc n) = notedIn fs n + notedOf (frameAt fs n)
+
+-- they are counted, and are few
+unfoldable pub notedOk : Registers → List ℕ → Bool
+notedOk r fs = leb (r .store .noted) mostNameBytes && eqb (r .store .noted) (notedIn fs (r .counts .depth))
+
 -- ---- a state
 
 unfoldable pub countsOk : Registers → Bool
@@ -123,7 +161,9 @@ lengthsOk fs bs is w =
 unfoldable pub validState : Registers → List ℕ → List ℕ → List ℕ → List ℕ → Bool
 validState r fs bs is w =
     lengthsOk fs bs is w
-    && (countsOk r && (innersOk is bs (r .counts .outer) (r .counts .inner) (r .store .low) (r .counts .bindings) && framesOk fs bs w (r .store .base) (r .counts .depth) (r .store .top) (r .counts .outer)))
+    && (countsOk r
+    && (innersOk is bs (r .counts .outer) (r .counts .inner) (r .store .low) (r .counts .bindings)
+    && (notedOk r fs && framesOk fs bs w (r .store .base) (r .counts .depth) (r .store .top) (r .counts .outer))))
 
 -- ---- the same as facts
 
@@ -165,6 +205,8 @@ pub record Valid (r : Registers) (fs bs is w : List ℕ) : Type 0 where
   pub labels : r .counts .labels ≤ 99_999_999
   pub frames : framesOk fs bs w (r .store .base) (r .counts .depth) (r .store .top) (r .counts .outer) ≡ true
   pub inners : innersOk is bs (r .counts .outer) (r .counts .inner) (r .store .low) (r .counts .bindings) ≡ true
+  pub few : r .store .noted ≤ 1_024
+  pub noted : r .store .noted ≡ notedIn fs (r .counts .depth)
 
 pub rising : (f : Frame) → rises (f .at) END ≡ true → Rising f
 unfolding rises
@@ -271,7 +313,7 @@ module _ (is bs : List ℕ) (outer n low b : ℕ) where
 
 module _ (r : Registers) (fs bs is w : List ℕ) where
   pub valid-is : validState r fs bs is w ≡ true → Valid r fs bs is w
-  unfolding validState countsOk lengthsOk mostOpenElements mostBindings workStoreBytes mostLabels
+  unfolding validState countsOk lengthsOk notedOk mostOpenElements mostBindings workStoreBytes mostLabels mostNameBytes
   valid-is h =
       let l = and-left (lengthsOk fs bs is w) _ h in
       let l1 = and-right (eqb (length fs) TABLE) _ l in
@@ -282,6 +324,8 @@ module _ (r : Registers) (fs bs is w : List ℕ) where
       let c2 = and-right (leb (r .counts .bindings) 128) _ c1 in
       let c3 = and-right (leb (r .store .top) (r .store .low)) _ c2 in
       let h2 = and-right (countsOk r) _ h1 in
+      let h3 = and-right (innersOk is bs (r .counts .outer) (r .counts .inner) (r .store .low) (r .counts .bindings)) _ h2 in
+      let k = and-left (notedOk r fs) _ h3 in
       record {
         frameWords = eqb-true _ _ (and-left _ _ l);
         bindingWords = eqb-true _ _ (and-left _ _ l1);
@@ -292,12 +336,14 @@ module _ (r : Registers) (fs bs is w : List ℕ) where
         apart = leb-true _ _ (and-left _ _ c2);
         based = and-left _ _ c3;
         labels = leb-true _ _ (and-right (pick (r .flags .based) true (eqb (r .store .base) 0)) _ c3);
-        frames = and-right (innersOk is bs (r .counts .outer) (r .counts .inner) (r .store .low) (r .counts .bindings)) _ h2;
+        frames = and-right (notedOk r fs) _ h3;
         inners = and-left _ _ h2;
+        few = leb-true _ _ (and-left _ _ k);
+        noted = eqb-true _ _ (and-right (leb (r .store .noted) 1_024) _ k);
       }
 
   pub is-valid : Valid r fs bs is w → validState r fs bs is w ≡ true
-  unfolding validState countsOk lengthsOk mostOpenElements mostBindings workStoreBytes mostLabels
+  unfolding validState countsOk lengthsOk notedOk mostOpenElements mostBindings workStoreBytes mostLabels mostNameBytes
   is-valid v =
       rw (
         eq-eqb (length fs) TABLE (v .frameWords),
@@ -310,5 +356,7 @@ module _ (r : Registers) (fs bs is w : List ℕ) where
         v .based,
         le-leb (r .counts .labels) 99_999_999 (v .labels),
         v .inners,
+        le-leb (r .store .noted) 1_024 (v .few),
+        eq-eqb (r .store .noted) (notedIn fs (r .counts .depth)) (v .noted),
         v .frames,
       )

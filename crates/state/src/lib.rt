@@ -5,20 +5,23 @@ ghost use Prim.Native.Nat.{_+_, _-_, _*_, _≤_, _<_};
 ghost use mathlib.Core.Bool.{true};
 ghost use lib.Dec.{eqb};
 ghost use lib.ListN.{length};
-ghost use Rattle.state_words.specs.Parts.{END, FRAME};
+ghost use Rattle.state_words.specs.Parts.{TAIL, END, FRAME};
 ghost use Rattle.state_words.specs.Words.{pick};
 ghost use Rattle.state.specs.Meaning.{at, childSize};
-ghost use Rattle.state.specs.Valid.{rises, emptyOr, partsOk, chained, childrenOk, kindOk, isNode, nodeBelow, stands, elementOk, framesOk, ceiling, innersOk, countsOk, lengthsOk, validState};
+ghost use Rattle.state.specs.Valid.{notedOf, notedIn, notedOk, rises, emptyOr, partsOk, chained, childrenOk, kindOk, isNode, nodeBelow, isWrapper, isRootIn, stands, elementOk, framesOk, ceiling, innersOk, countsOk, lengthsOk, validState};
 ghost use Rattle.state.specs.Live.{startedWith};
 use copy::words::byte;
 use copy::words::wide;
 use label::BlankNodeIdGenerator;
+use spec::Mode;
 use state_words::Frame;
 use state_words::Kind;
 use state_words::Row;
 
 // The numbers of a document, in groups: one more number touches the literals of its own group.
 pub struct Registers {
+    // What was chosen of the document at its start.
+    pub mode: Mode,
     pub flags: Flags,
     pub store: Store,
     pub counts: Counts,
@@ -31,11 +34,13 @@ pub struct Flags {
     pub based: bool,
 }
 
-// The work store is used up to `top`, the start base first, which has `base` bytes; and from `low` on.
+// The work store is used up to `top`, the start base first, which has `base` bytes; and from `low` on. `noted` of these bytes are no held
+// ones: what a packet remembers counts for no limit.
 pub struct Store {
     pub base: usize,
     pub top: usize,
     pub low: usize,
+    pub noted: usize,
 }
 
 // Open elements outside Literal content, `depth`, and inside, `inner`; bindings that the former declare, `outer`, and all; labels generated.
@@ -54,11 +59,15 @@ impl Registers {
     // Bytes that an event may leave held.
     pub const MOST_HELD: usize = 49_152;
 
+    // Bytes that a packet may remember: an IRI.
+    pub const MOST_NOTED: usize = 1_024;
+
     // Of these groups, number by number: a group that is copied as a whole is copied through memory.
-    pub fn of(flags: Flags, store: Store, counts: Counts) -> Self
-        ensures { λ r. ⌜ r ≡ record { flags = flags; store = store; counts = counts } ⌝ }
+    pub fn of(mode: Mode, flags: Flags, store: Store, counts: Counts) -> Self
+        ensures { λ r. ⌜ r ≡ record { mode = mode; flags = flags; store = store; counts = counts } ⌝ }
     {
         Registers {
+            mode: Mode { xmp: mode.xmp },
             flags: Flags {
                 closed: flags.closed,
                 rooted: flags.rooted,
@@ -68,6 +77,7 @@ impl Registers {
                 base: store.base,
                 top: store.top,
                 low: store.low,
+                noted: store.noted,
             },
             counts: Counts {
                 depth: counts.depth,
@@ -80,10 +90,11 @@ impl Registers {
     }
 
     // Of a fresh document, with a start base of `base` bytes, if there is one.
-    pub fn started(based: bool, base: usize) -> Self
-        ensures { λ r. ⌜ r ≡ startedWith based base ⌝ }
+    pub fn started(mode: Mode, based: bool, base: usize) -> Self
+        ensures { λ r. ⌜ r ≡ startedWith mode based base ⌝ }
     {
         Registers {
+            mode,
             flags: Flags {
                 closed: false,
                 rooted: false,
@@ -93,6 +104,7 @@ impl Registers {
                 base,
                 top: base,
                 low: Self::STORE,
+                noted: 0,
             },
             counts: Counts {
                 depth: 0,
@@ -123,6 +135,9 @@ pub fn valid(r: Registers, frames: &[u32], bindings: &[u32], inners: &[u32], wor
         r.store.low,
         r.counts.bindings,
     ) {
+        return false;
+    }
+    if !noted_ok(r, frames) {
         return false;
     }
     frames_ok(
@@ -177,6 +192,57 @@ fn based_ok(based: bool, base: usize) -> bool
     ensures { λ r. ⌜ r ≡ pick based true (eqb base 0) ⌝ }
 {
     if based { true } else { base == 0 }
+}
+
+// Are the bytes counted that are noted, and are they few?
+fn noted_ok(r: Registers, frames: &[u32]) -> bool
+    requires { ⌜ (r .counts .depth ≤ 64) × (r .counts .depth * FRAME ≤ length (now frames)) ⌝ }
+    ensures { λ b. ⌜ b ≡ notedOk r (now (frames .entry)) ⌝ }
+{
+    if r.store.noted > Registers::MOST_NOTED {
+        return false;
+    }
+    r.store.noted == noted_in(frames, r.counts.depth)
+}
+
+// The bytes that the first n elements have noted.
+fn noted_in(frames: &[u32], n: usize) -> usize
+    requires { ⌜ (n ≤ 64) × (n * FRAME ≤ length (now frames)) ⌝ }
+    ensures { λ r. ⌜ r ≡ notedIn (now (frames .entry)) n ⌝ }
+{
+    let mut noted = 0;
+    let mut i = 0;
+    while i < n {
+        noted += noted_of(Frame::load(frames, i));
+        i += 1;
+    }
+    noted
+}
+
+// The bytes that an element has noted: the tail of rdf:RDF.
+pub fn noted_of(f: Frame) -> usize
+    ensures { λ r. ⌜ (r ≡ notedOf f) × (r < 4294967296) ⌝ }
+{
+    let kind = f.kind;
+    match kind {
+        Kind::Rdf => tail_size(f),
+        Kind::NodeElt => 0,
+        Kind::PropertyElt => 0,
+        Kind::ParseTypeCollectionPropertyElt => 0,
+        Kind::ParseTypeLiteralPropertyElt => 0,
+        Kind::ParseTypeOtherPropertyElt => 0,
+        Kind::Wrapper => 0,
+    }
+}
+
+fn tail_size(f: Frame) -> usize
+    ensures { λ r. ⌜ (r ≡ at f END - at f TAIL) × (r < 4294967296) ⌝ }
+{
+    let at = f.at;
+    if at[Frame::END] < at[Frame::TAIL] {
+        return 0;
+    }
+    wide(at[Frame::END] - at[Frame::TAIL])
 }
 
 // Do the elements inside Literal content lie end to end, from `low` to the store's end?
@@ -382,7 +448,7 @@ fn kind_ok(f: Frame, work: &[u8]) -> bool
     let at = f.at;
     let has = f.has;
     match kind {
-        Kind::Rdf => at[Frame::MAIN] == at[Frame::END],
+        Kind::Rdf => at[Frame::MAIN] == at[Frame::TAIL],
         Kind::NodeElt => {
             if at[Frame::ID] != at[Frame::END] {
                 return false;
@@ -434,19 +500,46 @@ fn node_below(frames: &[u32], n: usize) -> bool
     is_node(kind)
 }
 
-// A property stands in a node; the wrapper stands nowhere, as long as all documents are in the base mode.
+fn is_wrapper(kind: Kind) -> bool
+    ensures { λ r. ⌜ r ≡ isWrapper kind ⌝ }
+{
+    match kind {
+        Kind::Rdf => false,
+        Kind::NodeElt => false,
+        Kind::PropertyElt => false,
+        Kind::ParseTypeCollectionPropertyElt => false,
+        Kind::ParseTypeLiteralPropertyElt => false,
+        Kind::ParseTypeOtherPropertyElt => false,
+        Kind::Wrapper => true,
+    }
+}
+
+// Is element `n` the root, or is the element around it the wrapper?
+fn is_root_in(frames: &[u32], n: usize) -> bool
+    requires { ⌜ n * FRAME ≤ length (now frames) ⌝ }
+    ensures { λ r. ⌜ r ≡ isRootIn (now (frames .entry)) n ⌝ }
+{
+    if n == 0 {
+        return true;
+    }
+    let f = Frame::load(frames, n - 1);
+    let kind = f.kind;
+    is_wrapper(kind)
+}
+
+// A property stands in a node, rdf:RDF as the root or in the wrapper, and the wrapper as the root.
 fn stands(kind: Kind, frames: &[u32], n: usize) -> bool
     requires { ⌜ n * FRAME ≤ length (now frames) ⌝ }
     ensures { λ r. ⌜ r ≡ stands kind (now (frames .entry)) n ⌝ }
 {
     match kind {
-        Kind::Rdf => true,
+        Kind::Rdf => is_root_in(frames, n),
         Kind::NodeElt => true,
         Kind::PropertyElt => node_below(frames, n),
         Kind::ParseTypeCollectionPropertyElt => node_below(frames, n),
         Kind::ParseTypeLiteralPropertyElt => node_below(frames, n),
         Kind::ParseTypeOtherPropertyElt => node_below(frames, n),
-        Kind::Wrapper => false,
+        Kind::Wrapper => n == 0,
     }
 }
 

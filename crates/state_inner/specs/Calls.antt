@@ -71,7 +71,7 @@ languageIn r fs = innermostIn fs TAGGED TAG (r .counts .depth)
 
 -- where the numbers are not a valid state's, all of the store
 unfoldable pub heldIn : Registers → ℕ
-heldIn r = pick (leb (r .store .low) workStoreBytes && leb (r .store .top) (r .store .low)) (r .store .top + (workStoreBytes - r .store .low)) workStoreBytes
+heldIn r = pick (leb (r .store .low) workStoreBytes && leb (r .store .top) (r .store .low)) (r .store .top - r .store .noted + (workStoreBytes - r .store .low)) workStoreBytes
 
 -- ---- how the calls come to their answers
 
@@ -198,6 +198,6 @@ module _ (r : Registers) where
   unfolding L.all heldIn
   held-crossed l h = rw (le-leb (r .store .low) 65_536 l, lt-leb (r .store .top) (r .store .low) h)
 
-  pub held-is : r .store .low ≤ 65_536 → r .store .top ≤ r .store .low → r .store .top + (65_536 - r .store .low) ≡ heldIn r
+  pub held-is : r .store .low ≤ 65_536 → r .store .top ≤ r .store .low → r .store .top - r .store .noted + (65_536 - r .store .low) ≡ heldIn r
   unfolding L.all heldIn
   held-is l h = rw (le-leb (r .store .low) 65_536 l, le-leb (r .store .top) (r .store .low) h)

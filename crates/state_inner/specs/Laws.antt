@@ -176,7 +176,7 @@ pub record Written (r : Registers) (bs w cs v : List ℕ) (a n b : ℕ) (name : 
 
 pub open-holds : {r : Registers} {fs bs is w js cs v : List ℕ} {a n b : ℕ} {c : Changed} {name : Bytes} {bound : List Binding}
     → Valid r fs bs is w → Opens r is a n b c js → c .ok ≡ true → Written r bs w cs v a n b name bound
-    → Holds (c .registers) fs cs js v (startOf r w) (record { name = name; bindings = bound; ownBase = none; ownTag = none; kind = xmlElement; part = ordinary } ∷ elementsOf r fs bs is w) (r .flags .rooted) (r .counts .labels)
+    → Holds (c .registers) fs cs js v (r .mode) (startOf r w) (record { name = name; bindings = bound; ownBase = none; ownTag = none; kind = xmlElement; part = ordinary } ∷ elementsOf r fs bs is w) (r .flags .rooted) (r .counts .labels)
 unfolding innerOf
 open-holds {r} {fs} {bs} {is} {w} {js} {cs} {v} {a} {n} {b} {c} {name} {bound} x p y q =
     let m : mayOpen r is a n ≡ true = sym (p .answer) ∙ y in
@@ -199,7 +199,7 @@ ceiling-same is zero h = refl
 ceiling-same is (suc n) h = rw (ne-eqb (suc n) 0 (λ e. omega arith), suc-pred n, load-row is n (omega arith))
 
 pub close-holds : {r : Registers} {fs bs is w : List ℕ} {c : Changed} → Valid r fs bs is w → Closes r is c → c .ok ≡ true
-    → Holds (c .registers) fs bs is w (startOf r w) (innersOf is bs w (r .counts .inner - 1) (rowAt is (r .counts .inner - 1) .more) ++ framesOf fs bs w (r .counts .depth) (r .counts .outer)) (r .flags .rooted) (r .counts .labels)
+    → Holds (c .registers) fs bs is w (r .mode) (startOf r w) (innersOf is bs w (r .counts .inner - 1) (rowAt is (r .counts .inner - 1) .more) ++ framesOf fs bs w (r .counts .depth) (r .counts .outer)) (r .flags .rooted) (r .counts .labels)
 close-holds {r} {fs} {bs} {is} {w} {c} x p y =
     let d : 0 < r .counts .inner = ltb-true 0 (r .counts .inner) (sym (p .answer) ∙ y) in
     let room : (r .counts .inner - 1) * 3 + 3 ≤ length is = omega (arith, x .innerWords, x .deep) in

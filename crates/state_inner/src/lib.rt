@@ -122,7 +122,7 @@ pub fn language_in_force(r: Registers, frames: &[u32]) -> Found
     innermost(frames, r.counts.depth, Frame::TAGGED, Frame::TAG)
 }
 
-// Held bytes.
+// Held bytes: what is noted is stored, and not held.
 pub fn held(r: Registers) -> usize
     ensures { λ n. ⌜ n ≡ heldIn r ⌝ }
 {
@@ -132,7 +132,7 @@ pub fn held(r: Registers) -> usize
     if r.store.top > r.store.low {
         return Registers::STORE;
     }
-    r.store.top + (Registers::STORE - r.store.low)
+    state_stack::nodes::minus(r.store.top, r.store.noted) + (Registers::STORE - r.store.low)
 }
 
 // May an event leave this much held?
@@ -199,6 +199,7 @@ fn inside(r: Registers, inner: usize, low: usize, bound: usize) -> Registers
         base: r.store.base,
         top: r.store.top,
         low,
+        noted: r.store.noted,
     };
     let counts = Counts {
         depth: r.counts.depth,
@@ -207,5 +208,5 @@ fn inside(r: Registers, inner: usize, low: usize, bound: usize) -> Registers
         bindings: bound,
         labels: r.counts.labels,
     };
-    Registers::of(r.flags, store, counts)
+    Registers::of(r.mode, r.flags, store, counts)
 }

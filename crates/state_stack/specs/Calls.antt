@@ -43,7 +43,7 @@ mayPop r = eqb (r .counts .inner) 0 && ltb 0 (r .counts .depth)
 
 pub record Pops (r : Registers) (fs : List ℕ) (c : Changed) : Type 0 where
   pub answer : c .ok ≡ mayPop r
-  pub moved : mayPop r ≡ true → c .registers ≡ poppedTo r (at (loadFrame fs (r .counts .depth - 1)) NAME) (first (loadFrame fs (r .counts .depth - 1)))
+  pub moved : mayPop r ≡ true → c .registers ≡ poppedTo r (loadFrame fs (r .counts .depth - 1))
   pub kept : mayPop r ≡ false → c .registers ≡ r
 
 -- ---- bind
@@ -163,7 +163,7 @@ module _ {r : Registers} {fs : List ℕ} where
   unfolding mayPop
   pop-empty z d = pop-refused (rw (eq-eqb (r .counts .inner) 0 z, le-ltb 0 (r .counts .depth) (omega arith)))
 
-  pub pop-done : {f : Frame} → r .counts .inner ≡ 0 → (r .counts .depth ≡ 0 → ⊥) → f ≡ loadFrame fs (r .counts .depth - 1) → Pops r fs (record { ok = true; registers = poppedTo r (at f NAME) (first f) })
+  pub pop-done : {f : Frame} → r .counts .inner ≡ 0 → (r .counts .depth ≡ 0 → ⊥) → f ≡ loadFrame fs (r .counts .depth - 1) → Pops r fs (record { ok = true; registers = poppedTo r f })
   unfolding mayPop
   pop-done {f} z d e =
       let m : mayPop r ≡ true = rw (eq-eqb (r .counts .inner) 0 z, lt-ltb 0 (r .counts .depth) (positive (r .counts .depth) d)) in

@@ -11,7 +11,7 @@ use borrow.Author.Tests.{eqb-true, eq-eqb}
 use Rattle.spec.specs.Bytes.{Bytes}
 use Rattle.spec.specs.Limits.{workStoreBytes}
 use Rattle.spec.specs.Document.{Frame as Element, Doc}
-use Rattle.spec.specs.Modes.{baseMode}
+use Rattle.spec.specs.declared.Mode.{Mode}
 use Rattle.spec.proofs.Booleans.{and-left, and-right}
 use Rattle.state_words.specs.Parts.{NAME, FRAME}
 use Rattle.state_words.specs.declared.Frame.{Frame}
@@ -20,26 +20,27 @@ use Rattle.state_words.specs.Kept.{Kept, kept-all, kept-less}
 use Rattle.state_words.specs.Words.{frameAt, rowAt}
 use Rattle.state.specs.declared.Registers.{Registers}
 use Rattle.state.specs.Meaning.{at, first, bindingsOf, elementOf, subjectBelow, framesOf, innerOf, innersOf, startOf, elementsOf, docOf}
-use Rattle.state.specs.Valid.{framesOk, innersOk, ceiling, Sound, Inside, Valid, rising, top-sound, rest-ok, frames-on, top-inside, inners-rest, inners-on}
-use Rattle.state.specs.Stay.{frames-ok-kept, frames-kept, inners-ok-kept, inners-kept, chained-up}
+use Rattle.state.specs.Valid.{notedOf, notedIn, framesOk, innersOk, ceiling, Sound, Inside, Valid, rising, top-sound, rest-ok, frames-on, top-inside, inners-rest, inners-on}
+use Rattle.state.specs.Stay.{noted-kept, frames-ok-kept, frames-kept, inners-ok-kept, inners-kept, chained-up}
 use Rattle.state.specs.Held.{room, frames-base}
 
 -- a valid state, and what it means but for the rdf:IDs
-pub record Holds (r : Registers) (fs bs is w : List ℕ) (start : Option Bytes) (es : List Element) (rooted : Bool) (labels : ℕ) : Type 0 where
+pub record Holds (r : Registers) (fs bs is w : List ℕ) (mode : Mode) (start : Option Bytes) (es : List Element) (rooted : Bool) (labels : ℕ) : Type 0 where
   pub valid : Valid r fs bs is w
+  pub chosen : r .mode ≡ mode
   pub base : startOf r w ≡ start
   pub elements : elementsOf r fs bs is w ≡ es
   pub root : r .flags .rooted ≡ rooted
   pub count : r .counts .labels ≡ labels
 
-pub holds-doc : {r : Registers} {fs bs is w : List ℕ} {start : Option Bytes} {es : List Element} {rooted : Bool} {labels : ℕ} → Holds r fs bs is w start es rooted labels
-    → (ids : List Bytes) → docOf r fs bs is w ids ≡ record { mode = baseMode; startBase = start; frames = es; rooted = rooted; labels = labels; ids = ids }
+pub holds-doc : {r : Registers} {fs bs is w : List ℕ} {mode : Mode} {start : Option Bytes} {es : List Element} {rooted : Bool} {labels : ℕ} → Holds r fs bs is w mode start es rooted labels
+    → (ids : List Bytes) → docOf r fs bs is w ids ≡ record { mode = mode; startBase = start; frames = es; rooted = rooted; labels = labels; ids = ids }
 unfolding docOf
-holds-doc h ids = go (h .base) (h .elements) (h .root) (h .count)
+holds-doc h ids = go (h .chosen) (h .base) (h .elements) (h .root) (h .count)
   where
-    go : {s t : Option Bytes} {x y : List Element} {a b : Bool} {m n : ℕ} → s ≡ t → x ≡ y → a ≡ b → m ≡ n
-        → _≡_ {A = Doc} (record { mode = baseMode; startBase = s; frames = x; rooted = a; labels = m; ids = ids }) (record { mode = baseMode; startBase = t; frames = y; rooted = b; labels = n; ids = ids })
-    go p q u v = rw (p, q, u, v)
+    go : {c e : Mode} {s t : Option Bytes} {x y : List Element} {a b : Bool} {m n : ℕ} → c ≡ e → s ≡ t → x ≡ y → a ≡ b → m ≡ n
+        → _≡_ {A = Doc} (record { mode = c; startBase = s; frames = x; rooted = a; labels = m; ids = ids }) (record { mode = e; startBase = t; frames = y; rooted = b; labels = n; ids = ids })
+    go o p q u v = rw (o, p, q, u, v)
 
 -- ---- a frame on top of others
 
@@ -64,6 +65,10 @@ module _ {fs gs bs cs w v : List ℕ} {f : Frame} {base n t b top c : ℕ} (o : 
   unfolding framesOf
   on-frames = rw (o .there, o .firsts, frames-kept base n t b (o .frames) (o .bindings) (o .bytes) (o .rest))
 
+  -- what is noted below it
+  pub on-noted : notedIn gs n ≡ notedIn fs n
+  on-noted = noted-kept n (o .frames)
+
   pub on-base : base ≤ t
   on-base = frames-base fs bs w base n t b (o .rest)
 
@@ -77,29 +82,38 @@ start-kept r r′ k h p q = rw (p, q, k .parts 0 (r .store .base) (omega arith) 
 abbrev pub pushedTo : Registers → ℕ → ℕ → Registers
 pushedTo r top b =
     record {
+      mode = r .mode;
       flags = record { closed = r .flags .closed; rooted = true; based = r .flags .based };
-      store = record { base = r .store .base; top = top; low = r .store .low };
+      store = record { base = r .store .base; top = top; low = r .store .low; noted = r .store .noted };
       counts = record { depth = r .counts .depth + 1; inner = r .counts .inner; outer = b; bindings = b; labels = r .counts .labels };
     }
 
--- one element less: the parts that are left end at `top`
-abbrev pub poppedTo : Registers → ℕ → ℕ → Registers
-poppedTo r top b =
+-- without the element of frame f, which is on top, and what it has noted
+abbrev pub poppedTo : Registers → Frame → Registers
+poppedTo r f =
     record {
+      mode = r .mode;
       flags = r .flags;
-      store = record { base = r .store .base; top = top; low = r .store .low };
-      counts = record { depth = r .counts .depth - 1; inner = r .counts .inner; outer = b; bindings = b; labels = r .counts .labels };
+      store = record { base = r .store .base; top = at f NAME; low = r .store .low; noted = r .store .noted - notedOf f };
+      counts = record { depth = r .counts .depth - 1; inner = r .counts .inner; outer = first f; bindings = first f; labels = r .counts .labels };
     }
 
+-- the parts of the element on top end at `top`, and so many bytes are noted
+abbrev pub notingTo : Registers → ℕ → ℕ → Registers
+notingTo r top noted =
+    record { mode = r .mode; flags = r .flags; store = record { base = r .store .base; top = top; low = r .store .low; noted = noted }; counts = r .counts }
+
+-- as many as before
 abbrev pub toppedTo : Registers → ℕ → Registers
-toppedTo r top = record { flags = r .flags; store = record { base = r .store .base; top = top; low = r .store .low }; counts = r .counts }
+toppedTo r top = notingTo r top (r .store .noted)
 
 -- with so many elements inside Literal content, which lie from `low` on
 abbrev pub insideTo : Registers → ℕ → ℕ → ℕ → Registers
 insideTo r inner low b =
     record {
+      mode = r .mode;
       flags = r .flags;
-      store = record { base = r .store .base; top = r .store .top; low = low };
+      store = record { base = r .store .base; top = r .store .top; low = low; noted = r .store .noted };
       counts = record { depth = r .counts .depth; inner = inner; outer = r .counts .outer; bindings = b; labels = r .counts .labels };
     }
 
@@ -107,6 +121,7 @@ insideTo r inner low b =
 abbrev pub labelledTo : Registers → ℕ → Registers
 labelledTo r n =
     record {
+      mode = r .mode;
       flags = r .flags;
       store = r .store;
       counts = record { depth = r .counts .depth; inner = r .counts .inner; outer = r .counts .outer; bindings = r .counts .bindings; labels = n };
@@ -127,13 +142,15 @@ module _ {r : Registers} {fs bs is w : List ℕ} where
         labels = h;
         frames = x .frames;
         inners = x .inners;
+        few = x .few;
+        noted = x .noted;
       }
 
-  module _ {start : Option Bytes} {es : List Element} {rooted : Bool} {labels : ℕ} (h : Holds r fs bs is w start es rooted labels) where
+  module _ {mode : Mode} {start : Option Bytes} {es : List Element} {rooted : Bool} {labels : ℕ} (h : Holds r fs bs is w mode start es rooted labels) where
     -- only the label count changes
-    pub labelled-holds : {n : ℕ} → n ≤ 99_999_999 → Holds (labelledTo r n) fs bs is w start es rooted n
+    pub labelled-holds : {n : ℕ} → n ≤ 99_999_999 → Holds (labelledTo r n) fs bs is w mode start es rooted n
     unfolding startOf elementsOf
-    labelled-holds {n} l = record { valid = labelled-valid n l (h .valid); base = h .base; elements = h .elements; root = h .root; count = refl }
+    labelled-holds {n} l = record { valid = labelled-valid n l (h .valid); chosen = h .chosen; base = h .base; elements = h .elements; root = h .root; count = refl }
 
 -- with no element inside Literal content, nothing is held at the store's end
 pub record Flat (r : Registers) : Type 0 where
@@ -161,9 +178,10 @@ empty-inners is bs inner b low z l = rw (z, eq-eqb low 65_536 l, eq-eqb b b refl
 
 module _ {r : Registers} {fs bs is w gs cs v : List ℕ} {f : Frame} {top b : ℕ} where
   pub pushed : Valid r fs bs is w → r .counts .inner ≡ 0 → On fs gs bs cs w v f (r .store .base) (r .counts .depth) (r .store .top) (r .counts .outer) top b
-      → length gs ≡ length fs → length cs ≡ length bs → length v ≡ length w → r .counts .depth < 64 → b ≤ 128 → top ≤ r .store .low
-      → Holds (pushedTo r top b) gs cs is v (startOf r w) (elementOf f (bindingsOf cs v (r .counts .outer) (b - r .counts .outer)) v (subjectBelow gs v (r .counts .depth)) ∷ elementsOf r fs bs is w) true (r .counts .labels)
-  pushed x z o lg lc lv d lb lt =
+      → length gs ≡ length fs → length cs ≡ length bs → length v ≡ length w → r .counts .depth < 64 → b ≤ 128 → top ≤ r .store .low → notedOf f ≡ 0
+      → Holds (pushedTo r top b) gs cs is v (r .mode) (startOf r w) (elementOf f (bindingsOf cs v (r .counts .outer) (b - r .counts .outer)) v (subjectBelow gs v (r .counts .depth)) ∷ elementsOf r fs bs is w) true (r .counts .labels)
+  unfolding notedIn
+  pushed x z o lg lc lv d lb lt nt =
       let e = flat x z in
       let s : suc (r .counts .depth) ≡ r .counts .depth + 1 = omega arith in
       let ok : framesOk gs cs v (r .store .base) (r .counts .depth + 1) top b ≡ true = rw (← s) (on-ok o) in
@@ -181,7 +199,10 @@ module _ {r : Registers} {fs bs is w gs cs v : List ℕ} {f : Frame} {top b : �
               labels = x .labels;
               frames = ok;
               inners = empty-inners is cs (r .counts .inner) b (r .store .low) z (e .low);
+              few = x .few;
+              noted = x .noted ∙ sym (rw (← s, o .there, nt) (omega (arith, on-noted o)));
             };
+        chosen = refl;
         base = start-kept r (pushedTo r top b) (o .bytes) (on-base o) refl refl;
         elements =
             flat-elements (pushedTo r top b) gs cs is v z
@@ -209,9 +230,11 @@ module _ {r : Registers} {fs bs is w : List ℕ} (x : Valid r fs bs is w) (n : �
   top-element = rw d
 
   pub popped : r .counts .inner ≡ 0
-      → Holds (poppedTo r (at (frameAt fs n) NAME) (first (frameAt fs n))) fs bs is w (startOf r w) (framesOf fs bs w n (first (frameAt fs n))) (r .flags .rooted) (r .counts .labels)
+      → Holds (poppedTo r (frameAt fs n)) fs bs is w (r .mode) (startOf r w) (framesOf fs bs w n (first (frameAt fs n))) (r .flags .rooted) (r .counts .labels)
+  unfolding notedIn
   popped z =
       let e = flat x z in
+      let k : r .store .noted ≡ notedIn fs n + notedOf (frameAt fs n) = rw d at (x .noted) in
       let t = top-frame in
       let u = rising (frameAt fs n) (t .up) in
       let a = t .ends in
@@ -231,9 +254,12 @@ module _ {r : Registers} {fs bs is w : List ℕ} (x : Valid r fs bs is w) (n : �
               labels = x .labels;
               frames = rw m under;
               inners = empty-inners is bs (r .counts .inner) (first (frameAt fs n)) (r .store .low) z (e .low);
+              few = omega (arith, x .few);
+              noted = rw m (omega arith);
             };
-        base = start-kept {w = w} {v = w} {hi = r .store .base} r (poppedTo r (at (frameAt fs n) NAME) (first (frameAt fs n))) kept-all (omega arith) refl refl;
-        elements = flat-elements (poppedTo r (at (frameAt fs n) NAME) (first (frameAt fs n))) fs bs is w z ∙ rw m;
+        chosen = refl;
+        base = start-kept {w = w} {v = w} {hi = r .store .base} r (poppedTo r (frameAt fs n)) kept-all (omega arith) refl refl;
+        elements = flat-elements (poppedTo r (frameAt fs n)) fs bs is w z ∙ rw m;
         root = refl;
         count = refl;
       }
@@ -242,12 +268,14 @@ module _ {r : Registers} {fs bs is w : List ℕ} (x : Valid r fs bs is w) (n : �
 
   pub changed : {gs v : List ℕ} {f : Frame} {top : ℕ} → On fs gs bs bs w v f (r .store .base) n (at (frameAt fs n) NAME) (first (frameAt fs n)) top (r .counts .outer)
       → Kept w v (r .store .low) 65_536 → length gs ≡ length fs → length v ≡ length w → top ≤ r .store .low
-      → Holds (toppedTo r top) gs bs is v (startOf r w)
+      → (noted : ℕ) → noted ≤ 1_024 → noted + notedOf (frameAt fs n) ≡ r .store .noted + notedOf f
+      → Holds (notingTo r top noted) gs bs is v (r .mode) (startOf r w)
       (innersOf is bs w (r .counts .inner) (r .counts .bindings)
       ++ (elementOf f (bindingsOf bs v (first (frameAt fs n)) (r .counts .outer - first (frameAt fs n))) v (subjectBelow gs v n) ∷ framesOf fs bs w n (first (frameAt fs n))))
       (r .flags .rooted) (r .counts .labels)
-  unfolding elementsOf
-  changed {gs} {v} {f} {top} o k lg lv lt =
+  unfolding elementsOf notedIn
+  changed {gs} {v} {f} {top} o k lg lv lt noted nf ns =
+      let m : r .store .noted ≡ notedIn fs n + notedOf (frameAt fs n) = rw d at (x .noted) in
       let ok : framesOk gs bs v (r .store .base) (r .counts .depth) top (r .counts .outer) ≡ true = rw d (on-ok o) in
       record {
         valid =
@@ -263,8 +291,11 @@ module _ {r : Registers} {fs bs is w : List ℕ} (x : Valid r fs bs is w) (n : �
               labels = x .labels;
               frames = ok;
               inners = x .inners;
+              few = nf;
+              noted = rw (d, o .there, on-noted o) (omega arith);
             };
-        base = start-kept r (toppedTo r top) (o .bytes) (on-base o) refl refl;
+        chosen = refl;
+        base = start-kept r (notingTo r top noted) (o .bytes) (on-base o) refl refl;
         elements =
             rw (
               inners-kept (r .counts .outer) {w = w} {v = v} (r .counts .inner) (r .store .low) (r .counts .bindings) (kept-all {w = is}) (kept-all {w = bs}) k (x .inners),
@@ -281,7 +312,7 @@ module _ {r : Registers} {fs bs is w : List ℕ} (x : Valid r fs bs is w) where
   pub inside-opened : {cs js v : List ℕ} {q : Row} {b : ℕ} → Kept is js 0 (r .counts .inner * 3) → rowAt js (r .counts .inner) ≡ q → Kept bs cs 0 (r .counts .bindings * 3) → Kept w v 0 (r .store .top) → Kept w v (r .store .low) 65_536
       → Inside js cs q (r .counts .inner) (q .at) b → q .more ≡ r .counts .bindings → ceiling js (r .counts .inner) ≡ r .store .low
       → length cs ≡ length bs → length js ≡ length is → length v ≡ length w → r .counts .depth + r .counts .inner < 64 → b ≤ 128 → r .store .top ≤ q .at
-      → Holds (insideTo r (r .counts .inner + 1) (q .at) b) fs cs js v (startOf r w) (innerOf q (bindingsOf cs v (r .counts .bindings) (b - r .counts .bindings)) v ∷ elementsOf r fs bs is w) (r .flags .rooted) (r .counts .labels)
+      → Holds (insideTo r (r .counts .inner + 1) (q .at) b) fs cs js v (r .mode) (startOf r w) (innerOf q (bindingsOf cs v (r .counts .bindings) (b - r .counts .bindings)) v ∷ elementsOf r fs bs is w) (r .flags .rooted) (r .counts .labels)
   unfolding elementsOf innersOf
   inside-opened {cs} {js} {v} {q} {b} ki e kb kw kl ins m ce lc lj lv d lb lt =
       let ro = room x in
@@ -304,7 +335,10 @@ module _ {r : Registers} {fs bs is w : List ℕ} (x : Valid r fs bs is w) where
               labels = x .labels;
               frames = frames-ok-kept (r .store .base) (r .counts .depth) (r .store .top) (r .counts .outer) (kept-all {w = fs}) (kept-less kb (omega arith) (omega (arith, ro .outer))) kw (x .frames);
               inners = rw s all;
+              few = x .few;
+              noted = x .noted;
             };
+        chosen = refl;
         base = start-kept r (insideTo r (r .counts .inner + 1) (q .at) b) kw (ro .base) refl refl;
         elements =
             rw (
@@ -322,7 +356,7 @@ module _ {r : Registers} {fs bs is w : List ℕ} (x : Valid r fs bs is w) where
     inward : innersOk is bs (r .counts .outer) (suc n) (r .store .low) (r .counts .bindings) ≡ true
     inward = rw d at (x .inners)
 
-    pub inside-closed : Holds (insideTo r n (ceiling is n) (rowAt is n .more)) fs bs is w (startOf r w)
+    pub inside-closed : Holds (insideTo r n (ceiling is n) (rowAt is n .more)) fs bs is w (r .mode) (startOf r w)
         (innersOf is bs w n (rowAt is n .more) ++ framesOf fs bs w (r .counts .depth) (r .counts .outer)) (r .flags .rooted) (r .counts .labels)
     unfolding elementsOf
     inside-closed =
@@ -344,7 +378,10 @@ module _ {r : Registers} {fs bs is w : List ℕ} (x : Valid r fs bs is w) where
                 labels = x .labels;
                 frames = x .frames;
                 inners = inners-rest is bs (r .counts .outer) n (r .store .low) (r .counts .bindings) inward;
+                few = x .few;
+                noted = x .noted;
               };
+          chosen = refl;
           base = start-kept {w = w} {v = w} {hi = r .store .base} r (insideTo r n (ceiling is n) (rowAt is n .more)) kept-all (omega arith) refl refl;
           elements = refl;
           root = refl;

@@ -31,13 +31,13 @@ use Rattle.state_words.specs.Kept.{Kept, kept-all, kept-less, kept-before, kept
 use Rattle.state_words.specs.Words.{frameAt, rowAt, wordsOf, StoredFrame, load-frame, load-store, frame-wrote, row-there, length-words}
 use Rattle.state.specs.declared.Registers.{Registers}
 use Rattle.state.specs.Meaning.{at, has, count, first, span, objectOf, bindingOf, bindingsOf, subjectOf, whatOf, partOf, elementOf, subjectBelow, framesOf, startOf, elementsOf}
-use Rattle.state.specs.Valid.{partsOk, chained, kindOk, emptyOr, nodeBelow, stands, Rising, Valid, rising, rises-up}
+use Rattle.state.specs.Valid.{notedBy, notedOf, partsOk, chained, kindOk, emptyOr, nodeBelow, isRootIn, stands, Rising, Valid, rising, rises-up}
 use Rattle.state.specs.Tests.{positive}
 use Rattle.state.specs.Stay.{chained-on, chained-kept, bindings-kept, stands-kept, below-kept}
 use Rattle.state_stack.specs.declared.Changed.{Changed}
 use Rattle.state_stack.specs.Change.{Holds, On, pushed, popped, top-frame}
 use Rattle.state_stack.specs.Calls.{Pushes, mayPush, Pops, mayPop, Binds, mayBind, topFrame, sameKind, tailTo, counted, Tails, mayTail, Texts, Xmls, CountsLi, mayCount}
-use Rattle.state_stack.specs.Top.{Alike, alike-property, retailed, asItWas, topped-change, topped-same, topped-flat}
+use Rattle.state_stack.specs.Top.{Alike, alike-property, quiet, node-quiet, property-quiet, literal-quiet, retailed, asItWas, topped-change, topped-same, topped-flat}
 
 -- ---- bytes of a part among others
 
@@ -133,6 +133,7 @@ pub record New (r : Registers) (fs bs w cs v : List ℕ) (f : Frame) (b : ℕ) (
   pub parts : partsOk f ≡ true
   pub kind : kindOk (f .kind) f v ≡ true
   pub stood : stands (f .kind) fs (r .counts .depth) ≡ true
+  pub nothing : notedOf f ≡ 0
 
 pub record Flat (r : Registers) (fs : List ℕ) : Type 0 where
   pub inner : r .counts .inner ≡ 0
@@ -151,7 +152,7 @@ may-push r fs m =
 
 pub push-holds : {r : Registers} {fs bs is w gs cs v : List ℕ} {f : Frame} {b : ℕ} {c : Changed} {bound : List Binding}
     → Valid r fs bs is w → Pushes r fs f b c gs → c .ok ≡ true → New r fs bs w cs v f b bound
-    → Holds (c .registers) gs cs is v (startOf r w) (elementOf f bound v (subjectBelow fs w (r .counts .depth)) ∷ elementsOf r fs bs is w) true (r .counts .labels)
+    → Holds (c .registers) gs cs is v (r .mode) (startOf r w) (elementOf f bound v (subjectBelow fs w (r .counts .depth)) ∷ elementsOf r fs bs is w) true (r .counts .labels)
 push-holds {r} {fs} {bs} {is} {w} {gs} {cs} {v} {f} {b} {c} {bound} x p y n =
     let m : mayPush r fs ≡ true = sym (p .answer) ∙ y in
     let t = may-push r fs m in
@@ -178,7 +179,7 @@ push-holds {r} {fs} {bs} {is} {w} {gs} {cs} {v} {f} {b} {c} {bound} x p y n =
             stood = stands-kept (r .counts .depth) kf (f .kind) ∙ n .stood;
           };
     } in
-    let h = pushed x (t .inner) o (p .same) (n .sameWords) (n .sameBytes) (t .depth) (n .most) (n .ends) in
+    let h = pushed x (t .inner) o (p .same) (n .sameWords) (n .sameBytes) (t .depth) (n .most) (n .ends) (n .nothing) in
     let s : subjectBelow gs v (r .counts .depth) ≡ subjectBelow fs w (r .counts .depth) = below-kept bs (r .store .base) (r .counts .depth) (r .store .top) (r .counts .outer) kf (n .bytes) (x .frames) in
     rw (p .moved m, ← s, ← n .bindings .are) h
 
@@ -201,7 +202,7 @@ topmost {r} {fs} {bs} {is} {w} x h =
     record { depth = omega arith; frame = rw (ne-eqb (r .counts .depth) 0 (λ e. omega arith)) (load-frame fs (r .counts .depth - 1) room); room = room }
 
 pub pop-holds : {r : Registers} {fs bs is w : List ℕ} {c : Changed} → Valid r fs bs is w → Pops r fs c → c .ok ≡ true
-    → Holds (c .registers) fs bs is w (startOf r w) (framesOf fs bs w (r .counts .depth - 1) (first (frameAt fs (r .counts .depth - 1)))) (r .flags .rooted) (r .counts .labels)
+    → Holds (c .registers) fs bs is w (r .mode) (startOf r w) (framesOf fs bs w (r .counts .depth - 1) (first (frameAt fs (r .counts .depth - 1)))) (r .flags .rooted) (r .counts .labels)
 pop-holds {r} {fs} {bs} {is} {w} {c} x p y =
     let m : mayPop r ≡ true = sym (p .answer) ∙ y in
     let k = may-pop r m in
@@ -282,9 +283,9 @@ module _ {r : Registers} {fs bs is w s gs v : List ℕ} {from what : ℕ} {c : C
       → (Fresh (topFrame r fs) → Wrote w v from (from + length s) s → kindOk q (topFrame r fs) w ≡ true → kindOk q (tailTo (topFrame r fs) (from + length s) what) v ≡ true)
       → (Fresh (topFrame r fs) → Wrote w v from (from + length s) s → (u : Subject)
       → whatOf q (tailTo (topFrame r fs) (from + length s) what) v u ≡ onValue h (whatOf q (topFrame r fs) w u))
-      → ((f g : Frame) (u : List ℕ) → partOf q g v ≡ partOf q f u)
-      → Holds (c .registers) gs bs is v (startOf r w) (changeValue h (elementsOf r fs bs is w)) (r .flags .rooted) (r .counts .labels)
-  tail-holds p y l q z ok eq plain =
+      → ((f g : Frame) (u : List ℕ) → partOf q g v ≡ partOf q f u) → ((f : Frame) → notedBy q f ≡ 0)
+      → Holds (c .registers) gs bs is v (r .mode) (startOf r w) (changeValue h (elementsOf r fs bs is w)) (r .flags .rooted) (r .counts .labels)
+  tail-holds p y l q z ok eq plain none =
       let m : mayTail r fs w from (length s) ≡ true = sym (p .answer) ∙ y in
       let t = may-tail r fs w from (length s) m in
       let to : ℕ = from + length s in
@@ -312,7 +313,7 @@ module _ {r : Registers} {fs bs is w s gs v : List ℕ} {from what : ℕ} {c : C
       λ o. ap (λ (g : Kind). whatOf g (tailTo f to what) v o) kind ∙ (eq′ new wr o ∙ ap (λ (g : Kind). onValue h (whatOf g f w o)) (sym kind)) in
       let pt : partOf (f .kind) (tailTo f to what) v ≡ partOf (f .kind) f w =
       ap (λ (g : Kind). partOf g (tailTo f to what) v) kind ∙ (plain f (tailTo f to what) w ∙ ap (λ (g : Kind). partOf g f w) (sym kind)) in
-      let res = retailed x n (k .depth) (onValue h) asItWas al st (kept-less (kept-before wr) (omega arith) l′) (kept-less (kept-behind 65_536 wr) (t .room) (omega arith)) (p .sameBytes) (omega (arith, te)) (omega (arith, te, t .room)) kd wt pt in
+      let res = retailed x n (k .depth) (onValue h) asItWas (quiet q kind none (tailTo f to what) f) al st (kept-less (kept-before wr) (omega arith) l′) (kept-less (kept-behind 65_536 wr) (t .room) (omega arith)) (p .sameBytes) (omega (arith, te)) (omega (arith, te, t .room)) kd wt pt in
       rw (p .moved m, ← te, ← topped-change x n (k .depth) h) res
 
 pub by : {A : Type 0} (b : Bool) → (b ≡ true → A) → (b ≡ false → A) → A
@@ -382,7 +383,7 @@ module _ (f : Frame) (w t v : List ℕ) (n : Fresh f) (wr : Wrote w v (at f TAIL
       )
 
 pub text-holds : {r : Registers} {fs bs is w t gs v : List ℕ} {c : Changed} → Valid r fs bs is w → Texts r fs w t c gs v → c .ok ≡ true
-    → Holds (c .registers) gs bs is v (startOf r w) (changeValue (takesText t) (elementsOf r fs bs is w)) (r .flags .rooted) (r .counts .labels)
+    → Holds (c .registers) gs bs is v (r .mode) (startOf r w) (changeValue (takesText t) (elementsOf r fs bs is w)) (r .flags .rooted) (r .counts .labels)
 unfolding partOf
 text-holds {r} {fs} {bs} {is} {w} {t} {gs} {v} {c} x p y =
     by (sameKind (topFrame r fs .kind) PropertyElt)
@@ -390,7 +391,8 @@ text-holds {r} {fs} {bs} {is} {w} {t} {gs} {v} {c} x p y =
     tail-holds x (takesText t) (p .tails q) y (omega arith) PropertyElt (is-property (topFrame r fs .kind) q)
     (λ n wr _. text-kind (topFrame r fs) w t v n wr)
     (λ n wr u. text-what (topFrame r fs) w t v n wr u)
-    (λ f g u. refl))
+    (λ f g u. refl)
+    property-quiet)
     (λ q. absurd (false≢true (sym (p .kept q .ok) ∙ y)))
 
 -- ---- XML text
@@ -435,7 +437,7 @@ top-deep r fs h =
     (λ e. positive (r .counts .depth) (eqb-false (r .counts .depth) 0 e))
 
 pub xml-holds : {r : Registers} {fs bs is w t gs v : List ℕ} {c : Changed} → Valid r fs bs is w → Xmls r fs w t c gs v → c .ok ≡ true
-    → Holds (c .registers) gs bs is v (startOf r w) (changeValue (takesXml t) (elementsOf r fs bs is w)) (r .flags .rooted) (r .counts .labels)
+    → Holds (c .registers) gs bs is v (r .mode) (startOf r w) (changeValue (takesXml t) (elementsOf r fs bs is w)) (r .flags .rooted) (r .counts .labels)
 unfolding partOf
 xml-holds {r} {fs} {bs} {is} {w} {t} {gs} {v} {c} x p y =
     by (sameKind (topFrame r fs .kind) ParseTypeLiteralPropertyElt)
@@ -443,7 +445,8 @@ xml-holds {r} {fs} {bs} {is} {w} {t} {gs} {v} {c} x p y =
     tail-holds x (takesXml t) (p .tails q) y (places q) ParseTypeLiteralPropertyElt (is-literal (topFrame r fs .kind) q)
     (λ n wr h. xml-kind (topFrame r fs) w t v n wr h)
     (λ n wr u. xml-what (topFrame r fs) w t v n wr u)
-    (λ f g u. refl))
+    (λ f g u. refl)
+    literal-quiet)
     (λ q.
     by (sameKind (topFrame r fs .kind) ParseTypeOtherPropertyElt)
     (λ o. dropped o)
@@ -459,7 +462,7 @@ xml-holds {r} {fs} {bs} {is} {w} {t} {gs} {v} {c} x p y =
         rw (k .frame) (u .tail)
 
     dropped : sameKind (topFrame r fs .kind) ParseTypeOtherPropertyElt ≡ true
-        → Holds (c .registers) gs bs is v (startOf r w) (changeValue (takesXml t) (elementsOf r fs bs is w)) (r .flags .rooted) (r .counts .labels)
+        → Holds (c .registers) gs bs is v (r .mode) (startOf r w) (changeValue (takesXml t) (elementsOf r fs bs is w)) (r .flags .rooted) (r .counts .labels)
     dropped o =
         let k = topmost x (top-deep r fs (λ i. false≢true (ap (λ (g : Kind). sameKind g ParseTypeOtherPropertyElt) (sym i) ∙ o))) in
         let n : ℕ = r .counts .depth - 1 in
@@ -467,7 +470,7 @@ xml-holds {r} {fs} {bs} {is} {w} {t} {gs} {v} {c} x p y =
         let d = p .dropped o in
         let same : changeValue (takesXml t) (elementsOf r fs bs is w) ≡ elementsOf r fs bs is w =
         sym (topped-change x n (k .depth) (takesXml t)) ∙ topped-same x n (k .depth) (onValue (takesXml t)) (other-stays (frameAt fs n) w t (subjectBelow fs w n) e) in
-        rw (d .0, d .1, d .2, same) (record { valid = x; base = refl; elements = refl; root = refl; count = refl })
+        rw (d .0, d .1, d .2, same) (record { valid = x; chosen = refl; base = refl; elements = refl; root = refl; count = refl })
 
 -- ---- rdf:li
 
@@ -549,7 +552,7 @@ li-may r fs n d l =
     node-differs e = false≢true (ap (λ (g : Kind). sameKind g NodeElt) (sym e))
 
 pub li-holds : {r : Registers} {fs bs is w gs : List ℕ} {b : Bool} → Valid r fs bs is w → r .counts .inner ≡ 0 → CountsLi r fs b gs → b ≡ true → (i : Bytes) → isLi i ≡ true
-    → (h : Part → Part) → ((p : Part) → h p ≡ p) → Holds r gs bs is w (startOf r w) (countLi i h (elementsOf r fs bs is w)) (r .flags .rooted) (r .counts .labels)
+    → (h : Part → Part) → ((p : Part) → h p ≡ p) → Holds r gs bs is w (r .mode) (startOf r w) (countLi i h (elementsOf r fs bs is w)) (r .flags .rooted) (r .counts .labels)
 li-holds {r} {fs} {bs} {is} {w} {gs} {b} x z p y i li note o =
     let m : mayCount r fs ≡ true = sym (p .answer) ∙ y in
     let t = may-count r fs m in
@@ -571,12 +574,12 @@ li-holds {r} {fs} {bs} {is} {w} {gs} {b} x z p y i li note o =
     let wt : (s : Subject) → whatOf (f .kind) (counted f) w s ≡ G.counted i (whatOf (f .kind) f w s) =
     λ s. ap (λ (g : Kind). whatOf g (counted f) w s) kind ∙ (li-what f w a h i li s ∙ ap (λ (g : Kind). G.counted i (whatOf g f w s)) (sym kind)) in
     let pt : partOf (f .kind) (counted f) w ≡ note (partOf (f .kind) f w) = part-counted f w (f .kind) ∙ sym (o (partOf (f .kind) f w)) in
-    let res = retailed x n (k .depth) (G.counted i) note al st kept-all kept-all refl (u .tail) (omega (arith, tp .ends, x .apart)) kd wt pt in
+    let res = retailed x n (k .depth) (G.counted i) note (quiet NodeElt kind node-quiet (counted f) f) al st kept-all kept-all refl (u .tail) (omega (arith, tp .ends, x .apart)) kd wt pt in
     rw (← topped-flat x n (k .depth) z i note) (rw (tp .ends) at res)
 
--- what one more rdf:li leaves to the element that comes next: where it may stand, and the subject around it
+-- the frame on top behind one more rdf:li
 module _ {r : Registers} {fs gs : List ℕ} {b : Bool} (p : CountsLi r fs b gs) (y : b ≡ true) where
-  li-frame : frameAt gs (r .counts .depth - 1) ≡ counted (frameAt fs (r .counts .depth - 1))
+  pub li-frame : frameAt gs (r .counts .depth - 1) ≡ counted (frameAt fs (r .counts .depth - 1))
   unfolding topFrame
   li-frame =
       let m : mayCount r fs ≡ true = sym (p .answer) ∙ y in
@@ -586,26 +589,3 @@ module _ {r : Registers} {fs gs : List ℕ} {b : Bool} (p : CountsLi r fs b gs) 
       let e : topFrame r fs ≡ frameAt fs n = rw (ne-eqb (r .counts .depth) 0 (λ z. omega (arith, t .depth))) (load-frame fs n h) in
       let al = counted-alike (frameAt fs n) (length-at fs n h) (length-has fs n h) in
       load-store (stored-frame n h (al .places) (al .marks) (p .stored m ∙ ap (λ (g : Frame). storedAt fs (n * FRAME) (wordsOf (counted g))) e)) h (al .places) (al .marks)
-
-  li-deep : r .counts .depth ≡ suc (r .counts .depth - 1)
-  li-deep = omega (arith, may-count r fs (sym (p .answer) ∙ y) .depth)
-
-  li-node : nodeBelow gs (r .counts .depth) ≡ nodeBelow fs (r .counts .depth)
-  unfolding nodeBelow
-  li-node = rw li-deep (rw li-frame)
-
-  pub li-stands : (q : Kind) → stands q gs (r .counts .depth) ≡ stands q fs (r .counts .depth)
-  unfolding stands
-  li-stands Rdf = refl
-  li-stands NodeElt = refl
-  li-stands PropertyElt = li-node
-  li-stands ParseTypeCollectionPropertyElt = li-node
-  li-stands ParseTypeLiteralPropertyElt = li-node
-  li-stands ParseTypeOtherPropertyElt = li-node
-  li-stands Wrapper = refl
-
-  pub li-below : (w : List ℕ) → subjectBelow gs w (r .counts .depth) ≡ subjectBelow fs w (r .counts .depth)
-  unfolding subjectBelow subjectOf
-  li-below w =
-      let f : Frame = frameAt fs (r .counts .depth - 1) in
-      rw li-deep (rw (li-frame, getD-set-other (f .has) COUNT BLANK (count f + 1) 0 (λ z. omega arith)))

@@ -6,6 +6,8 @@ pub mod Calls
 pub mod Top
 pub mod Laid
 pub mod Laws
+-- ---- what a packet remembers
+pub mod Packets
 -- ---- a node that closes
 pub mod Take
 pub mod NodeLaws

@@ -24,12 +24,12 @@ use Rattle.state_words.specs.Kept.{Kept as Stays, kept-less, kept-before, kept-
 use Rattle.state_words.specs.Words.{pick, frameAt, wordsOf, StoredFrame, load-frame}
 use Rattle.state.specs.declared.Registers.{Registers}
 use Rattle.state.specs.Meaning.{at, has, count, first, span, nodeOf, objectOf, childSize, childFrom, childOf, childrenOf, subjectOf, whatOf, partOf, elementOf, subjectBelow, framesOf, innersOf, startOf, elementsOf}
-use Rattle.state.specs.Valid.{emptyOr, childrenOk, kindOk, Rising, Valid, rising}
+use Rattle.state.specs.Valid.{notedOf, emptyOr, childrenOk, kindOk, Rising, Valid, rising}
 use Rattle.state.specs.Stay.{children-on, children-ok-kept, children-kept, collected, collected-ok}
 use Rattle.state_stack.specs.declared.Changed.{Changed}
 use Rattle.state_stack.specs.Change.{Holds, poppedTo, popped, top-frame, top-element}
 use Rattle.state_stack.specs.Calls.{topFrame, sameKind, mayPop}
-use Rattle.state_stack.specs.Top.{Alike, alike-property, retailed, asItWas, topped-change, topped-same}
+use Rattle.state_stack.specs.Top.{Alike, alike-property, quiet, property-quiet, collection-quiet, retailed, asItWas, topped-change, topped-same}
 use Rattle.state_stack.specs.Laws.{Fresh, by, is-property, is-node, may-pop, top-deep, topmost, tail-alike, tail-end, tail-what, length-at, length-has, stored-frame, front-of, back-of}
 use Rattle.state_stack.specs.declared.nodes.Child.{Child}
 use Rattle.state_stack.specs.Take.{mayTake, mayChild, objectWord, blankByte, mainSize, objectFrame, childFrame, markOf, Taken, TakesNode, ClosesNode, mayClose, without, movable, childIn}
@@ -204,16 +204,16 @@ module _ {r : Registers} {fs bs is w gs v : List ℕ} {n : Frame} {c : Changed} 
   stored-holds : (m : ℕ) (d : r .counts .depth ≡ suc m) {g : Frame} {to end : ℕ} {s : List ℕ} → Alike (frameAt fs m) g → m * FRAME + FRAME ≤ length fs → Taken r fs w g to end s c gs v → at g END ≡ end
       → at (frameAt fs m) TAIL ≤ to → at (frameAt fs m) TAIL ≤ end → end ≤ r .store .low → kindOk (frameAt fs m .kind) g v ≡ true
       → ((u : Subject) → whatOf (frameAt fs m .kind) g v u ≡ onValue (takesNode (subjectOf n w)) (whatOf (frameAt fs m .kind) (frameAt fs m) w u))
-      → partOf (frameAt fs m .kind) g v ≡ partOf (frameAt fs m .kind) (frameAt fs m) w
-      → Holds (c .registers) gs bs is v (startOf r w) (changeValue (takesNode (subjectOf n w)) (elementsOf r fs bs is w)) (r .flags .rooted) (r .counts .labels)
-  stored-holds m d {g} {to} {end} {s} al room k e l l′ b kd wt pt =
+      → partOf (frameAt fs m .kind) g v ≡ partOf (frameAt fs m .kind) (frameAt fs m) w → notedOf g ≡ notedOf (frameAt fs m)
+      → Holds (c .registers) gs bs is v (r .mode) (startOf r w) (changeValue (takesNode (subjectOf n w)) (elementsOf r fs bs is w)) (r .flags .rooted) (r .counts .labels)
+  stored-holds m d {g} {to} {end} {s} al room k e l l′ b kd wt pt nt =
       let st : StoredFrame fs m g gs true =
       stored-frame m room (al .places) (al .marks) (k .stored ∙ ap (λ (i : ℕ). storedAt fs (i * FRAME) (wordsOf g)) (omega (arith, d))) in
-      let res = retailed x m d (onValue (takesNode (subjectOf n w))) asItWas al st (kept-less (kept-before (k .wrote)) (omega arith) l) (kept-less (kept-behind 65_536 (k .wrote)) b (omega arith)) (wrote-same (k .wrote)) (omega (arith, e)) (omega (arith, e)) (ap (λ (q : Kind). kindOk q g v) (al .kind) ∙ kd) wt pt in
+      let res = retailed x m d (onValue (takesNode (subjectOf n w))) asItWas nt al st (kept-less (kept-before (k .wrote)) (omega arith) l) (kept-less (kept-behind 65_536 (k .wrote)) b (omega arith)) (wrote-same (k .wrote)) (omega (arith, e)) (omega (arith, e)) (ap (λ (q : Kind). kindOk q g v) (al .kind) ∙ kd) wt pt in
       rw (k .moved, ← e, ← topped-change x m d (takesNode (subjectOf n w))) res
 
   object-holds : sameKind (topFrame r fs .kind) PropertyElt ≡ true
-      → Holds (c .registers) gs bs is v (startOf r w) (changeValue (takesNode (subjectOf n w)) (elementsOf r fs bs is w)) (r .flags .rooted) (r .counts .labels)
+      → Holds (c .registers) gs bs is v (r .mode) (startOf r w) (changeValue (takesNode (subjectOf n w)) (elementsOf r fs bs is w)) (r .flags .rooted) (r .counts .labels)
   object-holds o =
       let k = topmost x (top-deep r fs (λ i. false≢true (ap (λ (g : Kind). sameKind g PropertyElt) (sym i) ∙ o))) in
       let m : ℕ = r .counts .depth - 1 in
@@ -236,11 +236,12 @@ module _ {r : Registers} {fs bs is w gs v : List ℕ} {n : Frame} {c : Changed} 
       (λ u.
       ap (λ (q : Kind). whatOf q (objectFrame f n) v u) kind
       ∙ (object-what f n w v z (ta .wrote) fit u ∙ ap (λ (q : Kind). onValue (takesNode (subjectOf n w)) (whatOf q f w u)) (sym kind)))
-      (property-ordinary kind (objectFrame f n) f v w))
+      (property-ordinary kind (objectFrame f n) f v w)
+      (quiet PropertyElt kind property-quiet (objectFrame f n) f))
       (λ h. absurd (false≢true (sym (ob .kept h .ok) ∙ y)))
 
   child-holds : sameKind (topFrame r fs .kind) PropertyElt ≡ false → sameKind (topFrame r fs .kind) ParseTypeCollectionPropertyElt ≡ true
-      → Holds (c .registers) gs bs is v (startOf r w) (changeValue (takesNode (subjectOf n w)) (elementsOf r fs bs is w)) (r .flags .rooted) (r .counts .labels)
+      → Holds (c .registers) gs bs is v (r .mode) (startOf r w) (changeValue (takesNode (subjectOf n w)) (elementsOf r fs bs is w)) (r .flags .rooted) (r .counts .labels)
   unfolding L.all mayChild
   child-holds p o =
       let k = topmost x (top-deep r fs (λ i. false≢true (ap (λ (g : Kind). sameKind g ParseTypeCollectionPropertyElt) (sym i) ∙ o))) in
@@ -265,11 +266,12 @@ module _ {r : Registers} {fs bs is w gs v : List ℕ} {n : Frame} {c : Changed} 
       (λ u.
       ap (λ (q : Kind). whatOf q (childFrame f n) v u) kind
       ∙ (child-what f n w v z fit (ta .wrote) ok u ∙ ap (λ (q : Kind). onValue (takesNode (subjectOf n w)) (whatOf q f w u)) (sym kind)))
-      (collection-ordinary kind (childFrame f n) f v w))
+      (collection-ordinary kind (childFrame f n) f v w)
+      (quiet ParseTypeCollectionPropertyElt kind collection-quiet (childFrame f n) f))
       (λ h. absurd (false≢true (sym (ch .kept h .ok) ∙ y)))
 
   none-holds : sameKind (topFrame r fs .kind) PropertyElt ≡ false → sameKind (topFrame r fs .kind) ParseTypeCollectionPropertyElt ≡ false
-      → Holds (c .registers) gs bs is v (startOf r w) (changeValue (takesNode (subjectOf n w)) (elementsOf r fs bs is w)) (r .flags .rooted) (r .counts .labels)
+      → Holds (c .registers) gs bs is v (r .mode) (startOf r w) (changeValue (takesNode (subjectOf n w)) (elementsOf r fs bs is w)) (r .flags .rooted) (r .counts .labels)
   unfolding changeValue
   none-holds p o =
       let q = t .none p o in
@@ -282,9 +284,9 @@ module _ {r : Registers} {fs bs is w gs v : List ℕ} {n : Frame} {c : Changed} 
       sym (topped-change x m (k .depth) (takesNode (subjectOf n w)))
       ∙ topped-same x m (k .depth) (onValue (takesNode (subjectOf n w)))
       (node-stays (frameAt fs m .kind) (frameAt fs m) w (subjectOf n w) (subjectBelow fs w m) (rw (k .frame) at p) (rw (k .frame) at o))) in
-      rw (q .0, q .1, q .2, same) (record { valid = x; base = refl; elements = refl; root = refl; count = refl })
+      rw (q .0, q .1, q .2, same) (record { valid = x; chosen = refl; base = refl; elements = refl; root = refl; count = refl })
 
-  taken-holds : Holds (c .registers) gs bs is v (startOf r w) (changeValue (takesNode (subjectOf n w)) (elementsOf r fs bs is w)) (r .flags .rooted) (r .counts .labels)
+  taken-holds : Holds (c .registers) gs bs is v (r .mode) (startOf r w) (changeValue (takesNode (subjectOf n w)) (elementsOf r fs bs is w)) (r .flags .rooted) (r .counts .labels)
   taken-holds =
       by (sameKind (topFrame r fs .kind) PropertyElt)
       object-holds
@@ -329,7 +331,7 @@ unfolding elementsOf innersOf
 flat-top r fs bs is w z = rw z
 
 pub close-holds : {r : Registers} {fs bs is w gs v : List ℕ} {c : Changed} → Valid r fs bs is w → ClosesNode r fs w c gs v → c .ok ≡ true
-    → Holds (c .registers) gs bs is v (startOf r w) (closedNode (elementsOf r fs bs is w)) (r .flags .rooted) (r .counts .labels)
+    → Holds (c .registers) gs bs is v (r .mode) (startOf r w) (closedNode (elementsOf r fs bs is w)) (r .flags .rooted) (r .counts .labels)
 close-holds {r} {fs} {bs} {is} {w} {gs} {v} {c} x p y =
     let m : mayClose r fs w ≡ true = sym (p .answer) ∙ y in
     let ca = closable r fs w m in
@@ -339,8 +341,8 @@ close-holds {r} {fs} {bs} {is} {w} {gs} {v} {c} x p y =
     let n : Frame = frameAt fs i in
     let kind : n .kind ≡ NodeElt = is-node (n .kind) (rw (tm .frame) at (ca .node)) in
     let h = popped x i (tm .depth) (k .0) in
-    let q : without r fs ≡ poppedTo r (at n NAME) (first n) = rw (load-frame fs i (tm .room)) in
-    let t : TakesNode (poppedTo r (at n NAME) (first n)) fs w n c gs v = rw (tm .frame, q) at (p .takes m) in
+    let q : without r fs ≡ poppedTo r n = rw (load-frame fs i (tm .room)) in
+    let t : TakesNode (poppedTo r n) fs w n c gs v = rw (tm .frame, q) at (p .takes m) in
     let res = taken-holds (h .valid) (k .0) t y in
     let es : closedNode (elementsOf r fs bs is w) ≡ changeValue (takesNode (subjectOf n w)) (framesOf fs bs w i (first n)) =
     ap closedNode (flat-top r fs bs is w (k .0) ∙ top-element x i (tm .depth)) ∙ closed-top n w (subjectBelow fs w i) _ (framesOf fs bs w i (first n)) kind in

@@ -90,7 +90,7 @@ pub record TakesNode (r : Registers) (fs w : List ℕ) (n : Frame) (c : Changed)
 
 -- without the node on top
 abbrev pub without : Registers → List ℕ → Registers
-without r fs = poppedTo r (at (loadFrame fs (r .counts .depth - 1)) NAME) (first (loadFrame fs (r .counts .depth - 1)))
+without r fs = poppedTo r (loadFrame fs (r .counts .depth - 1))
 
 unfoldable pub mayClose : Registers → List ℕ → List ℕ → Bool
 mayClose r fs w =

@@ -18,9 +18,9 @@ use Rattle.state_words.specs.Kept.{Kept, kept-all, kept-less, kept-before}
 use Rattle.state_words.specs.Words.{frameAt, StoredFrame, frame-wrote, load-store}
 use Rattle.state.specs.declared.Registers.{Registers}
 use Rattle.state.specs.Meaning.{at, has, count, first, bindingsOf, propertyOf, whatOf, partOf, elementOf, subjectBelow, framesOf, innerOf, innersOf, startOf, elementsOf}
-use Rattle.state.specs.Valid.{partsOk, kindOk, Rising, Sound, Valid, rising, rises-up}
+use Rattle.state.specs.Valid.{notedBy, notedOf, partsOk, kindOk, Rising, Sound, Valid, rising, rises-up}
 use Rattle.state.specs.Stay.{span-kept, bindings-kept, stands-kept, below-kept}
-use Rattle.state_stack.specs.Change.{Holds, On, toppedTo, changed, top-frame, under, top-element}
+use Rattle.state_stack.specs.Change.{Holds, On, notingTo, toppedTo, changed, top-frame, under, top-element}
 
 -- g is f but for where its tail ends, and what the tail is
 pub record Alike (f g : Frame) : Type 0 where
@@ -94,6 +94,28 @@ alike-element {f} {g} {w} {v} a r k K h bound s e d =
       span-kept k (at f TAG) (at f MAIN) (omega arith) (omega arith) (omega arith),
     )
 
+-- ---- kinds that note nothing
+
+-- whatever the frame of such a kind is
+pub quiet : {k : Kind} (q : Kind) → k ≡ q → ((f : Frame) → notedBy q f ≡ 0) → (f g : Frame) → notedBy k f ≡ notedBy k g
+quiet q e z f g = rw e (z f ∙ sym (z g))
+
+pub node-quiet : (f : Frame) → notedBy NodeElt f ≡ 0
+unfolding notedBy
+node-quiet f = refl
+
+pub property-quiet : (f : Frame) → notedBy PropertyElt f ≡ 0
+unfolding notedBy
+property-quiet f = refl
+
+pub collection-quiet : (f : Frame) → notedBy ParseTypeCollectionPropertyElt f ≡ 0
+unfolding notedBy
+collection-quiet f = refl
+
+pub literal-quiet : (f : Frame) → notedBy ParseTypeLiteralPropertyElt f ≡ 0
+unfolding notedBy
+literal-quiet f = refl
+
 -- ---- the law
 
 module _ {r : Registers} {fs bs is w : List ℕ} (x : Valid r fs bs is w) (n : ℕ) (d : r .counts .depth ≡ suc n) where
@@ -106,13 +128,14 @@ module _ {r : Registers} {fs bs is w : List ℕ} (x : Valid r fs bs is w) (n : �
       (elementOf (frameAt fs n) (bindingsOf bs w (first (frameAt fs n)) (r .counts .outer - first (frameAt fs n))) w (subjectBelow fs w n)))
       ∷ framesOf fs bs w n (first (frameAt fs n)))
 
-  pub retailed : {gs v : List ℕ} {g : Frame} {q : Bool} (K : What → What) (note : Part → Part) → Alike (frameAt fs n) g → StoredFrame fs n g gs q → Kept w v 0 (at (frameAt fs n) TAIL) → Kept w v (r .store .low) 65_536
+  -- another tail, and another count of what is noted
+  pub renoted : {gs v : List ℕ} {g : Frame} {q : Bool} (K : What → What) (note : Part → Part) → (noted : ℕ) → noted ≤ 1_024 → noted + notedOf (frameAt fs n) ≡ r .store .noted + notedOf g → Alike (frameAt fs n) g → StoredFrame fs n g gs q → Kept w v 0 (at (frameAt fs n) TAIL) → Kept w v (r .store .low) 65_536
       → length v ≡ length w → at (frameAt fs n) TAIL ≤ at g END → at g END ≤ r .store .low → kindOk (g .kind) g v ≡ true
       → ((s : Subject) → whatOf (frameAt fs n .kind) g v s ≡ K (whatOf (frameAt fs n .kind) (frameAt fs n) w s))
       → partOf (frameAt fs n .kind) g v ≡ note (partOf (frameAt fs n .kind) (frameAt fs n) w)
-      → Holds (toppedTo r (at g END)) gs bs is v (startOf r w) (topped K note) (r .flags .rooted) (r .counts .labels)
+      → Holds (notingTo r (at g END) noted) gs bs is v (r .mode) (startOf r w) (topped K note) (r .flags .rooted) (r .counts .labels)
   unfolding topped
-  retailed {gs} {v} {g} {q} K note a st k kl lv up lt ok what noted =
+  renoted {gs} {v} {g} {q} K note noted nf ns a st k kl lv up lt ok what part =
       let t = top-frame x n d in
       let f : Frame = frameAt fs n in
       let u : Rising f = rising f (t .up) in
@@ -144,17 +167,27 @@ module _ {r : Registers} {fs bs is w : List ℕ} (x : Valid r fs bs is w) (n : �
         firsts = a .least;
         sound = sound;
       } in
-      let h = changed x n d o kl (st .same) lv lt in
+      let h = changed x n d o kl (st .same) lv lt noted nf ns in
       let s : subjectBelow gs v n ≡ subjectBelow fs w n = below-kept bs (r .store .base) n (at f NAME) (first f) kf kb (under x n d) in
       let b : bindingsOf bs v (first f) (r .counts .outer - first f) ≡ bindingsOf bs w (first f) (r .counts .outer - first f) =
       bindings-kept (kept-all {w = bs} {lo = 0} {hi = r .counts .outer * 3}) k (first f) (r .counts .outer - first f) (at f BINDINGS) (at f BASE) (omega arith) (omega arith) (omega arith) (omega arith) (t .bound) in
       record {
         valid = h .valid;
+        chosen = refl;
         base = h .base;
-        elements = h .elements ∙ rw (s, b, alike-element a u k K note (bindingsOf bs w (first f) (r .counts .outer - first f)) (subjectBelow fs w n) (what (subjectBelow fs w n)) noted);
+        elements = h .elements ∙ rw (s, b, alike-element a u k K note (bindingsOf bs w (first f) (r .counts .outer - first f)) (subjectBelow fs w n) (what (subjectBelow fs w n)) part);
         root = refl;
         count = refl;
       }
+
+  -- another tail, of an element that has noted as much as before
+  pub retailed : {gs v : List ℕ} {g : Frame} {q : Bool} (K : What → What) (note : Part → Part) → notedOf g ≡ notedOf (frameAt fs n) → Alike (frameAt fs n) g → StoredFrame fs n g gs q
+      → Kept w v 0 (at (frameAt fs n) TAIL) → Kept w v (r .store .low) 65_536
+      → length v ≡ length w → at (frameAt fs n) TAIL ≤ at g END → at g END ≤ r .store .low → kindOk (g .kind) g v ≡ true
+      → ((s : Subject) → whatOf (frameAt fs n .kind) g v s ≡ K (whatOf (frameAt fs n .kind) (frameAt fs n) w s))
+      → partOf (frameAt fs n .kind) g v ≡ note (partOf (frameAt fs n .kind) (frameAt fs n) w)
+      → Holds (toppedTo r (at g END)) gs bs is v (r .mode) (startOf r w) (topped K note) (r .flags .rooted) (r .counts .labels)
+  retailed K note e = renoted K note (r .store .noted) (x .few) (omega arith)
 
 -- ---- on the definitions' side
 

@@ -7,6 +7,7 @@ ghost use Rattle.state_stack.specs.Change.{toppedTo, labelledTo};
 ghost use Rattle.state_stack.specs.Calls.{frameOf, Pushes, Pops, Binds, topFrame, sameKind, Texts, Xmls, CountsLi, Tails};
 
 pub mod nodes;
+pub mod packets;
 
 use copy::words::wide;
 use label::BlankNodeIdGenerator;
@@ -73,6 +74,7 @@ pub fn pop(r: Registers, frames: &[u32]) -> Changed
         base: r.store.base,
         top,
         low: r.store.low,
+        noted: nodes::minus(r.store.noted, state::noted_of(f)),
     };
     let counts = Counts {
         depth,
@@ -83,7 +85,7 @@ pub fn pop(r: Registers, frames: &[u32]) -> Changed
     };
     Changed {
         ok: true,
-        registers: Registers::of(r.flags, store, counts),
+        registers: Registers::of(r.mode, r.flags, store, counts),
     }
 }
 
@@ -195,11 +197,11 @@ pub fn count_li(r: Registers, frames: &mut [u32]) -> bool
     if r.counts.depth == 0 {
         return false;
     }
-    let count = has[Frame::COUNT];
+    let count = wide(has[Frame::COUNT]);
     if count as u64 >= BlankNodeIdGenerator::MOST_LABELS {
         return false;
     }
-    has[Frame::COUNT] = count + 1;
+    has[Frame::COUNT] = (count + 1) as u32;
     Frame::store(frames, r.counts.depth - 1, Frame { kind, at, has })
 }
 
@@ -237,6 +239,7 @@ fn push_frame(r: Registers, frames: &mut [u32], f: Frame, bound: usize) -> Chang
         base: r.store.base,
         top,
         low: r.store.low,
+        noted: r.store.noted,
     };
     let counts = Counts {
         depth,
@@ -247,7 +250,7 @@ fn push_frame(r: Registers, frames: &mut [u32], f: Frame, bound: usize) -> Chang
     };
     Changed {
         ok: true,
-        registers: Registers::of(flags, store, counts),
+        registers: Registers::of(r.mode, flags, store, counts),
     }
 }
 
@@ -306,8 +309,9 @@ pub fn with_top(r: Registers, top: usize) -> Registers
         base: r.store.base,
         top,
         low: r.store.low,
+        noted: r.store.noted,
     };
-    Registers::of(r.flags, store, r.counts)
+    Registers::of(r.mode, r.flags, store, r.counts)
 }
 
 pub fn with_labels(r: Registers, labels: u64) -> Registers
@@ -320,7 +324,7 @@ pub fn with_labels(r: Registers, labels: u64) -> Registers
         bindings: r.counts.bindings,
         labels,
     };
-    Registers::of(r.flags, r.store, counts)
+    Registers::of(r.mode, r.flags, r.store, counts)
 }
 
 pub fn same_kind(a: Kind, b: Kind) -> bool

@@ -206,7 +206,8 @@ fn blank_byte(blank: u32) -> u8
     if blank == 0 { 0 } else { 1 }
 }
 
-fn minus(a: usize, b: usize) -> usize
+// What is left, or 0.
+pub fn minus(a: usize, b: usize) -> usize
     ensures { λ r. ⌜ r ≡ a - b ⌝ }
 {
     if a < b { 0 } else { a - b }

@@ -104,6 +104,18 @@ impl Frame {
 
     pub const MARKS: usize = Self::FIRST + 1;
 
+    // What an element is to a packet, in the word that properties use for their object: nothing; it waits for its first child; that is
+    // noted. Of an rdf:Alt: that its first rdf:li carries xml:lang.
+    pub const PART: usize = Self::PENDING;
+
+    pub const ORDINARY: u32 = 0;
+
+    pub const AWAITED: u32 = 1;
+
+    pub const NOTED: u32 = 2;
+
+    pub const CARRIED: u32 = 3;
+
     // Words of a frame: its kind and its places, its marks.
     const HEAD: usize = 1 + Self::PLACES;
 

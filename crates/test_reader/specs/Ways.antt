@@ -14,7 +14,6 @@ use borrow.Author.Tests.{eq-eqb, ne-eqb}
 use Rattle.spec.specs.Bytes.{Bytes, same, begins}
 use Rattle.spec.specs.Numbers.{Answer, refuse, good}
 use Rattle.spec.specs.declared.Mode.{Mode}
-use Rattle.spec.specs.Modes.{baseMode}
 use Rattle.spec.specs.Document.{fresh}
 use Rattle.spec.specs.Calls.{isOpen, noDocument, callStart, callStep}
 use Rattle.spec.specs.Calls as calls
@@ -84,9 +83,10 @@ pub record Ends (room : ℕ) (input e : Bytes) (q : calls.State) (r : Ended) (w 
   pub behind : meaningOf (r .state) w i ≡ lastState (steps room input q)
 
 -- a whole document: a refused start is its end
-pub record Runs (room : ℕ) (lengths : Bool) (base : Option Bytes) (input e : Bytes) (r : Ended) : Type 0 where
-  pub number : r .number ≡ pick (eqb (callStart lengths baseMode base noDocument .answer) 0) (lastNumber (steps room input (isOpen (fresh baseMode base)))) (callStart lengths baseMode base noDocument .answer)
-  pub lines : r .same ≡ same (pick (eqb (callStart lengths baseMode base noDocument .answer) 0) (steps room input (isOpen (fresh baseMode base)) .output) []) e
+pub record Runs (mode : Mode) (room : ℕ) (lengths : Bool) (base : Option Bytes) (input e : Bytes)
+    (r : Ended) : Type 0 where
+  pub number : r .number ≡ pick (eqb (callStart lengths mode base noDocument .answer) 0) (lastNumber (steps room input (isOpen (fresh mode base)))) (callStart lengths mode base noDocument .answer)
+  pub lines : r .same ≡ same (pick (eqb (callStart lengths mode base noDocument .answer) 0) (steps room input (isOpen (fresh mode base)) .output) []) e
 
 -- ---- a step, in the words of the definitions
 
@@ -231,20 +231,21 @@ start-opens l m b q h = go (calls.mayStart l b) h
     go (refuse n) e = absurd (number-positive n e)
     go (good tt) e = refl
 
-module _ {based : Bool} {base : Bytes} {s : State} {w i : List ℕ} {r : Report} {w′ : List ℕ} (x : Starts based base s w i r w′) where
-  started : callStart (lengthsRight w i) baseMode (baseOf based base) noDocument .answer ≡ numberOf (r .answer)
+module _ {mode : Mode} {based : Bool} {base : Bytes} {s : State} {w i : List ℕ} {r : Report} {w′ : List ℕ}
+    (x : Starts mode based base s w i r w′) where
+  started : callStart (lengthsRight w i) mode (baseOf based base) noDocument .answer ≡ numberOf (r .answer)
   started =
-      start-number (lengthsRight w i) baseMode (baseOf based base) noDocument (meaningOf s w i) ∙ sym (x .meets .answer)
+      start-number (lengthsRight w i) mode (baseOf based base) noDocument (meaningOf s w i) ∙ sym (x .meets .answer)
 
   module _ {n : ℕ} (u : n ≡ numberOf (r .answer)) where
-    pub run-refused : {room : ℕ} {input e : Bytes} → 0 < n → Runs room (lengthsRight w i) (baseOf based base) input e (record { state = r .state; number = n; same = eqb 0 (length e) })
+    pub run-refused : {room : ℕ} {input e : Bytes} → 0 < n → Runs mode room (lengthsRight w i) (baseOf based base) input e (record { state = r .state; number = n; same = eqb 0 (length e) })
     run-refused {e = e} z =
-        let f : eqb (callStart (lengthsRight w i) baseMode (baseOf based base) noDocument .answer) 0 ≡ false = ne-eqb (callStart (lengthsRight w i) baseMode (baseOf based base) noDocument .answer) 0 (λ y. omega (arith, started)) in
+        let f : eqb (callStart (lengthsRight w i) mode (baseOf based base) noDocument .answer) 0 ≡ false = ne-eqb (callStart (lengthsRight w i) mode (baseOf based base) noDocument .answer) 0 (λ y. omega (arith, started)) in
         record { number = rw f (u ∙ sym started); lines = rw f (sym (same-none e 0 (omega arith))) }
 
-    pub run-done : {room : ℕ} {input e : Bytes} → n ≤ 0 → {x : Ended} {w″ i″ : List ℕ} → Ends room input e (meaningOf (r .state) w′ i) x w″ i″ → Runs room (lengthsRight w i) (baseOf based base) input e x
+    pub run-done : {room : ℕ} {input e : Bytes} → n ≤ 0 → {x : Ended} {w″ i″ : List ℕ} → Ends room input e (meaningOf (r .state) w′ i) x w″ i″ → Runs mode room (lengthsRight w i) (baseOf based base) input e x
     run-done z y =
         let o : numberOf (r .answer) ≡ 0 = omega arith in
-        let f : eqb (callStart (lengthsRight w i) baseMode (baseOf based base) noDocument .answer) 0 ≡ true = eq-eqb _ 0 (started ∙ o) in
-        let p : meaningOf (r .state) w′ i ≡ isOpen (fresh baseMode (baseOf based base)) = x .meets .behind ∙ start-opens _ _ _ _ (sym (x .meets .answer) ∙ o) in
+        let f : eqb (callStart (lengthsRight w i) mode (baseOf based base) noDocument .answer) 0 ≡ true = eq-eqb _ 0 (started ∙ o) in
+        let p : meaningOf (r .state) w′ i ≡ isOpen (fresh mode (baseOf based base)) = x .meets .behind ∙ start-opens _ _ _ _ (sym (x .meets .answer) ∙ o) in
         record { number = rw (f, ← p) (y .number); lines = rw (f, ← p) (y .lines) }

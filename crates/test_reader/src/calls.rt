@@ -6,6 +6,7 @@ use libc::STDOUT_FILENO;
 use reader_contract::Report;
 use reader_contract::State;
 use reader_contract::fed::Fed;
+use spec::Mode;
 use state::Registers;
 use state_ids::IdTable;
 use state_words::Frame;
@@ -131,7 +132,7 @@ fn stores() {
 // Start with the stores, and step and finish of no document.
 fn begins(what: &[u8], work: &mut [u8], ids: &mut [u8]) {
     let before = State::none();
-    let started = reader::start(before, false, b"", work, ids);
+    let started = reader::start(before, Mode::base(), false, b"", work, ids);
     print(b"start, ");
     report(what, started);
     behind(what, before, work, ids);
@@ -207,7 +208,7 @@ fn first_step(what: &[u8], input: &[u8], last: bool) {
 
 // A document that begins without a base.
 fn begun(work: &mut [u8], ids: &[u8]) -> State {
-    let started = reader::start(State::none(), false, b"", work, ids);
+    let started = reader::start(State::none(), Mode::base(), false, b"", work, ids);
     started.state
 }
 

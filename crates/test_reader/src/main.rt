@@ -2,10 +2,13 @@
 mod calls;
 mod replay;
 
+use spec::Mode;
+
 fn main() {
-    replay::replay_file(b"documents");
-    replay::replay_file(b"numbers");
-    replay::replay_file(b"limits");
-    replay::replay_file(b"w3c/tests");
+    replay::replay_file(b"documents", Mode::base());
+    replay::replay_file(b"numbers", Mode::base());
+    replay::replay_file(b"limits", Mode::base());
+    replay::replay_file(b"w3c/tests", Mode::base());
+    replay::replay_file(b"packets", Mode::xmp());
     calls::try_all();
 }

@@ -10,6 +10,7 @@ use libc::STDOUT_FILENO;
 use reader_contract::Report;
 use reader_contract::State;
 use reader_contract::fed::Fed;
+use spec::Mode;
 use state::Registers;
 use state_ids::IdTable;
 
@@ -69,11 +70,11 @@ impl Way {
     }
 }
 
-// All documents of a file, a verdict on each to a line, and how many there were.
+// All documents of a file, in this mode, a verdict on each to a line, and how many there were.
 //
 // A document is a line `= NAME`, or `= NAME BASE`, its PYX lines, a line `> NUMBER` with the number that it must end in, the lines that it
 // must give, and a line `.`. These marks begin no line of PYX or N-Triples.
-pub fn replay_file(path: &[u8]) -> Tally
+pub fn replay_file(path: &[u8], mode: Mode) -> Tally
     ensures { λ r. ⌜ r .same ≤ r .count ⌝ }
 {
     let file = os::open_read(path);
@@ -84,11 +85,12 @@ pub fn replay_file(path: &[u8]) -> Tally
     let mut text = file_buffer();
     let n = io::read_full(file, &mut text);
     libc::close(file);
-    replay_all(&text[..n])
+    replay_all(&text[..n], mode)
 }
 
 // A document from start to finish, or to its refusal.
 pub fn run(
+    mode: Mode,
     based: bool,
     base: &[u8],
     input: &[u8],
@@ -97,10 +99,10 @@ pub fn run(
     ids: &mut [u8],
     out: &mut [u8],
 ) -> Ended
-    ensures { λ r. ⌜ Runs (length (now (out .entry))) (lengthsRight (now (work .entry)) (now (ids .entry))) (baseOf based (now (base .entry))) (now (input .entry)) (now (expected .entry)) r ⌝ }
+    ensures { λ r. ⌜ Runs mode (length (now (out .entry))) (lengthsRight (now (work .entry)) (now (ids .entry))) (baseOf based (now (base .entry))) (now (input .entry)) (now (expected .entry)) r ⌝ }
 {
     let before = State::none();
-    let report = reader::start(before, based, base, work, ids);
+    let report = reader::start(before, mode, based, base, work, ids);
     let state = report.state;
     let answer = report.answer;
     let number = answer.number();
@@ -179,13 +181,13 @@ pub fn line_after(s: &[u8], from: usize) -> usize
     s.len()
 }
 
-fn replay_all(text: &[u8]) -> Tally
+fn replay_all(text: &[u8], mode: Mode) -> Tally
     ensures { λ r. ⌜ r .same ≤ r .count ⌝ }
 {
     let mut work = [0u8; Registers::STORE];
     let mut ids = [0u8; IdTable::BYTES];
     let mut out = [0u8; Fed::ROOM];
-    let tally = replay_each(text, &mut work, &mut ids, &mut out);
+    let tally = replay_each(text, mode, &mut work, &mut ids, &mut out);
     print_number(tally.same);
     print(b" the same of ");
     print_number(tally.count);
@@ -194,7 +196,7 @@ fn replay_all(text: &[u8]) -> Tally
 }
 
 // A document finds stores and output as the one before left them.
-fn replay_each(text: &[u8], work: &mut [u8], ids: &mut [u8], out: &mut [u8]) -> Tally
+fn replay_each(text: &[u8], mode: Mode, work: &mut [u8], ids: &mut [u8], out: &mut [u8]) -> Tally
     ensures { λ r. ⌜ r .same ≤ r .count ⌝ }
 {
     let mut at = 0;
@@ -202,7 +204,7 @@ fn replay_each(text: &[u8], work: &mut [u8], ids: &mut [u8], out: &mut [u8]) -> 
     let mut same: usize = 0;
     while at < text.len() {
         let end = line_with(text, at, b'.');
-        same += replay_document(part(text, at, end), work, ids, out);
+        same += replay_document(part(text, at, end), mode, work, ids, out);
         count += 1;
         at = line_after(text, end);
     }
@@ -210,7 +212,7 @@ fn replay_each(text: &[u8], work: &mut [u8], ids: &mut [u8], out: &mut [u8]) -> 
 }
 
 // The document up to its line `.`: 1 where it is as it must be.
-fn replay_document(doc: &[u8], work: &mut [u8], ids: &mut [u8], out: &mut [u8]) -> usize
+fn replay_document(doc: &[u8], mode: Mode, work: &mut [u8], ids: &mut [u8], out: &mut [u8]) -> usize
     ensures { λ r. ⌜ r ≤ 1 ⌝ }
 {
     let body = line_after(doc, 0);
@@ -219,6 +221,7 @@ fn replay_document(doc: &[u8], work: &mut [u8], ids: &mut [u8], out: &mut [u8]) 
     let name = word_end(doc, 2);
     let base = ahead(name, 1, body);
     let ended = run(
+        mode,
         base < body,
         part(doc, base, word_end(doc, base)),
         part(doc, body, wanted),

@@ -1,6 +1,7 @@
 // Open elements, bindings, held bytes and the work store filled to the last and one past, a Collection read back; the answers printed.
 use crate::printing::answer;
 use crate::printing::number;
+use spec::Mode;
 use state::Registers;
 use state_stack::Found;
 use state_words::Frame;
@@ -19,12 +20,17 @@ pub fn try_all() {
     bases();
 }
 
+// The registers of a fresh document in the base mode.
+fn started(based: bool, base: usize) -> Registers {
+    Registers::started(Mode::base(), based, base)
+}
+
 // ---- the limits
 
 // How many nodes can be open: 64.
 fn deepest() {
     let mut frames = [0u32; Frame::TABLE];
-    let mut r = Registers::started(false, 0);
+    let mut r = started(false, 0);
     let mut n: usize = 0;
     let mut at: u32 = 0;
     while n < 70 {
@@ -59,7 +65,7 @@ fn most_inside() {
     let mut inners = [0u32; Row::INNERS];
     let mut frames = [0u32; Frame::TABLE];
     let mut r = pushed(
-        Registers::started(false, 0),
+        started(false, 0),
         &mut frames,
         Kind::ParseTypeLiteralPropertyElt,
         0,
@@ -154,7 +160,7 @@ fn starts() {
     let bindings = [0u32; Row::BINDINGS];
     let inners = [0u32; Row::INNERS];
     let short = [0u8; Registers::STORE - 1];
-    let r = Registers::started(false, 0);
+    let r = started(false, 0);
     answer(b"started", is_valid(r, &frames));
     answer(
         b"short store",
@@ -165,12 +171,9 @@ fn starts() {
 // A base has bytes only where there is one.
 fn bases() {
     let frames = [0u32; Frame::TABLE];
-    answer(
-        b"base without one",
-        is_valid(Registers::started(false, 1), &frames),
-    );
-    answer(b"base", is_valid(Registers::started(true, 1), &frames));
-    let found = state_inner::base_in_force(Registers::started(true, 7), &frames);
+    answer(b"base without one", is_valid(started(false, 1), &frames));
+    answer(b"base", is_valid(started(true, 1), &frames));
+    let found = state_inner::base_in_force(started(true, 7), &frames);
     number(b"base of", length_of(found));
 }
 
@@ -190,7 +193,7 @@ fn is_valid(r: Registers, frames: &[u32]) -> bool {
 
 // A property element in a node that is the root.
 fn in_node(frames: &mut [u32], kind: Kind) -> Registers {
-    let r = pushed(Registers::started(false, 0), frames, Kind::NodeElt, 0);
+    let r = pushed(started(false, 0), frames, Kind::NodeElt, 0);
     pushed(r, frames, kind, 2)
 }
 

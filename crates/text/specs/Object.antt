@@ -29,7 +29,7 @@ use Rattle.state_stack.specs.declared.Changed.{Changed}
 use Rattle.state_stack.specs.Calls.{topFrame, sameKind, tailTo, Texts, mayTail}
 use Rattle.state_stack.specs.Change.{toppedTo, top-frame}
 use Rattle.state_stack.specs.Laws.{by, text-holds, topmost, top-deep, length-at, length-has}
-use Rattle.state_inner.specs.Calls.{heldIn, held-is}
+use Rattle.state_inner.specs.Calls.{heldIn, held-wild, held-is}
 use Rattle.event.specs.declared.Place.{Place}
 use Rattle.event.specs.declared.Place.the-variants.{Outside, Nodes, Properties, NodesOrText, Xml}
 use Rattle.event.specs.declared.Outcome.{Outcome}
@@ -166,16 +166,20 @@ module _ {r : Registers} {fs bs is w : List ℕ} (v : Valid r fs bs is w) (k : s
         kept = λ n. absurd (false≢true (sym n ∙ k));
       }
 
+  -- what is noted lies below the object
+  noted-below : r .store .noted ≤ at (topFrame r fs) TAIL
+  noted-below = omega (arith, room (text-holds v emptied refl .valid) .noted)
+
   -- what is held with a text in place of the object
   held-text : (s : Bytes) → placeIn (elementsOf r fs bs is w) ≡ D.nodesOrText
-      → heldWith (startOf r w) (changeValue (takesText s) (elementsOf r fs bs is w)) ≡ at (topFrame r fs) TAIL + length s + (65_536 - r .store .low)
+      → heldWith (startOf r w) (changeValue (takesText s) (elementsOf r fs bs is w)) ≡ at (topFrame r fs) TAIL - r .store .noted + length s + (65_536 - r .store .low)
   unfolding heldWith
   held-text s p =
       let b = bottom in
       let h = text-holds v emptied refl in
       let z = held-with h in
       let y = held-is (toppedTo r (at (topFrame r fs) TAIL + 0)) (b .low) (omega (arith, b .up, v .apart)) in
-      omega (arith, text-bytes s (elementsOf r fs bs is w) p)
+      omega (arith, text-bytes s (elementsOf r fs bs is w) p, noted-below)
 
 -- ---- `text_fits`: the registers with the text on top
 
@@ -189,22 +193,20 @@ module _ (r : Registers) where
   unfolding heldIn L.all
   held-beyond t h = rw (lt-leb t (r .store .low) h) (drop-and (leb (r .store .low) 65_536))
     where
-      drop-and : (x : Bool) → pick (x && false) (t + (65_536 - r .store .low)) 65_536 ≡ 65_536
+      drop-and : (x : Bool) → pick (x && false) (t - r .store .noted + (65_536 - r .store .low)) 65_536 ≡ 65_536
       drop-and true = refl
       drop-and false = refl
 
-  pub held-large : (t : ℕ) → 49_152 < t → 49_152 < heldIn (toppedTo r t)
-  unfolding heldIn L.all
-  held-large t h = go (leb (r .store .low) 65_536 && leb t (r .store .low))
-    where
-      go : (x : Bool) → 49_152 < pick x (t + (65_536 - r .store .low)) 65_536
-      go true = omega arith
-      go false = omega arith
+  pub held-large : (t : ℕ) → 65_536 < t → heldIn (toppedTo r t) ≡ 65_536
+  held-large t h =
+      by (leb (r .store .low) 65_536)
+      (λ y. held-beyond t (omega (arith, leb-true (r .store .low) 65_536 y)))
+      (λ z. sym (held-wild (toppedTo r t) (leb-false (r .store .low) 65_536 z)))
 
   -- the tests of `text_fits`
-  pub fits-not : (a n : ℕ) → 49_152 < n → false ≡ leb (heldIn (toppedTo r (a + n))) mostHeldBytes
+  pub fits-not : (a n : ℕ) → 65_536 < n → false ≡ leb (heldIn (toppedTo r (a + n))) mostHeldBytes
   unfolding L.all
-  fits-not a n l = sym (lt-leb (heldIn (toppedTo r (a + n))) 49_152 (held-large (a + n) (omega arith)))
+  fits-not a n l = sym (lt-leb (heldIn (toppedTo r (a + n))) 49_152 (omega (arith, held-large (a + n) (omega arith))))
 
   pub fits-top : {f : Frame} {q : Registers} {b : Bool} {a : ℕ} (fs : List ℕ) (n : ℕ) → f ≡ topFrame r fs → a ≡ at f TAIL → q ≡ toppedTo r (a + n) → b ≡ leb (heldIn q) mostHeldBytes
       → b ≡ leb (heldIn (textTo r fs n)) mostHeldBytes
@@ -231,6 +233,8 @@ weighed : {r : Registers} {fs bs is w : List ℕ} (s : Bytes) → Valid r fs bs 
 weighed {r} {fs} {bs} {is} {w} s v p =
     let t : ℕ = at (topFrame r fs) TAIL + length s in
     let h = held-text v (property-top r fs p) s (stands v p) in
+    let u = noted-below v (property-top r fs p) in
+    let f = v .few in
     let o = room v .low in
     by (leb t (r .store .low))
     (λ y.

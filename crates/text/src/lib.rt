@@ -86,7 +86,7 @@ fn take_text(r: Registers, frames: &mut [u32], work: &mut [u8], s: &[u8]) -> Out
 fn text_fits(r: Registers, frames: &[u32], n: usize) -> bool
     ensures { λ b. ⌜ b ≡ leb (heldIn (textTo r (now (frames .entry)) n)) mostHeldBytes ⌝ }
 {
-    if n > Registers::MOST_HELD {
+    if n > Registers::STORE {
         return false;
     }
     let f = state_stack::top(r, frames);

@@ -137,7 +137,7 @@ module _ (n : Bytes) (as′ : List Attribute) (d : Doc) where
   unfolding copyElement
   copied-all = always-require All-known _ _ _ λ e. always-then _ All-known _ _ copied-attributes λ us k. (e, k)
 
-  wrapped-all : Wrapping (d .mode .profile) n as′ (d .frames) → Always All-known (openWrapper n as′ d)
+  wrapped-all : Wrapping (d .mode .xmp) n as′ (d .frames) → Always All-known (openWrapper n as′ d)
   unfolding openWrapper
   wrapped-all w =
       always-then _ All-known _ _ copied-attributes λ us k.
@@ -146,7 +146,7 @@ module _ (n : Bytes) (as′ : List Attribute) (d : Doc) where
   opened-in : (p : Place) → Always All-known (openIn p n as′ d)
   unfolding openIn
   opened-in outside =
-      always-if All-known _ _ _ (λ w. wrapped-all (wrapping (d .mode .profile) n as′ (d .frames) w)) λ w. opened-known openRoot
+      always-if All-known _ _ _ (λ w. wrapped-all (wrapping (d .mode .xmp) n as′ (d .frames) w)) λ w. opened-known openRoot
   opened-in nodes = opened-known openNode
   opened-in nodesOrText = opened-known openNode
   opened-in (properties s li) = opened-known λ t. openProperty t s li

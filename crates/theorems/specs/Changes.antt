@@ -17,7 +17,6 @@ use Rattle.spec.specs.Productions.{Opened, openNode, openProperty, openRoot}
 use Rattle.spec.specs.XmlLiteral.{startTagXml, endTagXml, textXml, takesXml, addXml}
 use Rattle.spec.specs.Xmp.{openWrapper, wrapped, keeps}
 use Rattle.spec.specs.Opening.{Step, isSecondRoot, countsFit, opened}
-use Rattle.spec.specs.declared.Profile.the-variants.{XmpProfile}
 use Rattle.spec.specs.Opening as G
 use Rattle.spec.specs.EndTag.{takesNode, endValue}
 use Rattle.spec.specs.EndTag as C
@@ -53,9 +52,9 @@ pub data Change (d : Doc) : List Triple → Doc → Type 0 where
       → Change d [] (withFrames (copy n as′ ∷ changeValue (takesXml x) (d .frames)) d)
   -- a start tag outside Literal content
   opens : (n : Bytes) (as′ : List Attribute) (t : Tag) (o : Opened) → isSecondRoot d ≡ false → countsFit as′ (d .frames) ≡ true → readTag n as′ d ≡ good t
-      → keeps (d .mode .profile) (d .frames) t ≡ true → Produces (placeIn (d .frames)) t (d .labels) o → isShort t ≡ true → Change d (opened t d o .0) (opened t d o .1)
+      → keeps (d .mode .xmp) (d .frames) t ≡ true → Produces (placeIn (d .frames)) t (d .labels) o → isShort t ≡ true → Change d (opened t d o .0) (opened t d o .1)
   -- the wrapper's start tag
-  wraps : (n : Bytes) (as′ : List Attribute) → isSecondRoot d ≡ false → d .mode .profile ≡ XmpProfile → d .frames ≡ [] → countsFit as′ (d .frames) ≡ true
+  wraps : (n : Bytes) (as′ : List Attribute) → isSecondRoot d ≡ false → d .mode .xmp ≡ true → d .frames ≡ [] → countsFit as′ (d .frames) ≡ true
       → Change d [] (wrapped n as′ d)
   -- end tags
   ends-root : (f : Frame) (fs : List Frame) → d .frames ≡ f ∷ fs → f .kind ≡ rdfRDF → Change d [] (withFrames fs d)
@@ -92,13 +91,13 @@ open-element : (production : Tag → ℕ → Answer Opened) (n : Bytes) (as′ :
 unfolding G.openElement
 open-element production n as′ d z c k =
     always-bind (λ t. readTag n as′ d ≡ good t) (Changes d) _ _ (always-self (readTag n as′ d)) λ t r.
-    always-bind (λ o. (production t (d .labels) ≡ good o) × (keeps (d .mode .profile) (d .frames) t ≡ true)) (Changes d) _ _ (rules-kept (d .mode) (d .frames) t (production t (d .labels))) λ o q.
+    always-bind (λ o. (production t (d .labels) ≡ good o) × (keeps (d .mode .xmp) (d .frames) t ≡ true)) (Changes d) _ _ (rules-kept (d .mode) (d .frames) t (production t (d .labels))) λ o q.
     always-require (Changes d) _ _ _ λ s. opens n as′ t o z c r (q .1) (k t o (q .0)) s
 
 open-in : (p : Place) (n : Bytes) (as′ : List Attribute) (d : Doc) → placeIn (d .frames) ≡ p → isSecondRoot d ≡ false → countsFit as′ (d .frames) ≡ true → Always (Changes d) (G.openIn p n as′ d)
 unfolding G.openIn G.copyElement openWrapper withFrames addXml
 open-in outside n as′ d e z c =
-    always-if (Changes d) _ _ _ (λ w. always-after (Changes d) _ _ (always-after (Changes d) _ _ (let u : Wrapping (d .mode .profile) n as′ (d .frames) = wrapping (d .mode .profile) n as′ (d .frames) w in wraps n as′ z (u .profile) (u .outermost) c)))
+    always-if (Changes d) _ _ _ (λ w. always-after (Changes d) _ _ (always-after (Changes d) _ _ (let u : Wrapping (d .mode .xmp) n as′ (d .frames) = wrapping (d .mode .xmp) n as′ (d .frames) w in wraps n as′ z (u .xmp) (u .outermost) c)))
     λ w. open-element openRoot n as′ d z c λ t o q. rw e q
 open-in nodes n as′ d e z c = open-element openNode n as′ d z c λ t o q. rw e q
 open-in nodesOrText n as′ d e z c = open-element openNode n as′ d z c λ t o q. rw e q

@@ -178,7 +178,7 @@ module _ (n : Bytes) (as′ : List Attribute) (d : Doc) where
   unfolding G.openIn G.copyElement openWrapper wrapped addXml withFrames isXml
   open-in outside e =
       always-if Opens _ _ _
-      (λ w. let u : Wrapping (d .mode .profile) n as′ (d .frames) = wrapping (d .mode .profile) n as′ (d .frames) w in
+      (λ w. let u : Wrapping (d .mode .xmp) n as′ (d .frames) = wrapping (d .mode .xmp) n as′ (d .frames) w in
       always-after Opens _ _ (always-after Opens _ _ (on-bottom (d .frames) (u .iri) (u .outermost) (u .expands) refl, refl)))
       λ w. open-element openRoot λ t. root-begins t (d .labels)
   open-in nodes e = open-element openNode λ t. node-begins t (d .labels)

@@ -183,13 +183,13 @@ open-element production n as′ d h =
     always-bind (Fits t) (Started false as′ d) _ _ (always-rules (Fits t) _ _ (h t)) λ o k.
     always-require (Started false as′ d) _ _ _ λ e.
     (let l = tag-language n as′ d t r in
-    let same : languageInForce (countLi (t .iri) (noted (d .mode .profile) t) (d .frames)) ≡ languageInForce (d .frames) = same-language _ (d .frames) (said-count (t .iri) _ (d .frames)) in
+    let same : languageInForce (countLi (t .iri) (noted (d .mode .xmp) t) (d .frames)) ≡ languageInForce (d .frames) = same-language _ (d .frames) (said-count (t .iri) _ (d .frames)) in
     (ap (orElse (t .ownTag)) same ∙ ap (λ (x : Option Bytes). orElse x (languageInForce (d .frames))) (l .0), rw (l .1) at k))
 
 open-in : (p : Place) (n : Bytes) (as′ : List Attribute) (d : Doc) → Always (Started (isMute p n as′ d) as′ d) (G.openIn p n as′ d)
 unfolding G.openIn G.copyElement openWrapper wrapped isMute withFrames addXml languageInForce orElse
 open-in outside n as′ d =
-    let Q : Step → Type 0 = Started (startsWrapper (d .mode .profile) n as′ (d .frames)) as′ d in
+    let Q : Step → Type 0 = Started (startsWrapper (d .mode .xmp) n as′ (d .frames)) as′ d in
     always-if Q _ _ _ (λ w. always-after Q _ _ (always-after Q _ _ (rw w (refl, tt)))) λ w. rw w (open-element openRoot n as′ d λ t. root-fits t (d .labels))
 open-in nodes n as′ d = open-element openNode n as′ d λ t. node-fits t (d .labels)
 open-in nodesOrText n as′ d = open-element openNode n as′ d λ t. node-fits t (d .labels)

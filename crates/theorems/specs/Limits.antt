@@ -17,8 +17,6 @@ use Rattle.spec.specs.Namespaces.{declared}
 use Rattle.spec.specs.NTriples.{Subject, Triple, decimal}
 use Rattle.spec.specs.Rdf.{rdf}
 use Rattle.spec.specs.declared.Mode.{Mode}
-use Rattle.spec.specs.declared.Profile.{Profile}
-use Rattle.spec.specs.declared.Profile.the-variants.{NoProfile, XmpProfile}
 use Rattle.spec.specs.Document.{Value, default, collection, literal, other, Property, Kind, rdfRDF, wrapper, nodeElement, propertyElement, xmlElement, Part, ordinary, topLevel, alternatives, Frame, Doc, fresh, withFrames, withLabels, withKind, withPart, inScope, Place, outside, nodes, nodesOrText, xml, properties, inValue, inKind, placeIn, changeValue, onValue, isXmlElement, valueBytes, frameBytes, heldBytes, fits}
 use Rattle.spec.specs.Document as D
 use Rattle.spec.specs.StartTag.{Tag, readTag, isShort, allShort}
@@ -208,32 +206,32 @@ count-kind i (propertyElement p v) c h = h
 count-kind i xmlElement c h = h
 
 -- what the profile remembers of a start tag that is short
-noted-short : (p : Profile) (t : Tag) → Short? (t .about) → (q : Part) → ShortPart q → ShortPart (noted p t q)
+noted-short : (p : Bool) (t : Tag) → Short? (t .about) → (q : Part) → ShortPart q → ShortPart (noted p t q)
 unfolding noted withChild if_then_else_
-noted-short NoProfile t a q h = h
-noted-short XmpProfile t a ordinary h = tt
-noted-short XmpProfile t a (topLevel none) h = a
-noted-short XmpProfile t a (topLevel (some b)) h = h
-noted-short XmpProfile t a (alternatives none) h = go (same (t .iri) (rdf "li"))
+noted-short false t a q h = h
+noted-short true t a ordinary h = tt
+noted-short true t a (topLevel none) h = a
+noted-short true t a (topLevel (some b)) h = h
+noted-short true t a (alternatives none) h = go (same (t .iri) (rdf "li"))
   where
     go : (b : Bool) → ShortPart (if b then alternatives (some (isSome (t .ownTag))) else alternatives none)
     go true = tt
     go false = tt
-noted-short XmpProfile t a (alternatives (some b)) h = tt
+noted-short true t a (alternatives (some b)) h = tt
 
 alt-short : (b : Bool) → ShortPart (if b then alternatives none else ordinary)
 unfolding if_then_else_
 alt-short true = tt
 alt-short false = tt
 
-new-short : (p : Profile) (q : Place) (i : Bytes) → ShortPart (newPart p q i)
+new-short : (p : Bool) (q : Place) (i : Bytes) → ShortPart (newPart p q i)
 unfolding newPart if_then_else_
-new-short NoProfile q i = tt
-new-short XmpProfile outside i = tt
-new-short XmpProfile nodes i = alt-short (same i (rdf "Alt"))
-new-short XmpProfile nodesOrText i = alt-short (same i (rdf "Alt"))
-new-short XmpProfile (properties s li) i = tt
-new-short XmpProfile xml i = tt
+new-short false q i = tt
+new-short true outside i = tt
+new-short true nodes i = alt-short (same i (rdf "Alt"))
+new-short true nodesOrText i = alt-short (same i (rdf "Alt"))
+new-short true (properties s li) i = tt
+new-short true xml i = tt
 
 count-every : (i : Bytes) (g : Part → Part) (fs : List Frame) → ((p : Part) → ShortPart p → ShortPart (g p)) → MayCount (placeIn fs) i → All ShortFrame fs → All ShortFrame (G.countLi i g fs)
 unfolding G.countLi placeIn withKind withPart
@@ -383,7 +381,7 @@ open-kept m as′ d t o h c r q s =
       open-frames = record {
         elements = rw count-length (c .elements);
         bindings = rw (e, count-scope) (c .bindings);
-        every = ((s .ownBase, p .1, new-short (d .mode .profile) (placeIn (d .frames)) (t .iri)), count-every (t .iri) _ (d .frames) (noted-short (d .mode .profile) t (s .about)) (p .0) (h .open-frames .every));
+        every = ((s .ownBase, p .1, new-short (d .mode .xmp) (placeIn (d .frames)) (t .iri)), count-every (t .iri) _ (d .frames) (noted-short (d .mode .xmp) t (s .about)) (p .0) (h .open-frames .every));
       };
     }
 

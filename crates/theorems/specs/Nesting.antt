@@ -8,8 +8,6 @@ use native.Mathlib.Omega.{arith}
 use Rattle.spec.specs.Bytes.{Bytes, if_then_else_, All}
 use Rattle.spec.specs.NTriples.{Subject, Triple}
 use Rattle.spec.specs.declared.Mode.{Mode}
-use Rattle.spec.specs.declared.Profile.{Profile}
-use Rattle.spec.specs.declared.Profile.the-variants.{NoProfile, XmpProfile}
 use Rattle.spec.specs.Document.{Value, default, collection, literal, other, Property, Kind, rdfRDF, wrapper, nodeElement, propertyElement, xmlElement, Part, Frame, Doc, fresh, withFrames, withLabels, withKind, withPart, Place, outside, nodes, nodesOrText, xml, properties, inValue, inKind, placeIn, changeValue, onValue, isXmlElement, subjectBytes, kindBytes, frameBytes}
 use Rattle.spec.specs.StartTag.{Tag}
 use Rattle.spec.specs.Productions.{Opened, openNode, openProperty, openRoot, ParseType, noParseType, asCollection, asResource, asLiteral, asOther}
@@ -39,16 +37,16 @@ in-xml (properties s li) h = absurd (false≢true h)
 in-xml xml h = refl
 
 -- where only the profile has a wrapper
-wraps-outside : (p : Profile) (q : Place) → Wraps p q → isXml q ≡ false
+wraps-outside : (p : Bool) (q : Place) → Wraps p q → isXml q ≡ false
 unfolding isXml
-wraps-outside NoProfile q h = absurd h
-wraps-outside XmpProfile q h = ap isXml h
+wraps-outside false q h = absurd h
+wraps-outside true q h = ap isXml h
 
 -- what stands outside Literal content stands in no Literal content
 pub outside-xml : (m : Mode) (k : Kind) (p : Place) → Stands m k p → isXml (inKind k) ≡ false → isXml p ≡ false
 unfolding inKind isXml
 outside-xml m rdfRDF p s h = ap isXml s
-outside-xml m (wrapper b) p s h = wraps-outside (m .profile) p s
+outside-xml m (wrapper b) p s h = wraps-outside (m .xmp) p s
 outside-xml m (nodeElement u li) p s h = s
 outside-xml m (propertyElement o v) p s h = ap isXml (s .1)
 outside-xml m xmlElement p s h = absurd (false≢true (sym h))
@@ -91,15 +89,15 @@ open-root m t n = always-if (Opens m outside) _ _ _ (λ e. refl) (λ e. open-nod
 same-subject : {s t : Subject} {m n : ℕ} → properties s m ≡ properties t n → s ≡ t
 same-subject e = cc
 
-wraps-li : (p : Profile) (s : Subject) (li li′ : ℕ) → Wraps p (properties s li) → Wraps p (properties s li′)
-wraps-li NoProfile s li li′ h = h
-wraps-li XmpProfile s li li′ h = cc
+wraps-li : (p : Bool) (s : Subject) (li li′ : ℕ) → Wraps p (properties s li) → Wraps p (properties s li′)
+wraps-li false s li li′ h = h
+wraps-li true s li li′ h = cc
 
 -- how many rdf:li the node around it has had
 stands-li : (m : Mode) (k : Kind) (s : Subject) (li li′ : ℕ) → Stands m k (properties s li) → Stands m k (properties s li′)
 unfolding isXml
 stands-li m rdfRDF s li li′ h = cc
-stands-li m (wrapper b) s li li′ h = wraps-li (m .profile) s li li′ h
+stands-li m (wrapper b) s li li′ h = wraps-li (m .xmp) s li li′ h
 stands-li m (nodeElement u j) s li li′ h = h
 stands-li m (propertyElement o v) s li li′ (j, e) = (li′, ap (λ (x : Subject). properties x li′) (same-subject e))
 stands-li m xmlElement s li li′ h = cc
@@ -204,10 +202,10 @@ without : (m : Mode) (f : Frame) (fs gs : List Frame) → gs ≡ f ∷ fs → Ne
 without m f fs gs is h = let k : Nested m (f ∷ fs) = rw is at h in k .1
 
 -- the wrapper stands where it opened
-wraps-in : (p : Profile) (fs : List Frame) → p ≡ XmpProfile → fs ≡ [] → Wraps p (placeIn fs)
+wraps-in : (p : Bool) (fs : List Frame) → p ≡ true → fs ≡ [] → Wraps p (placeIn fs)
 unfolding placeIn
-wraps-in NoProfile fs h e = let z : _≡_ {A = ℕ} 0 1 = cc in absurd (omega arith)
-wraps-in XmpProfile fs h e = ap placeIn e
+wraps-in false fs h e = let z : _≡_ {A = ℕ} 0 1 = cc in absurd (omega arith)
+wraps-in true fs h e = ap placeIn e
 
 nested : {d d′ : Doc} {us : List Triple} → Change d us d′ → Nested (d .mode) (d .frames) → Nested (d′ .mode) (d′ .frames)
 unfolding withFrames withLabels G.opened wrapped
@@ -217,7 +215,7 @@ nested {d} (takes-xml x e) h = change-nested (d .mode) (takesXml x) (d .frames) 
 nested {d} (copies m as′ x e c) h = (still-place (takesXml x) (d .frames) (xml-still x) ∙ e, change-nested (d .mode) (takesXml x) (d .frames) (xml-still x) h)
 nested {d} (opens m as′ t o z c r g q s) h =
     (stands-in-counted (d .mode) (o .kind) (t .iri) _ (d .frames) (produced (d .mode) (placeIn (d .frames)) t (d .labels) o q), count-nested (d .mode) (t .iri) _ (d .frames) h)
-nested {d} (wraps m as′ z p e c) h = (wraps-in (d .mode .profile) (d .frames) p e, h)
+nested {d} (wraps m as′ z p e c) h = (wraps-in (d .mode .xmp) (d .frames) p e, h)
 nested {d} (ends-root f fs is k) h = without (d .mode) f fs (d .frames) is h
 nested {d} (ends-wrapper f fs b is k) h = without (d .mode) f fs (d .frames) is h
 nested {d} (ends-node f fs s li is k) h = change-nested (d .mode) (C.takesNode s) fs (node-still s) (without (d .mode) f fs (d .frames) is h)

@@ -1,7 +1,7 @@
 -- Document 02, request 1: "rdf:ID, rdf:nodeID, rdf:datatype and every parseType but Resource are out". What that leaves of
 -- the open elements.
 use mathlib.Core.Path.{_≡_, refl, subst}
-use mathlib.Core.Bool.{true, not, false≢true}
+use mathlib.Core.Bool.{Bool, true, not, false≢true}
 use mathlib.Core.Option.{Option, none, some}
 use mathlib.Core.List.{List, [], _∷_}
 use Prim.Native.Nat.{ℕ}
@@ -9,8 +9,6 @@ use native.Mathlib.Omega.{arith}
 use Rattle.spec.specs.Bytes.{Bytes, ascii, if_then_else_, isSome, All}
 use Rattle.spec.specs.Bytes as B
 use Rattle.spec.specs.NTriples.{Subject, Triple}
-use Rattle.spec.specs.declared.Profile.{Profile}
-use Rattle.spec.specs.declared.Profile.the-variants.{XmpProfile}
 use Rattle.spec.specs.Modes.{xmpMode}
 use Rattle.spec.specs.Document.{Value, default, collection, literal, other, Property, Kind, rdfRDF, wrapper, nodeElement, propertyElement, xmlElement, Part, Frame, Doc, fresh, withFrames, withLabels, withKind, withPart, Place, outside, nodes, nodesOrText, xml, properties, inKind, inValue, placeIn, changeValue, onValue}
 use Rattle.spec.specs.StartTag.{Tag}
@@ -55,7 +53,7 @@ without t h =
     }
 
 -- every start tag that keeps the profile's rules is one
-pub kept-without : (fs : List Frame) (t : Tag) → keeps XmpProfile fs t ≡ true → Without t
+pub kept-without : (fs : List Frame) (t : Tag) → keeps true fs t ≡ true → Without t
 unfolding keeps
 kept-without fs t h = without t (and-right (keepsAround fs t) (hasNoneOut t) h)
 
@@ -178,10 +176,10 @@ no-xml (f ∷ fs) h e = go (f .kind) (h .0) e
 
 -- in the profile
 abbrev Kept : Doc → Type 0
-Kept d = (d .mode .profile ≡ XmpProfile) × NoneOut d
+Kept d = (d .mode .xmp ≡ true) × NoneOut d
 
-kept-in : (p : Profile) (fs : List Frame) (t : Tag) → p ≡ XmpProfile → keeps p fs t ≡ true → Without t
-kept-in p fs t e h = kept-without fs t (subst (λ (x : Profile). keeps x fs t ≡ true) e h)
+kept-in : (p : Bool) (fs : List Frame) (t : Tag) → p ≡ true → keeps p fs t ≡ true → Without t
+kept-in p fs t e h = kept-without fs t (subst (λ (x : Bool). keeps x fs t ≡ true) e h)
 
 entered-none : (i : Option Bytes) (ids : List Bytes) → i ≡ none → ids ≡ [] → enter i ids ≡ []
 unfolding enter
@@ -199,7 +197,7 @@ none-out {d} (takes-text v e) h = still _ h (plain-changed _ (text-plain v) (d .
 none-out {d} (takes-xml x e) h = still _ h (plain-changed _ (xml-plain x) (d .frames) (h .1 .elements))
 none-out {d} (copies m as′ x e c) h = absurd (no-xml (d .frames) (h .1 .elements) e)
 none-out {d} (opens m as′ t o z c r g q s) (p, h) =
-    let w : Without t = kept-in (d .mode .profile) (d .frames) t p g in
+    let w : Without t = kept-in (d .mode .xmp) (d .frames) t p g in
     let new : Plain o = plain-new (placeIn (d .frames)) t (d .labels) o w q in
     let ids : enter (t .id) (d .ids) ≡ [] = entered-none (t .id) (d .ids) (w .id) (h .ids) in
     (p, record { elements = (new, plain-count (t .iri) _ (d .frames) (h .elements)); ids = ids })

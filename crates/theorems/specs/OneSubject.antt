@@ -2,7 +2,7 @@
 -- elements of a packet have one subject.
 use mathlib.Core.Path.{_≡_, refl, sym, _∙_, ap, subst}
 use mathlib.Core.Logic.{_⊎_, inl, inr}
-use mathlib.Core.Bool.{true, false, _&&_, not, true≢false, false≢true}
+use mathlib.Core.Bool.{Bool, true, false, _&&_, not, true≢false, false≢true}
 use mathlib.Core.Option.{Option, none, some, Option·some-injective, Option·none-ne-some}
 use mathlib.Core.List.{List, [], _∷_}
 use Prim.Native.Nat.{ℕ}
@@ -13,8 +13,6 @@ use Rattle.spec.specs.Pyx.{Attribute, opening}
 use Rattle.spec.specs.Rdf.{rdf}
 use Rattle.spec.specs.NTriples.{Subject, named, Triple}
 use Rattle.spec.specs.declared.Mode.{Mode}
-use Rattle.spec.specs.declared.Profile.{Profile}
-use Rattle.spec.specs.declared.Profile.the-variants.{XmpProfile}
 use Rattle.spec.specs.Modes.{xmpMode}
 use Rattle.spec.specs.Document.{Value, default, collection, literal, other, Kind, rdfRDF, wrapper, nodeElement, propertyElement, xmlElement, Part, topLevel, Frame, Doc, fresh, withFrames, withLabels, withKind, withPart, Place, outside, nodes, inKind, inValue, placeIn, changeValue, onValue}
 use Rattle.spec.specs.StartTag.{Tag, readTag}
@@ -44,7 +42,7 @@ record Started (n : Bytes) (as′ : List Attribute) (d : Doc) (s : Step) : Type 
   tag : Tag
   new : Opened
   reads : readTag n as′ d ≡ good tag
-  kept : keeps (d .mode .profile) (d .frames) tag ≡ true
+  kept : keeps (d .mode .xmp) (d .frames) tag ≡ true
   made : openNode tag (d .labels) ≡ good new
   behind : s .1 ≡ opened tag d new .1
 
@@ -52,7 +50,7 @@ started-element : (n : Bytes) (as′ : List Attribute) (d : Doc) → Always (Sta
 unfolding openElement
 started-element n as′ d =
     always-bind (λ t. readTag n as′ d ≡ good t) (Started n as′ d) _ _ (always-self (readTag n as′ d)) λ t r.
-    always-bind (λ o. (openNode t (d .labels) ≡ good o) × (keeps (d .mode .profile) (d .frames) t ≡ true))
+    always-bind (λ o. (openNode t (d .labels) ≡ good o) × (keeps (d .mode .xmp) (d .frames) t ≡ true))
     (Started n as′ d) _ _ (rules-kept (d .mode) (d .frames) t (openNode t (d .labels))) λ o q.
     always-require (Started n as′ d) _ _ _ λ s.
     record { tag = t; new = o; reads = r; kept = q .1; made = q .0; behind = refl }
@@ -130,7 +128,7 @@ told-changed a g fs h =
 
 -- the rdf:about is remembered from the first on
 told-counted : (a : Bytes) (i : Bytes) (t : Tag) (k : Kind) (q : Part) → Told a k q
-    → Told a (counted i k) (noted XmpProfile t q)
+    → Told a (counted i k) (noted true t q)
 unfolding counted noted withChild
 told-counted a i t rdfRDF q h = rw h
 told-counted a i t (wrapper had) q h = refl
@@ -139,7 +137,7 @@ told-counted a i t (propertyElement p v) q h = tt
 told-counted a i t xmlElement q h = tt
 
 told-count : (a : Bytes) (i : Bytes) (t : Tag) (fs : List Frame) → AllTold a fs
-    → AllTold a (countLi i (noted XmpProfile t) fs)
+    → AllTold a (countLi i (noted true t) fs)
 unfolding countLi withKind withPart
 told-count a i t [] h = tt
 told-count a i t (f ∷ fs) h = (told-counted a i t (f .kind) (f .part) (h .0), h .1)
@@ -148,7 +146,7 @@ told-count a i t (f ∷ fs) h = (told-counted a i t (f .kind) (f .part) (h .0), 
 
 -- a packet in which a top-level element with this rdf:about has opened
 record Begun (a : Bytes) (d : Doc) : Type 0 where
-  profile : d .mode .profile ≡ XmpProfile
+  xmp : d .mode .xmp ≡ true
   rooted : d .rooted ≡ true
   told : AllTold a (d .frames)
 
@@ -157,10 +155,10 @@ unfolding isSecondRoot isEmpty
 no-root d r s e = true≢false (sym (and-both (d .rooted) (isEmpty (d .frames)) r (ap isEmpty e)) ∙ s)
 
 not-outside : (a : Bytes) (d : Doc) (t : Tag) → Begun a d → isSecondRoot d ≡ false
-    → keeps (d .mode .profile) (d .frames) t ≡ true → placeIn (d .frames) ≡ outside → ⊥
+    → keeps (d .mode .xmp) (d .frames) t ≡ true → placeIn (d .frames) ≡ outside → ⊥
 unfolding keeps
 not-outside a d t b s k e =
-    go (d .frames) refl (b .told) (subst (λ (p : Profile). keeps p (d .frames) t ≡ true) (b .profile) k) e
+    go (d .frames) refl (b .told) (subst (λ (p : Bool). keeps p (d .frames) t ≡ true) (b .xmp) k) e
   where
     in-kind : (f : Frame) (k : Kind) → Told a k (f .part) → keepsKind k (f .part) t ≡ true → inKind k ≡ outside → ⊥
     in-kind f rdfRDF h g e = unfold inKind in (let z : _≡_ {A = ℕ} 0 1 = cc in omega arith)
@@ -186,7 +184,7 @@ not-outside a d t b s k e =
 -- nothing else that opens says anything
 silent : (a : Bytes) (q : Part) (m : Mode) (k : Kind) (p : Place) → Stands m k p → (p ≡ outside → ⊥) → Told a k q
 silent a q m rdfRDF p s w = absurd (w s)
-silent a q m (wrapper had) p s w = absurd (w (wrapper-place (m .profile) p s))
+silent a q m (wrapper had) p s w = absurd (w (wrapper-place (m .xmp) p s))
 silent a q m (nodeElement u li) p s w = tt
 silent a q m (propertyElement o v) p s w = tt
 silent a q m xmlElement p s w = tt
@@ -194,7 +192,7 @@ silent a q m xmlElement p s w = tt
 -- with other open elements
 still : (a : Bytes) {d : Doc} (fs : List Frame) → Begun a d → AllTold a fs → Begun a (withFrames fs d)
 unfolding withFrames
-still a fs h t = record { profile = h .profile; rooted = h .rooted; told = t }
+still a fs h t = record { xmp = h .xmp; rooted = h .rooted; told = t }
 
 begun : (a : Bytes) {d d′ : Doc} {us : List Triple} → Change d us d′ → Begun a d → Begun a d′
 unfolding withLabels opened wrapped
@@ -205,11 +203,11 @@ begun a {d} (copies m as′ x e c) h = still a _ h (tt, told-changed a _ (d .fra
 begun a {d} (opens m as′ t o z c r g q s) h =
     let p : Place = placeIn (d .frames) in
     record {
-      profile = h .profile;
+      xmp = h .xmp;
       rooted = refl;
       told = (
         silent a _ (d .mode) (o .kind) p (produced (d .mode) p t (d .labels) o q) (not-outside a d t h z g),
-        subst (λ (y : Profile). AllTold a (countLi (t .iri) (noted y t) (d .frames))) (sym (h .profile))
+        subst (λ (y : Bool). AllTold a (countLi (t .iri) (noted y t) (d .frames))) (sym (h .xmp))
             (told-count a (t .iri) t (d .frames) (h .told)),
       );
     }
@@ -219,7 +217,7 @@ begun a {d} (ends-wrapper f fs b is k) h = still a fs h (all-but _ f fs (d .fram
 begun a {d} (ends-node f fs s li is k) h = still a _ h (told-changed a _ fs (all-but _ f fs (d .frames) is (h .told)))
 begun a {d} (ends-property f fs p v l ws n is k q) h =
     let r : Begun a (withFrames fs d) = still a fs h (all-but _ f fs (d .frames) is (h .told)) in
-    record { profile = r .profile; rooted = r .rooted; told = r .told }
+    record { xmp = r .xmp; rooted = r .rooted; told = r .told }
 begun a {d} (ends-xml f fs x is k) h = still a _ h (told-changed a _ fs (all-but _ f fs (d .frames) is (h .told)))
 
 -- ---- top-level elements
@@ -242,7 +240,7 @@ unfolding keepsKind keepsPart
 kept-here k q x t e g h = kept-top x t (rw (e, g) at h)
 
 kept-in-rdf : (f : Frame) (fs gs : List Frame) (x : Option Bytes) (t : Tag) → gs ≡ f ∷ fs → f .kind ≡ rdfRDF
-    → f .part ≡ topLevel x → keeps XmpProfile gs t ≡ true → Kept x t
+    → f .part ≡ topLevel x → keeps true gs t ≡ true → Kept x t
 unfolding keeps keepsAround
 kept-in-rdf f fs gs x t is e g h =
     let k : (keepsKind (f .kind) (f .part) t && hasNoneOut t) ≡ true = rw is at h in
@@ -250,7 +248,7 @@ kept-in-rdf f fs gs x t is e g h =
 
 -- what it remembers behind it
 remembered : (x : Option Bytes) (t : Tag) (a : Bytes) → t .about ≡ some a → (x ≡ none) ⊎ (x ≡ some a)
-    → noted XmpProfile t (topLevel x) ≡ topLevel (some a)
+    → noted true t (topLevel x) ≡ topLevel (some a)
 unfolding noted withChild
 remembered x t a e (inl h) = rw h (ap topLevel e)
 remembered x t a e (inr h) = rw h refl
@@ -269,25 +267,25 @@ told-below a (f ∷ fs) h k = (go (f .kind) (h .0) (k .0), told-below a fs (h .1
 
 -- the elements around it, behind it
 told-around : (a : Bytes) (i : Bytes) (t : Tag) (f : Frame) (fs gs : List Frame) → gs ≡ f ∷ fs → f .kind ≡ rdfRDF
-    → noted XmpProfile t (f .part) ≡ topLevel (some a)
-    → AllTold a fs → AllTold a (countLi i (noted XmpProfile t) gs)
+    → noted true t (f .part) ≡ topLevel (some a)
+    → AllTold a fs → AllTold a (countLi i (noted true t) gs)
 unfolding countLi counted withKind withPart
 told-around a i t f fs gs is e q h = rw is (go (f .kind) e, h)
   where
-    go : (k : Kind) → k ≡ rdfRDF → Told a (counted i k) (noted XmpProfile t (f .part))
+    go : (k : Kind) → k ≡ rdfRDF → Told a (counted i k) (noted true t (f .part))
     go k e = rw e q
 
 nodes-inside : nodes ≡ outside → ⊥
 nodes-inside e = let z : _≡_ {A = ℕ} 0 1 = cc in omega arith
 
-module _ {d d′ : Doc} (s : TopStart d d′) (p : d .mode .profile ≡ XmpProfile) where
+module _ {d d′ : Doc} (s : TopStart d d′) (p : d .mode .xmp ≡ true) where
   abbrev read : Started (s .name) (s .attributes) d (s .lines, d′)
   read =
       always-good (Started (s .name) (s .attributes) d)
       (started (s .name) (s .attributes) d (in-nodes (d .frames) (s .inRdf))) (s .starts)
 
-  keeps-rules : keeps XmpProfile (d .frames) (read .tag) ≡ true
-  keeps-rules = subst (λ (x : Profile). keeps x (d .frames) (read .tag) ≡ true) p (read .kept)
+  keeps-rules : keeps true (d .frames) (read .tag) ≡ true
+  keeps-rules = subst (λ (x : Bool). keeps x (d .frames) (read .tag) ≡ true) p (read .kept)
 
   opens-named : (a : Bytes) → read .tag .about ≡ some a → innermost (d′ .frames) ≡ some (nodeElement (named a) 0)
   unfolding innermost opened
@@ -311,17 +309,17 @@ module _ {d d′ : Doc} (s : TopStart d d′) (p : d .mode .profile ≡ XmpProfi
   unfolding opened
   begins x k f fs is e q h =
       let t : Tag = read .tag in
-      let n : noted XmpProfile t (f .part) ≡ topLevel (some (k .a))
-      = ap (noted XmpProfile t) q ∙ remembered x t (k .a) (k .about) (k .first) in
+      let n : noted true t (f .part) ≡ topLevel (some (k .a))
+      = ap (noted true t) q ∙ remembered x t (k .a) (k .about) (k .first) in
       let new : Stands (d .mode) (read .new .kind) nodes
       = produced (d .mode) nodes t (d .labels) (read .new) (read .made) in
       subst (Begun (k .a)) (sym (read .behind))
       (record {
-        profile = p;
+        xmp = p;
         rooted = refl;
         told = (
           silent (k .a) _ (d .mode) (read .new .kind) nodes new nodes-inside,
-          subst (λ (y : Profile). AllTold (k .a) (countLi (t .iri) (noted y t) (d .frames))) (sym p)
+          subst (λ (y : Bool). AllTold (k .a) (countLi (t .iri) (noted y t) (d .frames))) (sym p)
               (told-around (k .a) (t .iri) t f fs (d .frames) is e n h),
         );
       })
@@ -330,15 +328,15 @@ module _ {d d′ : Doc} (s : TopStart d d′) (p : d .mode .profile ≡ XmpProfi
 first-top : (b : Option Bytes) {d d′ : Doc} {ts : List Triple} → After (fresh xmpMode b) d ts → (s : TopStart d d′)
     → (a : Bytes) × Describes a s × Begun a d′
 first-top b {d} {d′} {ts} before s =
-    let p : d .mode .profile ≡ XmpProfile = ap (λ (m : Mode). m .profile) (always-mode xmpMode b d ts before) in
+    let p : d .mode .xmp ≡ true = ap (λ (m : Mode). m .xmp) (always-mode xmpMode b d ts before) in
     let r = in-rdf (d .frames) (s .inRdf) in
     let f : Frame = r .0 in
     let fs : List Frame = r .1 in
-    let ps : Parts XmpProfile (f ∷ fs)
-    = subst (λ (x : Profile). Parts x (f ∷ fs)) p
-    (subst (Parts (d .mode .profile)) (r .2) (always-parts xmpMode b d ts before)) in
+    let ps : Parts true (f ∷ fs)
+    = subst (λ (x : Bool). Parts x (f ∷ fs)) p
+    (subst (Parts (d .mode .xmp)) (r .2) (always-parts xmpMode b d ts before)) in
     let q : (x : Option Bytes) × (f .part ≡ topLevel x)
-    = subst (λ (k : Kind). Remembers XmpProfile k (f .part)) (r .3) (ps .0) in
+    = subst (λ (k : Kind). Remembers true k (f .part)) (r .3) (ps .0) in
     let k : Kept (q .0) (read s p .tag)
     = kept-in-rdf f fs (d .frames) (q .0) (read s p .tag) (r .2) (r .3) (q .1) (keeps-rules s p) in
     let n : Nested (d .mode) (f ∷ fs) = subst (Nested (d .mode)) (r .2) (always-nested xmpMode b d ts before) in
@@ -354,7 +352,7 @@ one-described b before s = let k = first-top b before s in (k .0, k .1)
 -- every later one
 later-top : (a : Bytes) {d d′ : Doc} → Begun a d → (s : TopStart d d′) → Describes a s
 later-top a {d} {d′} h s =
-    let p : d .mode .profile ≡ XmpProfile = h .profile in
+    let p : d .mode .xmp ≡ true = h .xmp in
     let r = in-rdf (d .frames) (s .inRdf) in
     let f : Frame = r .0 in
     let fs : List Frame = r .1 in

@@ -133,7 +133,7 @@ unfolding opened inBase newPart noted withPart
 opened-bare t d o =
     let f : Frame = record { name = t .name; bindings = t .bindings; ownBase = t .ownBase; ownTag = t .ownTag; kind = o .kind; part = ordinary } in
     ap (λ (fs : List Frame). (o .lines, record { mode = baseMode; startBase = d .startBase; frames = f ∷ fs; rooted = true; labels = o .labels; ids = enter (t .id) (d .ids) }))
-    (count-bare (t .iri) (noted (d .mode .profile) t) (d .frames))
+    (count-bare (t .iri) (noted (d .mode .xmp) t) (d .frames))
 
 open-element : (production : Tag → ℕ → Answer Opened) (n : Bytes) (as′ : List Attribute) (d : Doc) → Follows (openElement production n as′ d) (openElement production n as′ (inBase d))
 unfolding openElement inBase
@@ -150,7 +150,7 @@ copy-element n as′ d =
     rw (scope-bare (d .frames), change-bare (X.takesXml (X.startTagXml n as′)) (d .frames))
     (follows-require _ _ NoNamespace _ _ refl λ k. follows-after _ _ _ refl)
 
-open-in : (p : Place) (n : Bytes) (as′ : List Attribute) (d : Doc) → startsWrapper (d .mode .profile) n as′ (d .frames) ≡ false
+open-in : (p : Place) (n : Bytes) (as′ : List Attribute) (d : Doc) → startsWrapper (d .mode .xmp) n as′ (d .frames) ≡ false
     → Follows (openIn p n as′ d) (openIn p n as′ (inBase d))
 unfolding openIn if_then_else_
 open-in outside n as′ d w = rw (w, no-wrapper (inBase d .mode) n as′ (inBase d .frames) (unfold inBase in refl)) (open-element openRoot n as′ d)
@@ -168,7 +168,7 @@ counts-bare : (as′ : List Attribute) (d : Doc) → countsFit as′ (inBase d .
 unfolding countsFit inBase
 counts-bare as′ d = rw (length-bare (d .frames), scope-bare (d .frames))
 
-on-opening : (n : Bytes) (as′ : List Attribute) (d : Doc) → startsWrapper (d .mode .profile) n as′ (d .frames) ≡ false
+on-opening : (n : Bytes) (as′ : List Attribute) (d : Doc) → startsWrapper (d .mode .xmp) n as′ (d .frames) ≡ false
     → Follows (onOpening n as′ d) (onOpening n as′ (inBase d))
 unfolding onOpening
 on-opening n as′ d w =
@@ -288,12 +288,12 @@ not-second n as′ d =
 -- behind a root no wrapper opens
 no-second-wrapper : (e : Event) (d d′ : Doc) (us : List Triple) → next e d ≡ good (us, d′) → d .rooted ≡ true → Unwrapped e d
 unfolding isSecondRoot
-no-second-wrapper (opening n as′) d d′ us q h = go (startsWrapper (d .mode .profile) n as′ (d .frames)) refl
+no-second-wrapper (opening n as′) d d′ us q h = go (startsWrapper (d .mode .xmp) n as′ (d .frames)) refl
   where
-    go : (b : Bool) → startsWrapper (d .mode .profile) n as′ (d .frames) ≡ b → b ≡ false
+    go : (b : Bool) → startsWrapper (d .mode .xmp) n as′ (d .frames) ≡ b → b ≡ false
     go false w = refl
     go true w =
-        let u : Wrapping (d .mode .profile) n as′ (d .frames) = wrapping (d .mode .profile) n as′ (d .frames) w in
+        let u : Wrapping (d .mode .xmp) n as′ (d .frames) = wrapping (d .mode .xmp) n as′ (d .frames) w in
         let z : isEmpty (d .frames) ≡ true = ap isEmpty (u .outermost) ∙ (unfold isEmpty in refl) in
         absurd (true≢false (sym (and-both (d .rooted) (isEmpty (d .frames)) h z) ∙ always-good (λ s. isSecondRoot d ≡ false) (not-second n as′ d) q))
 no-second-wrapper (closing n) d d′ us q h = tt
@@ -324,7 +324,7 @@ module _ (b : Option Bytes) where
   abbrev Roots : Step → Type 0
   Roots s = s .1 .rooted ≡ true
 
-  wrapper-opens : (n : Bytes) (as′ : List Attribute) → startsWrapper (fresh xmpMode b .mode .profile) n as′ (fresh xmpMode b .frames) ≡ true
+  wrapper-opens : (n : Bytes) (as′ : List Attribute) → startsWrapper (fresh xmpMode b .mode .xmp) n as′ (fresh xmpMode b .frames) ≡ true
       → Always (Wraps n as′) (next (opening n as′) (fresh xmpMode b))
   unfolding onEvent onOpening openIn openWrapper if_then_else_
   wrapper-opens n as′ w =
@@ -334,7 +334,7 @@ module _ (b : Option Bytes) where
       (always-require (Wraps n as′) _ _ _ λ e₁. always-require (Wraps n as′) _ _ _ λ e₂.
       rw (p, w) (always-after (Wraps n as′) _ _ (always-after (Wraps n as′) _ _ refl)))
 
-  root-opens : (n : Bytes) (as′ : List Attribute) → startsWrapper (fresh xmpMode b .mode .profile) n as′ (fresh xmpMode b .frames) ≡ false
+  root-opens : (n : Bytes) (as′ : List Attribute) → startsWrapper (fresh xmpMode b .mode .xmp) n as′ (fresh xmpMode b .frames) ≡ false
       → Always Roots (next (opening n as′) (fresh xmpMode b))
   unfolding onEvent onOpening openIn openElement opened if_then_else_
   root-opens n as′ w =
@@ -369,9 +369,9 @@ module _ (b : Option Bytes) where
     where
       no-opening : {m : Bytes} {as′ : List Attribute} → instruction ≡ opening m as′ → ⊥
       no-opening e = let z : _≡_ {A = ℕ} 0 1 = cc in omega arith
-  first-event (opening n as′) d us q = go (startsWrapper (fresh xmpMode b .mode .profile) n as′ (fresh xmpMode b .frames)) refl
+  first-event (opening n as′) d us q = go (startsWrapper (fresh xmpMode b .mode .xmp) n as′ (fresh xmpMode b .frames)) refl
     where
-      go : (w : Bool) → startsWrapper (fresh xmpMode b .mode .profile) n as′ (fresh xmpMode b .frames) ≡ w → Progress b d ([] ++ us)
+      go : (w : Bool) → startsWrapper (fresh xmpMode b .mode .xmp) n as′ (fresh xmpMode b .frames) ≡ w → Progress b d ([] ++ us)
       go true w = in-wrapper n as′ (always-good (Wraps n as′) (wrapper-opens n as′ w) q)
       go false w =
           begun (always-good Roots (root-opens n as′ w) q)

@@ -9,8 +9,6 @@ use native.Mathlib.Omega.{arith}
 use Rattle.spec.specs.Bytes.{Bytes, if_then_else_, same, isSome, All}
 use Rattle.spec.specs.Rdf.{rdf}
 use Rattle.spec.specs.declared.Mode.{Mode}
-use Rattle.spec.specs.declared.Profile.{Profile}
-use Rattle.spec.specs.declared.Profile.the-variants.{NoProfile, XmpProfile}
 use Rattle.spec.specs.NTriples.{Subject, Triple}
 use Rattle.spec.specs.Document.{Value, default, collection, literal, other, Property, Kind, rdfRDF, wrapper, nodeElement, propertyElement, xmlElement, Part, ordinary, topLevel, alternatives, Frame, Doc, fresh, withFrames, withLabels, withKind, withPart, Place, outside, nodes, nodesOrText, xml, properties, inValue, inKind, placeIn, changeValue, onValue}
 use Rattle.spec.specs.StartTag.{Tag}
@@ -27,23 +25,23 @@ use Rattle.theorems.specs.Changes.{Produces, Change, stays, takes-text, 
 
 -- ---- changes to an open element
 
-counted-remembers : (p : Profile) (i : Bytes) (k : Kind) (q : Part) → Remembers p k q → Remembers p (counted i k) q
+counted-remembers : (p : Bool) (i : Bytes) (k : Kind) (q : Part) → Remembers p k q → Remembers p (counted i k) q
 unfolding counted
-counted-remembers NoProfile i k q h = h
-counted-remembers XmpProfile i rdfRDF q h = h
-counted-remembers XmpProfile i (wrapper b) q h = h
-counted-remembers XmpProfile i (nodeElement s li) q h = h
-counted-remembers XmpProfile i (propertyElement o v) q h = h
-counted-remembers XmpProfile i xmlElement q h = h
+counted-remembers false i k q h = h
+counted-remembers true i rdfRDF q h = h
+counted-remembers true i (wrapper b) q h = h
+counted-remembers true i (nodeElement s li) q h = h
+counted-remembers true i (propertyElement o v) q h = h
+counted-remembers true i xmlElement q h = h
 
-value-remembers : (p : Profile) (g : Value → Value) (k : Kind) (q : Part) → Remembers p k q → Remembers p (onValue g k) q
+value-remembers : (p : Bool) (g : Value → Value) (k : Kind) (q : Part) → Remembers p k q → Remembers p (onValue g k) q
 unfolding onValue
-value-remembers NoProfile g k q h = h
-value-remembers XmpProfile g rdfRDF q h = h
-value-remembers XmpProfile g (wrapper b) q h = h
-value-remembers XmpProfile g (nodeElement s li) q h = h
-value-remembers XmpProfile g (propertyElement o v) q h = h
-value-remembers XmpProfile g xmlElement q h = h
+value-remembers false g k q h = h
+value-remembers true g rdfRDF q h = h
+value-remembers true g (wrapper b) q h = h
+value-remembers true g (nodeElement s li) q h = h
+value-remembers true g (propertyElement o v) q h = h
+value-remembers true g xmlElement q h = h
 
 noted-top : (t : Tag) (a : Option Bytes) → (b : Option Bytes) × (withChild t (topLevel a) ≡ topLevel b)
 unfolding withChild
@@ -63,29 +61,29 @@ noted-ordinary : (t : Tag) (q : Part) → q ≡ ordinary → withChild t q ≡ o
 unfolding withChild
 noted-ordinary t q e = rw e
 
-noted-remembers : (p : Profile) (t : Tag) (k : Kind) (q : Part) → Remembers p k q → Remembers p k (noted p t q)
+noted-remembers : (p : Bool) (t : Tag) (k : Kind) (q : Part) → Remembers p k q → Remembers p k (noted p t q)
 unfolding noted
-noted-remembers NoProfile t k q h = h
-noted-remembers XmpProfile t rdfRDF q (a, e) = rw e (noted-top t a)
-noted-remembers XmpProfile t (wrapper b) q h = noted-ordinary t q h
-noted-remembers XmpProfile t (nodeElement s li) q (inl e) = inl (noted-ordinary t q e)
-noted-remembers XmpProfile t (nodeElement s li) q (inr (l, e)) = inr (rw e (noted-alt t l))
-noted-remembers XmpProfile t (propertyElement o v) q h = noted-ordinary t q h
-noted-remembers XmpProfile t xmlElement q h = noted-ordinary t q h
+noted-remembers false t k q h = h
+noted-remembers true t rdfRDF q (a, e) = rw e (noted-top t a)
+noted-remembers true t (wrapper b) q h = noted-ordinary t q h
+noted-remembers true t (nodeElement s li) q (inl e) = inl (noted-ordinary t q e)
+noted-remembers true t (nodeElement s li) q (inr (l, e)) = inr (rw e (noted-alt t l))
+noted-remembers true t (propertyElement o v) q h = noted-ordinary t q h
+noted-remembers true t xmlElement q h = noted-ordinary t q h
 
-count-parts : (p : Profile) (i : Bytes) (t : Tag) (fs : List Frame) → Parts p fs → Parts p (countLi i (noted p t) fs)
+count-parts : (p : Bool) (i : Bytes) (t : Tag) (fs : List Frame) → Parts p fs → Parts p (countLi i (noted p t) fs)
 unfolding countLi withKind withPart
 count-parts p i t [] h = tt
 count-parts p i t (f ∷ fs) h = (noted-remembers p t (counted i (f .kind)) (f .part) (counted-remembers p i (f .kind) (f .part) (h .0)), h .1)
 
-change-parts : (p : Profile) (g : Value → Value) (fs : List Frame) → Parts p fs → Parts p (changeValue g fs)
+change-parts : (p : Bool) (g : Value → Value) (fs : List Frame) → Parts p fs → Parts p (changeValue g fs)
 unfolding withKind
 change-parts p g fs h = all-changed (λ f. Remembers p (f .kind) (f .part)) g (λ f k. value-remembers p g (f .kind) (f .part) k) fs h
 
 -- ---- a new element
 
 -- where rdf:RDF may stand, only it opens in the profile
-only-rdf : (fs : List Frame) (t : Tag) → placeIn fs ≡ outside → keeps XmpProfile fs t ≡ true → same (t .iri) (rdf "RDF") ≡ true
+only-rdf : (fs : List Frame) (t : Tag) → placeIn fs ≡ outside → keeps true fs t ≡ true → same (t .iri) (rdf "RDF") ≡ true
 unfolding placeIn inKind inValue keeps keepsAround keepsKind isItsRdf
 only-rdf [] t e h = and-left (same (t .iri) (rdf "RDF")) _ (and-left _ (hasNoneOut t) h)
 only-rdf (f ∷ fs) t e h = go (f .kind) e (and-left _ (hasNoneOut t) h)
@@ -101,7 +99,7 @@ only-rdf (f ∷ fs) t e h = go (f .kind) e (and-left _ (hasNoneOut t) h)
     go xmlElement e h = absurd (let z : _≡_ {A = ℕ} 0 1 = cc in omega arith)
 
 abbrev New : Part → Opened → Type 0
-New q o = Remembers XmpProfile (o .kind) q
+New q o = Remembers true (o .kind) q
 
 new-root : (t : Tag) (n : ℕ) → same (t .iri) (rdf "RDF") ≡ true → Always (New (topLevel none)) (openRoot t n)
 unfolding openRoot
@@ -124,44 +122,44 @@ new-property : (t : Tag) (s : Subject) (li n : ℕ) → Always (New ordinary) (o
 unfolding openProperty
 new-property t s li n = always-require (New ordinary) _ _ _ λ e₁. always-require (New ordinary) _ _ _ λ e₂. always-after (New ordinary) _ _ (new-as _ t _ n)
 
-new-remembers : (p : Profile) (q : Place) (t : Tag) (n : ℕ) (o : Opened) (fs : List Frame) → placeIn fs ≡ q → keeps p fs t ≡ true → Produces q t n o → Remembers p (o .kind) (newPart p q (t .iri))
+new-remembers : (p : Bool) (q : Place) (t : Tag) (n : ℕ) (o : Opened) (fs : List Frame) → placeIn fs ≡ q → keeps p fs t ≡ true → Produces q t n o → Remembers p (o .kind) (newPart p q (t .iri))
 unfolding newPart
-new-remembers NoProfile q t n o fs e h k = refl
-new-remembers XmpProfile outside t n o fs e h k = always-good (New (topLevel none)) (new-root t n (only-rdf fs t e h)) k
-new-remembers XmpProfile nodes t n o fs e h k = always-good (New _) (new-node t n (same (t .iri) (rdf "Alt"))) k
-new-remembers XmpProfile nodesOrText t n o fs e h k = always-good (New _) (new-node t n (same (t .iri) (rdf "Alt"))) k
-new-remembers XmpProfile (properties s li) t n o fs e h k = always-good (New ordinary) (new-property t s li n) k
-new-remembers XmpProfile xml t n o fs e h k = absurd k
+new-remembers false q t n o fs e h k = refl
+new-remembers true outside t n o fs e h k = always-good (New (topLevel none)) (new-root t n (only-rdf fs t e h)) k
+new-remembers true nodes t n o fs e h k = always-good (New _) (new-node t n (same (t .iri) (rdf "Alt"))) k
+new-remembers true nodesOrText t n o fs e h k = always-good (New _) (new-node t n (same (t .iri) (rdf "Alt"))) k
+new-remembers true (properties s li) t n o fs e h k = always-good (New ordinary) (new-property t s li n) k
+new-remembers true xml t n o fs e h k = absurd k
 
 -- ---- every change
 
-always-ordinary : (p : Profile) → Remembers p xmlElement ordinary
-always-ordinary NoProfile = refl
-always-ordinary XmpProfile = refl
+always-ordinary : (p : Bool) → Remembers p xmlElement ordinary
+always-ordinary false = refl
+always-ordinary true = refl
 
-wrapper-ordinary : (p : Profile) (b : Bool) → Remembers p (wrapper b) ordinary
-wrapper-ordinary NoProfile b = refl
-wrapper-ordinary XmpProfile b = refl
+wrapper-ordinary : (p : Bool) (b : Bool) → Remembers p (wrapper b) ordinary
+wrapper-ordinary false b = refl
+wrapper-ordinary true b = refl
 
-parts : {d d′ : Doc} {us : List Triple} → Change d us d′ → Parts (d .mode .profile) (d .frames) → Parts (d′ .mode .profile) (d′ .frames)
+parts : {d d′ : Doc} {us : List Triple} → Change d us d′ → Parts (d .mode .xmp) (d .frames) → Parts (d′ .mode .xmp) (d′ .frames)
 unfolding withFrames withLabels opened wrapped
 parts stays h = h
-parts {d} (takes-text v e) h = change-parts (d .mode .profile) _ (d .frames) h
-parts {d} (takes-xml x e) h = change-parts (d .mode .profile) _ (d .frames) h
-parts {d} (copies m as′ x e c) h = (always-ordinary (d .mode .profile), change-parts (d .mode .profile) _ (d .frames) h)
+parts {d} (takes-text v e) h = change-parts (d .mode .xmp) _ (d .frames) h
+parts {d} (takes-xml x e) h = change-parts (d .mode .xmp) _ (d .frames) h
+parts {d} (copies m as′ x e c) h = (always-ordinary (d .mode .xmp), change-parts (d .mode .xmp) _ (d .frames) h)
 parts {d} (opens m as′ t o z c r g q s) h =
-    (new-remembers (d .mode .profile) (placeIn (d .frames)) t (d .labels) o (d .frames) refl g q, count-parts (d .mode .profile) (t .iri) t (d .frames) h)
-parts {d} (wraps m as′ z p e c) h = (wrapper-ordinary (d .mode .profile) false, h)
+    (new-remembers (d .mode .xmp) (placeIn (d .frames)) t (d .labels) o (d .frames) refl g q, count-parts (d .mode .xmp) (t .iri) t (d .frames) h)
+parts {d} (wraps m as′ z p e c) h = (wrapper-ordinary (d .mode .xmp) false, h)
 parts {d} (ends-root f fs is k) h = all-but _ f fs (d .frames) is h
 parts {d} (ends-wrapper f fs b is k) h = all-but _ f fs (d .frames) is h
-parts {d} (ends-node f fs s li is k) h = change-parts (d .mode .profile) _ fs (all-but _ f fs (d .frames) is h)
+parts {d} (ends-node f fs s li is k) h = change-parts (d .mode .xmp) _ fs (all-but _ f fs (d .frames) is h)
 parts {d} (ends-property f fs p v l ws n is k q) h = all-but _ f fs (d .frames) is h
-parts {d} (ends-xml f fs x is k) h = change-parts (d .mode .profile) _ fs (all-but _ f fs (d .frames) is h)
+parts {d} (ends-xml f fs x is k) h = change-parts (d .mode .xmp) _ fs (all-but _ f fs (d .frames) is h)
 
 -- Behind every accepted event what is remembered for the profile goes by the kind of the element; in the base mode it is nothing.
-pub always-parts : (m : Mode) (b : Option Bytes) (d : Doc) (ts : List Triple) → After (fresh m b) d ts → Parts (d .mode .profile) (d .frames)
+pub always-parts : (m : Mode) (b : Option Bytes) (d : Doc) (ts : List Triple) → After (fresh m b) d ts → Parts (d .mode .xmp) (d .frames)
 unfolding fresh
-always-parts m b d ts h = always-holds (λ d. Parts (d .mode .profile) (d .frames)) (λ d d′ us c f k. parts c k) tt h
+always-parts m b d ts h = always-holds (λ d. Parts (d .mode .xmp) (d .frames)) (λ d d′ us c f k. parts c k) tt h
 
 -- ---- one rdf:RDF
 
@@ -172,9 +170,9 @@ NoRdf (nodeElement s li) = Unit {0}
 NoRdf (propertyElement p v) = Unit {0}
 NoRdf xmlElement = Unit {0}
 
-pub wrapper-place : (p : Profile) (q : Place) → Wraps p q → q ≡ outside
-wrapper-place NoProfile q h = absurd h
-wrapper-place XmpProfile q h = h
+pub wrapper-place : (p : Bool) (q : Place) → Wraps p q → q ≡ outside
+wrapper-place false q h = absurd h
+wrapper-place true q h = h
 
 no-rdf : (m : Mode) (fs : List Frame) → Nested m fs → placeIn fs ≡ outside → All (λ f. NoRdf (f .kind)) fs
 unfolding placeIn inKind inValue
@@ -183,7 +181,7 @@ no-rdf m (f ∷ fs) h e = go (f .kind) e (h .0) (no-rdf m fs (h .1))
   where
     go : (k : Kind) → inKind k ≡ outside → Stands m k (placeIn fs) → (placeIn fs ≡ outside → All (λ f. NoRdf (f .kind)) fs) → NoRdf k × All (λ f. NoRdf (f .kind)) fs
     go rdfRDF e s r = absurd (let z : _≡_ {A = ℕ} 0 1 = cc in omega arith)
-    go (wrapper b) e s r = (tt, r (wrapper-place (m .profile) (placeIn fs) s))
+    go (wrapper b) e s r = (tt, r (wrapper-place (m .xmp) (placeIn fs) s))
     go (nodeElement u li) e s r = absurd (let z : _≡_ {A = ℕ} 0 1 = cc in omega arith)
     go (propertyElement p (default d o)) e s r = absurd (let z : _≡_ {A = ℕ} 0 1 = cc in omega arith)
     go (propertyElement p (collection cs)) e s r = absurd (let z : _≡_ {A = ℕ} 0 1 = cc in omega arith)

@@ -183,9 +183,9 @@ used-ids none ids h e = true≢false h
 used-ids (some i) ids h e = true≢false (subst (λ (x : List Bytes). not (member i x) ≡ false) e h)
 
 -- the base has no rules to break, and no wrapper
-rules-in : (m : Mode) (fs : List Frame) (t : Tag) → keeps (m .profile) fs t ≡ false → m ≡ baseMode → ⊥
+rules-in : (m : Mode) (fs : List Frame) (t : Tag) → keeps (m .xmp) fs t ≡ false → m ≡ baseMode → ⊥
 unfolding keeps
-rules-in m fs t h e = true≢false (subst (λ (x : Mode). keeps (x .profile) fs t ≡ false) e h)
+rules-in m fs t h e = true≢false (subst (λ (x : Mode). keeps (x .xmp) fs t ≡ false) e h)
 
 wrapper-in : (m : Mode) (f : Frame) (fs gs : List Frame) (b : Bool) → gs ≡ f ∷ fs → f .kind ≡ wrapper b → m ≡ baseMode → Nested m gs → ⊥
 wrapper-in m f fs gs b is k e n =

@@ -7,8 +7,6 @@ use Rattle.spec.specs.Bytes.{Bytes, if_then_else_, isEmpty, require_or_}
 use Rattle.spec.specs.Numbers.{number, Answer, refuse, good}
 use Rattle.spec.specs.declared.Refusal.the-variants.{ProfileBroken, Reserved}
 use Rattle.spec.specs.declared.Mode.{Mode}
-use Rattle.spec.specs.declared.Profile.{Profile}
-use Rattle.spec.specs.declared.Profile.the-variants.{NoProfile, XmpProfile}
 use Rattle.spec.specs.Modes.{baseMode}
 use Rattle.spec.specs.Pyx.{Attribute, Event, opening, closing, text, instruction}
 use Rattle.spec.specs.Namespaces.{declared, expandElement}
@@ -43,13 +41,13 @@ kept-by false (refuse q) = go (eqb (number q) (number Reserved))
     go true = tt
     go false = tt
 
-pub rules-kept : (m : Mode) (fs : List Frame) (t : Tag) (a : Answer Opened) → Always (λ o. (a ≡ good o) × (keeps (m .profile) fs t ≡ true)) (underRules (modeRules m fs t) a)
+pub rules-kept : (m : Mode) (fs : List Frame) (t : Tag) (a : Answer Opened) → Always (λ o. (a ≡ good o) × (keeps (m .xmp) fs t ≡ true)) (underRules (modeRules m fs t) a)
 unfolding modeRules
-rules-kept m fs t a = kept-by (keeps (m .profile) fs t) a
+rules-kept m fs t a = kept-by (keeps (m .xmp) fs t) a
 
 -- the wrapper is the outermost element, and opens only in the profile
-pub record Wrapping (p : Profile) (n : Bytes) (as′ : List Attribute) (fs : List Frame) : Type 0 where
-  pub profile : p ≡ XmpProfile
+pub record Wrapping (p : Bool) (n : Bytes) (as′ : List Attribute) (fs : List Frame) : Type 0 where
+  pub xmp : p ≡ true
   pub outermost : fs ≡ []
   pub iri : Bytes
   pub expands : expandElement (declared as′ ++ inScope fs) n ≡ good iri
@@ -59,27 +57,27 @@ unfolding isEmpty
 no-frame [] h = refl
 no-frame (f ∷ fs) h = absurd (false≢true h)
 
-pub wrapping : (p : Profile) (n : Bytes) (as′ : List Attribute) (fs : List Frame) → startsWrapper p n as′ fs ≡ true → Wrapping p n as′ fs
+pub wrapping : (p : Bool) (n : Bytes) (as′ : List Attribute) (fs : List Frame) → startsWrapper p n as′ fs ≡ true → Wrapping p n as′ fs
 unfolding startsWrapper namesWrapper
-wrapping NoProfile n as′ fs h = absurd (false≢true h)
-wrapping XmpProfile n as′ fs h = go (expandElement (declared as′ ++ inScope fs) n) refl h
+wrapping false n as′ fs h = absurd (false≢true h)
+wrapping true n as′ fs h = go (expandElement (declared as′ ++ inScope fs) n) refl h
   where
-    go : (a : Answer Bytes) → expandElement (declared as′ ++ inScope fs) n ≡ a → (isEmpty fs && namesWrapper a) ≡ true → Wrapping XmpProfile n as′ fs
+    go : (a : Answer Bytes) → expandElement (declared as′ ++ inScope fs) n ≡ a → (isEmpty fs && namesWrapper a) ≡ true → Wrapping true n as′ fs
     go (refuse r) e h = absurd (false≢true (and-right (isEmpty fs) false h))
-    go (good i) e h = record { profile = refl; outermost = no-frame fs (and-left (isEmpty fs) (namesWrapper (good i)) h); iri = i; expands = e }
+    go (good i) e h = record { xmp = refl; outermost = no-frame fs (and-left (isEmpty fs) (namesWrapper (good i)) h); iri = i; expands = e }
 
 -- the base mode has no rules of its own, and no wrapper
 pub no-rules : (m : Mode) (fs : List Frame) (t : Tag) (a : Answer Opened) → m ≡ baseMode → underRules (modeRules m fs t) a ≡ a
 unfolding underRules modeRules keeps require_or_
 no-rules m fs t a e = rw e
 
-pub no-wrapper : (m : Mode) (n : Bytes) (as′ : List Attribute) (fs : List Frame) → m ≡ baseMode → startsWrapper (m .profile) n as′ fs ≡ false
+pub no-wrapper : (m : Mode) (n : Bytes) (as′ : List Attribute) (fs : List Frame) → m ≡ baseMode → startsWrapper (m .xmp) n as′ fs ≡ false
 unfolding startsWrapper
 no-wrapper m n as′ fs e = rw e
 
 -- an event that does not open the wrapper, as none does in the base mode
 abbrev pub Unwrapped : Event → Doc → Type 0
-Unwrapped (opening n as′) d = startsWrapper (d .mode .profile) n as′ (d .frames) ≡ false
+Unwrapped (opening n as′) d = startsWrapper (d .mode .xmp) n as′ (d .frames) ≡ false
 Unwrapped (closing n) d = Unit {0}
 Unwrapped (text s) d = Unit {0}
 Unwrapped instruction d = Unit {0}

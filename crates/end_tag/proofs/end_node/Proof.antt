@@ -5,14 +5,17 @@ use borrow.Author.Needs.{needs}
 use Rattle.end_tag.proofs.end_node.Statement.{statement}
 use Rattle.end_tag.proofs.end_node.Tie as tie
 
-held-after-requires : tie.Need-held-after-requires
-held-after-requires c κs = search needs
+stored-after-requires : tie.Need-stored-after-requires
+stored-after-requires c κs = search needs
+
+minus-requires : tie.Need-minus-requires
+minus-requires c κs = search needs
 
 same-length : tie.Need-same-length
 same-length c = search needs
 
 returns : tie.Need-returns
-returns c = λ out. node-over (c .before .held-after .ensures) (omega arith)
+returns c = λ out. node-over (c .before .before .stored-after .ensures) (omega (arith, c .before .minus .ensures, c .if1 .taken))
 
 close-node-requires : tie.Need-close-node-requires
 close-node-requires c κs = search needs
@@ -24,13 +27,14 @@ same-length-3 : tie.Need-same-length-3
 same-length-3 c = c .before .before .work .given
 
 returns-2 : tie.Need-returns-2
-returns-2 c = λ out. node-done (c .before .before .before .before .before .before .before .before .before .held-after .ensures) (omega (arith, c .before .before .before .before .before .before .before .before .if1 .left)) (c .before .before .before .before .before .close-node .ensures)
+returns-2 c = λ out. node-done (c .before .before .before .before .before .before .before .before .before .before .stored-after .ensures) (omega (arith, c .before .before .before .before .before .before .before .before .before .minus .ensures, c .before .before .before .before .before .before .before .before .if1 .left)) (c .before .before .before .before .before .close-node .ensures)
 
 pub end-node-spec : {M : Type 1} → statement M
 end-node-spec =
     tie.close
     (tie.spec
-    held-after-requires
+    stored-after-requires
+    minus-requires
     same-length
     returns
     close-node-requires

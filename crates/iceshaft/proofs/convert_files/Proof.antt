@@ -7,10 +7,10 @@ use Rattle.iceshaft.proofs.convert_files.Statement.{statement}
 use Rattle.iceshaft.proofs.convert_files.Tie as tie
 
 abbrev Inv-loop : tie.InvT-loop
-Inv-loop first count based base name₀ i₀ name i = length name ≡ 4_096
+Inv-loop first count mode based base name₀ i₀ name i = length name ≡ 4_096
 
 abbrev μ-loop : tie.MeasureT-loop
-μ-loop first count based base name₀ i₀ name i = count - i
+μ-loop first count mode based base name₀ i₀ name i = count - i
 
 loop-holds : tie.Need-loop-holds Inv-loop μ-loop
 loop-holds c = search needs

@@ -31,14 +31,14 @@ started-requires c κs = search needs
 
 returns : tie.Need-returns
 unfolding workStoreBytes idStoreBytes
-returns c = begin-refused _ _ _ _ (c .before .before .before .may-start .ensures) (c .before .answer .given .1)
+returns c = begin-refused _ _ _ _ _ (c .before .before .before .may-start .ensures) (c .before .answer .given .1)
 
 same-length : tie.Need-same-length
 same-length c = c .before .before .work .given
 
 returns-2 : tie.Need-returns-2
 unfolding workStoreBytes idStoreBytes
-returns-2 c = begin-done _ _ _ _ (c .before .before .before .before .before .before .before .before .before .may-start .ensures) (c .before .before .before .before .before .before .before .enum-told .given .1) (c .before .before .before .before .before .before .base-size .ensures) (c .before .before .before .put .ensures) (c .started .ensures)
+returns-2 c = begin-done _ _ _ _ _ (c .before .before .before .before .before .before .before .before .before .may-start .ensures) (c .before .before .before .before .before .before .before .enum-told .given .1) (c .before .before .before .before .before .before .base-size .ensures) (c .before .before .before .put .ensures) (c .started .ensures)
 
 pub begin-spec : {M : Type 1} → statement M
 begin-spec =

@@ -29,13 +29,13 @@ same-length : tie.Need-same-length
 same-length c = c .before .before .before .before .before .work .given
 
 returns : tie.Need-returns
-returns c = start-refused _ _ _ _ _ (c .before .before .before .before .before .before .begin .ensures) (c .before .before .begun .given .1) (c .refused .ensures)
+returns c = start-refused _ _ _ _ _ _ (c .before .before .before .before .before .before .begin .ensures) (c .before .before .begun .given .1) (c .refused .ensures)
 
 same-length-2 : tie.Need-same-length-2
 same-length-2 c = c .before .before .before .before .before .before .work .given
 
 returns-2 : tie.Need-returns-2
-returns-2 c = start-done _ _ _ _ _ (c .before .before .before .before .before .before .before .begin .ensures) (c .before .before .before .enum-told .given .1) (c .before .before .base-size .ensures) (c .before .fresh .ensures) (c .done .ensures)
+returns-2 c = start-done _ _ _ _ _ _ (c .before .before .before .before .before .before .before .begin .ensures) (c .before .before .before .enum-told .given .1) (c .before .before .base-size .ensures) (c .before .fresh .ensures) (c .done .ensures)
 
 pub start-spec : {M : Type 1} → statement M
 start-spec = tie.close (tie.spec

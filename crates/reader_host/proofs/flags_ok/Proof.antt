@@ -13,10 +13,18 @@ array-read-result-2 c = search needs
 array-read-result-3 : tie.Need-array-read-result-3
 array-read-result-3 c = search needs
 
+array-read-result-4 : tie.Need-array-read-result-4
+array-read-result-4 c = search needs
+
 returns : tie.Need-returns
 unfolding flagsOk
 returns c = search needs
 
 pub flags-ok-spec : {M : Type 1} → statement M
 flags-ok-spec =
-    tie.close (tie.spec array-read-result array-read-result-2 array-read-result-3 returns)
+    tie.close (tie.spec
+    array-read-result
+    array-read-result-2
+    array-read-result-3
+    array-read-result-4
+    returns)

@@ -4,8 +4,11 @@ use borrow.Author.Needs.{needs}
 use Rattle.reader_host.proofs.registers_of.Statement.{statement}
 use Rattle.reader_host.proofs.registers_of.Tie as tie
 
-array-read-t5 : tie.Need-array-read-t5
-array-read-t5 c = search needs
+array-read-mode-of : tie.Need-array-read-mode-of
+array-read-mode-of c = search needs
+
+mode-of-requires : tie.Need-mode-of-requires
+mode-of-requires c κs = search needs
 
 array-read-t9 : tie.Need-array-read-t9
 array-read-t9 c = search needs
@@ -13,14 +16,14 @@ array-read-t9 c = search needs
 array-read-t13 : tie.Need-array-read-t13
 array-read-t13 c = search needs
 
-array-read-t18 : tie.Need-array-read-t18
-array-read-t18 c = search needs
+array-read-t17 : tie.Need-array-read-t17
+array-read-t17 c = search needs
 
-array-read-t21 : tie.Need-array-read-t21
-array-read-t21 c = search needs
+array-read-t22 : tie.Need-array-read-t22
+array-read-t22 c = search needs
 
-array-read-t24 : tie.Need-array-read-t24
-array-read-t24 c = search needs
+array-read-t25 : tie.Need-array-read-t25
+array-read-t25 c = search needs
 
 array-read-t28 : tie.Need-array-read-t28
 array-read-t28 c = search needs
@@ -28,32 +31,41 @@ array-read-t28 c = search needs
 array-read-t31 : tie.Need-array-read-t31
 array-read-t31 c = search needs
 
-array-read-t34 : tie.Need-array-read-t34
-array-read-t34 c = search needs
+array-read-t35 : tie.Need-array-read-t35
+array-read-t35 c = search needs
 
-array-read-t37 : tie.Need-array-read-t37
-array-read-t37 c = search needs
+array-read-t38 : tie.Need-array-read-t38
+array-read-t38 c = search needs
 
-array-read-t40 : tie.Need-array-read-t40
-array-read-t40 c = search needs
+array-read-t41 : tie.Need-array-read-t41
+array-read-t41 c = search needs
+
+array-read-t44 : tie.Need-array-read-t44
+array-read-t44 c = search needs
+
+array-read-t47 : tie.Need-array-read-t47
+array-read-t47 c = search needs
 
 returns : tie.Need-returns
 unfolding registersOf
-returns c = search needs
+returns c = rw (c .mode-of .ensures)
 
 pub registers-of-spec : {M : Type 1} → statement M
 registers-of-spec =
     tie.close
     (tie.spec
-    array-read-t5
+    array-read-mode-of
+    mode-of-requires
     array-read-t9
     array-read-t13
-    array-read-t18
-    array-read-t21
-    array-read-t24
+    array-read-t17
+    array-read-t22
+    array-read-t25
     array-read-t28
     array-read-t31
-    array-read-t34
-    array-read-t37
-    array-read-t40
+    array-read-t35
+    array-read-t38
+    array-read-t41
+    array-read-t44
+    array-read-t47
     returns)

@@ -10,7 +10,7 @@ subject-of-requires : tie.Need-subject-of-requires
 subject-of-requires c κs = search needs
 
 returns : tie.Need-returns
-returns c = node-made _ _ (c .before .subject-of .ensures)
+returns c = node-made _ _ _ (c .before .subject-of .ensures)
 
 pub build-node-elt-spec : {M : Type 1} → statement M
 build-node-elt-spec = tie.close (tie.spec subject-of-requires returns)

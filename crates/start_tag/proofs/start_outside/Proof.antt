@@ -9,9 +9,6 @@ use Rattle.start_tag.proofs.start_outside.Tie as tie
 slice-aggregate-judge-start : tie.Need-slice-aggregate-judge-start
 slice-aggregate-judge-start c = search needs
 
-slice-aggregate-judge-start-2 : tie.Need-slice-aggregate-judge-start-2
-slice-aggregate-judge-start-2 c = search needs
-
 judge-start-requires : tie.Need-judge-start-requires
 judge-start-requires c κs = (judge-asks (c .before .before .before .before .before .before .before .before .before .before .before .before .before .before .before .before .before .before .pre .0), record { classes = search needs; roles = search needs })
 
@@ -24,11 +21,8 @@ enum-known-verdict-2 c = search needs
 slice-aggregate-act : tie.Need-slice-aggregate-act
 slice-aggregate-act c = search needs
 
-slice-aggregate-act-2 : tie.Need-slice-aggregate-act-2
-slice-aggregate-act-2 c = search needs
-
 act-requires : tie.Need-act-requires
-act-requires c κs = ((c .before .before .before .before .before .before .before .before .before .before .before .before .before .before .before .before .before .before .before .before .before .before .before .before .before .before .before .before .before .before .before .before .before .before .before .before .pre .0 .lawful), (c .before .before .before .before .before .before .before .before .before .before .before .before .before .before .before .before .before .before .before .before .before .before .before .before .before .before .before .before .before .before .before .before .before .before .before .before .pre .1), (c .before .before .before .before .before .before .before .before .before .before .before .before .before .before .before .before .before .before .before .before .before .before .before .before .before .before .before .before .before .before .before .before .before .before .before .before .pre .0 .level), start-goes _ (c .before .before .before .before .before .before .before .before .before .before .before .before .before .before .before .before .before .judge-start .ensures) (c .before .before .before .before .before .before .before .before .before .before .before .verdict2 .given .1))
+act-requires c κs = ((c .before .before .before .before .before .before .before .before .before .before .before .before .before .before .before .before .before .before .before .before .before .before .before .before .before .before .before .before .before .before .before .before .before .before .before .before .pre .0 .lawful), (c .before .before .before .before .before .before .before .before .before .before .before .before .before .before .before .before .before .before .before .before .before .before .before .before .before .before .before .before .before .before .before .before .before .before .before .before .pre .1), (c .before .before .before .before .before .before .before .before .before .before .before .before .before .before .before .before .before .before .before .before .before .before .before .before .before .before .before .before .before .before .before .before .before .before .before .before .pre .0 .level), start-goes _ (c .before .before .before .before .before .before .before .before .before .before .before .before .before .before .before .before .before .judge-start .ensures) (c .before .before .before .before .before .before .before .before .before .before .before .before .verdict2 .given .1))
 
 same-length : tie.Need-same-length
 same-length c = refl
@@ -46,7 +40,7 @@ same-length-5 : tie.Need-same-length-5
 same-length-5 c = c .before .before .before .before .area .given
 
 returns : tie.Need-returns
-returns c = start-stops _ (c .before .before .before .before .before .before .before .judge-start .ensures) (c .before .verdict .given .1)
+returns c = start-stops _ (c .before .before .before .before .before .before .judge-start .ensures) (c .before .verdict .given .1)
 
 same-length-6 : tie.Need-same-length-6
 same-length-6 c = c .before .before .before .before .before .before .before .before .before .frames .given
@@ -61,7 +55,7 @@ same-length-9 : tie.Need-same-length-9
 same-length-9 c = c .before .before .before .ids .given
 
 same-length-10 : tie.Need-same-length-10
-same-length-10 c = c .before .before .before .before .before .before .before .before .before .before .before .before .before .before .before .before .before .before .before .before .before .before .before .before .before .area .given
+same-length-10 c = c .before .before .before .before .before .before .before .before .before .before .before .before .before .before .before .before .before .before .before .before .before .before .before .before .before .before .area .given
 
 same-length-11 : tie.Need-same-length-11
 same-length-11 c = c .before .out .given
@@ -74,12 +68,10 @@ start-outside-spec =
     tie.close
     (tie.spec
     slice-aggregate-judge-start
-    slice-aggregate-judge-start-2
     judge-start-requires
     enum-known-verdict
     enum-known-verdict-2
     slice-aggregate-act
-    slice-aggregate-act-2
     act-requires
     same-length
     same-length-2

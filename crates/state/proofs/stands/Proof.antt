@@ -7,6 +7,9 @@ use Rattle.state.proofs.stands.Tie as tie
 enum-told : tie.Need-enum-told
 enum-told c = search needs
 
+is-root-in-requires : tie.Need-is-root-in-requires
+is-root-in-requires c κs = search needs
+
 enum-told-2 : tie.Need-enum-told-2
 enum-told-2 c = search needs
 
@@ -39,7 +42,7 @@ enum-told-7 c = search needs
 
 returns : tie.Need-returns
 unfolding stands
-returns c = search needs
+returns c = rw (c .before .enum-told .given .1) (c .is-root-in .ensures)
 
 returns-2 : tie.Need-returns-2
 unfolding stands
@@ -63,13 +66,14 @@ returns-6 c = rw (c .before .enum-told6 .given .1) (c .node-below4 .ensures)
 
 returns-7 : tie.Need-returns-7
 unfolding stands
-returns-7 c = search needs
+returns-7 c = rw (c .enum-told7 .given .1)
 
 pub stands-spec : {M : Type 1} → statement M
 stands-spec =
     tie.close
     (tie.spec
     enum-told
+    is-root-in-requires
     enum-told-2
     enum-told-3
     node-below-requires

@@ -11,11 +11,19 @@ returns c = held-wild _ (omega arith)
 returns-2 : tie.Need-returns-2
 returns-2 c = held-crossed _ (omega arith) (omega arith)
 
+minus-requires : tie.Need-minus-requires
+minus-requires c κs = search needs
+
 add-result : tie.Need-add-result
 add-result c = search needs
 
 returns-3 : tie.Need-returns-3
-returns-3 c = held-is _ (omega arith) (omega arith)
+returns-3 c = rw (c .before .minus .ensures) (held-is _ (omega arith) (omega arith))
 
 pub held-spec : {M : Type 1} → statement M
-held-spec = tie.close (tie.spec returns returns-2 add-result returns-3)
+held-spec = tie.close (tie.spec
+    returns
+    returns-2
+    minus-requires
+    add-result
+    returns-3)

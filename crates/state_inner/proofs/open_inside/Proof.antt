@@ -49,7 +49,7 @@ same-length-2 : tie.Need-same-length-2
 same-length-2 c = search needs
 
 returns-7 : tie.Need-returns-7
-returns-7 c = open-done (omega arith) (omega arith) (omega arith) (omega arith) (c .before .before .before .before .before .store .ensures) (not-false _ (c .before .before .if6 .left)) (c .inside .ensures)
+returns-7 c = open-done (omega (arith, c .before .before .before .before .before .before .before .before .before .before .before .before .before .before .before .if1 .left, c .before .before .before .before .before .before .before .before .before .before .before .before .if2 .left)) (omega (arith, c .before .before .before .before .before .before .before .before .before .before .before .if3 .left)) (omega (arith, c .before .before .before .before .before .before .before .before .before .before .if4 .left)) (omega (arith, c .before .before .before .before .before .before .before .before .if5 .left)) (c .before .before .before .before .before .store .ensures) (not-false _ (c .before .before .if6 .left)) (c .inside .ensures)
 
 pub open-inside-spec : {M : Type 1} → statement M
 open-inside-spec =

@@ -25,20 +25,23 @@ same-length-2 c = search needs
 returns-2 : tie.Need-returns-2
 returns-2 c = count-empty (c .before .before .before .before .before .before .top .ensures) (yes (c .before .before .before .same-kind .ensures) (c .before .before .if1 .left)) (c .if2 .taken)
 
-array-read-count : tie.Need-array-read-count
-array-read-count c = search needs
+array-read-wide : tie.Need-array-read-wide
+array-read-wide c = search needs
 
-cast-if3 : tie.Need-cast-if3
-cast-if3 c = search needs
+wide-requires : tie.Need-wide-requires
+wide-requires c κs = search needs
 
 same-length-3 : tie.Need-same-length-3
 same-length-3 c = refl
 
 returns-3 : tie.Need-returns-3
-returns-3 c = count-spent (c .before .before .before .before .before .before .before .top .ensures) (yes (c .before .before .before .before .same-kind .ensures) (c .before .before .before .if1 .left)) (c .before .if2 .left) (omega arith)
+returns-3 c = count-spent (c .before .before .before .before .before .before .before .before .top .ensures) (yes (c .before .before .before .before .before .same-kind .ensures) (c .before .before .before .before .if1 .left)) (c .before .before .if2 .left) (omega (arith, c .before .wide .ensures .0))
 
 add-has : tie.Need-add-has
 add-has c = search needs
+
+cast-has : tie.Need-cast-has
+cast-has c = search needs
 
 array-write-has : tie.Need-array-write-has
 array-write-has c = search needs
@@ -53,7 +56,7 @@ same-length-4 : tie.Need-same-length-4
 same-length-4 c = search needs
 
 returns-4 : tie.Need-returns-4
-returns-4 c = count-done (c .before .before .before .before .before .before .before .before .before .before .before .before .top .ensures) (yes (c .before .before .before .before .before .before .before .before .before .same-kind .ensures) (c .before .before .before .before .before .before .before .before .if1 .left)) (c .before .before .before .before .before .before .if2 .left) (omega arith) (c .before .before .store .ensures)
+returns-4 c = count-done (c .before .before .before .before .before .before .before .before .before .before .before .before .before .top .ensures) (yes (c .before .before .before .before .before .before .before .before .before .before .same-kind .ensures) (c .before .before .before .before .before .before .before .before .before .if1 .left)) (c .before .before .before .before .before .before .before .if2 .left) (omega (arith, c .before .before .before .before .before .before .wide .ensures .0)) (rw (c .before .before .before .before .before .before .wide .ensures .0) at (c .before .before .store .ensures))
 
 pub count-li-spec : {M : Type 1} → statement M
 count-li-spec =
@@ -65,11 +68,12 @@ count-li-spec =
     returns
     same-length-2
     returns-2
-    array-read-count
-    cast-if3
+    array-read-wide
+    wide-requires
     same-length-3
     returns-3
     add-has
+    cast-has
     array-write-has
     sub-store
     store-requires

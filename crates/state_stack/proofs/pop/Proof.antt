@@ -32,11 +32,17 @@ wide-requires-2 c κs = search needs
 sub-depth : tie.Need-sub-depth
 sub-depth c = search needs
 
+noted-of-requires : tie.Need-noted-of-requires
+noted-of-requires c κs = search needs
+
+minus-requires : tie.Need-minus-requires
+minus-requires c κs = search needs
+
 of-requires : tie.Need-of-requires
 of-requires c κs = search needs
 
 returns-3 : tie.Need-returns-3
-returns-3 c = rw (c .of .ensures, c .before .before .before .wide .ensures .0, c .before .before .wide2 .ensures .0) (pop-done (omega arith) (c .before .before .before .before .before .before .before .before .if2 .left) (c .before .before .before .before .before .before .load .ensures))
+returns-3 c = rw (c .of .ensures, c .before .minus .ensures, c .before .before .noted-of .ensures .0, c .before .before .before .before .before .wide .ensures .0, c .before .before .before .before .wide2 .ensures .0) (pop-done (omega (arith, c .before .before .before .before .before .before .before .before .before .before .before .before .if1 .left)) (c .before .before .before .before .before .before .before .before .before .before .if2 .left) (c .before .before .before .before .before .before .before .before .load .ensures))
 
 pub pop-spec : {M : Type 1} → statement M
 pop-spec =
@@ -51,5 +57,7 @@ pop-spec =
     array-read-wide-2
     wide-requires-2
     sub-depth
+    noted-of-requires
+    minus-requires
     of-requires
     returns-3)

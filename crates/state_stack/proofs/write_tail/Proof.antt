@@ -58,7 +58,7 @@ same-length-3 : tie.Need-same-length-3
 same-length-3 c = c .before .before .work .given
 
 returns-7 : tie.Need-returns-7
-returns-7 c = tail-done (c .before .before .before .before .before .before .before .before .before .before .before .before .before .before .before .before .before .if1 .left) (omega arith) (omega arith) (omega arith) (c .before .before .before .before .before .before .before .before .store .ensures) (not-false _ (c .before .before .before .before .before .if6 .left)) (c .before .before .before .put .ensures) (c .with-top .ensures)
+returns-7 c = tail-done (c .before .before .before .before .before .before .before .before .before .before .before .before .before .before .before .before .before .if1 .left) (omega (arith, c .before .before .before .before .before .before .before .before .before .before .before .before .before .before .before .before .if2 .left)) (omega (arith, c .before .before .before .before .before .before .before .before .before .before .before .before .before .before .before .if3 .left)) (omega (arith, c .before .before .before .before .before .before .before .before .before .before .before .before .before .before .if4 .left, c .before .before .before .before .before .before .before .before .before .before .before .before .before .if5 .left)) (c .before .before .before .before .before .before .before .before .store .ensures) (not-false _ (c .before .before .before .before .before .if6 .left)) (c .before .before .before .put .ensures) (c .with-top .ensures)
 
 pub write-tail-spec : {M : Type 1} → statement M
 write-tail-spec =

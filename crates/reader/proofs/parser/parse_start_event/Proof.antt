@@ -34,7 +34,7 @@ returns : tie.Need-returns
 returns c = (without-ids (c .before .before .before .before .before .before .before .before .before .before .before .before .before .before .before .before .before .before .before .before .before .before .before .before .before .before .before .before .before .pre .0 .lawful .table) (c .before .before .before .before .before .before .before .before .before .before .before .start-inside .ensures .handles _) (c .with-ids .ensures), search needs)
 
 start-outside-requires : tie.Need-start-outside-requires
-start-outside-requires c κs = (record { lawful = c .before .before .before .before .before .before .before .before .before .before .before .before .before .before .before .before .before .before .before .before .before .pre .0 .lawful; level = stands-flat _ _ (c .before .before .before .before .before .before .before .before .before .before .stands-in-literal .ensures) (c .before .before .before .before .before .before .before .before .before .if1 .left); outer = stands-outside (c .before .before .before .before .before .before .before .before .before .before .before .before .before .before .before .before .before .before .before .before .before .pre .0 .lawful .valid) (c .before .before .before .before .before .before .before .before .before .before .stands-in-literal .ensures) (c .before .before .before .before .before .before .before .before .before .if1 .left); tag = c .before .before .before .before .before .before .before .before .before .before .before .before .before .before .before .before .before .before .before .before .before .pre .1 .tag; ready = record { event = c .before .before .before .before .before .before .before .before .before .before .before .before .before .before .before .before .before .before .before .before .before .pre .1 .texts; words = c .before .before .before .before .before .before .before .before .before .before .before .before .before .before .before .before .before .before .before .before .before .pre .1 .words; room = c .before .before .before .before .before .before .before .before .before .before .before .before .before .before .before .before .before .before .before .before .before .pre .1 .area; small = c .before .before .before .before .before .before .before .before .before .before .before .before .before .before .before .before .before .before .before .before .before .pre .1 .most; few = c .before .before .before .before .before .before .before .before .before .before .before .before .before .before .before .before .before .before .before .before .before .pre .1 .tag .few } }, c .before .before .before .before .before .before .before .before .before .before .before .before .before .before .before .before .before .before .before .before .before .pre .0 .mark)
+start-outside-requires c κs = (record { lawful = c .before .before .before .before .before .before .before .before .before .before .before .before .before .before .before .before .before .before .before .before .before .before .pre .0 .lawful; level = stands-flat _ _ (c .before .before .before .before .before .before .before .before .before .before .before .stands-in-literal .ensures) (c .before .before .before .before .before .before .before .before .before .before .if1 .left); outer = stands-outside (c .before .before .before .before .before .before .before .before .before .before .before .before .before .before .before .before .before .before .before .before .before .before .pre .0 .lawful .valid) (c .before .before .before .before .before .before .before .before .before .before .before .stands-in-literal .ensures) (c .before .before .before .before .before .before .before .before .before .before .if1 .left); tag = c .before .before .before .before .before .before .before .before .before .before .before .before .before .before .before .before .before .before .before .before .before .before .pre .1 .tag; ready = record { event = c .before .before .before .before .before .before .before .before .before .before .before .before .before .before .before .before .before .before .before .before .before .before .pre .1 .texts; words = c .before .before .before .before .before .before .before .before .before .before .before .before .before .before .before .before .before .before .before .before .before .before .pre .1 .words; room = c .before .before .before .before .before .before .before .before .before .before .before .before .before .before .before .before .before .before .before .before .before .before .pre .1 .area; small = c .before .before .before .before .before .before .before .before .before .before .before .before .before .before .before .before .before .before .before .before .before .before .pre .1 .most; few = c .before .before .before .before .before .before .before .before .before .before .before .before .before .before .before .before .before .before .before .before .before .before .pre .1 .tag .few } }, c .before .before .before .before .before .before .before .before .before .before .before .before .before .before .before .before .before .before .before .before .before .before .pre .0 .mark)
 
 same-length-6 : tie.Need-same-length-6
 same-length-6 c = c .before .before .before .before .before .before .before .before .before .before .before .frames2 .given

@@ -24,7 +24,7 @@ slice-aggregate-parse-event : tie.Need-slice-aggregate-parse-event
 slice-aggregate-parse-event c = sym (take-size (c .before .before .before .before .before .before .before .before .before .before .before .first-event .ensures) (c .before .before .before .before .before .before .before .before .before .n .given .1))
 
 parse-event-requires : tie.Need-parse-event-requires
-parse-event-requires c κs = (c .before .before .before .before .before .before .before .before .before .before .before .before .before .before .before .before .before .before .before .before .before .before .before .before .before .before .pre .0, c .before .before .before .before .before .before .before .before .before .before .before .before .before .before .before .before .before .before .before .before .before .before .before .before .before .before .pre .1, take-read (c .before .before .before .before .before .before .before .before .before .before .before .before .before .before .before .first-event .ensures) (c .before .before .before .before .before .before .before .before .before .before .before .before .before .n .given .1) _ (c .before .before .before .before .before .before .before .before .before .before .before .before .before .before .before .before .before .before .before .before .before .before .before .before .before .before .pre .1 .scratch))
+parse-event-requires c κs = (c .before .before .before .before .before .before .before .before .before .before .before .before .before .before .before .before .before .before .before .before .before .before .before .before .before .before .before .pre .0, c .before .before .before .before .before .before .before .before .before .before .before .before .before .before .before .before .before .before .before .before .before .before .before .before .before .before .before .pre .1, take-read (c .before .before .before .before .before .before .before .before .before .before .before .before .before .before .before .before .first-event .ensures) (c .before .before .before .before .before .before .before .before .before .before .before .before .before .before .n .given .1) _ (c .before .before .before .before .before .before .before .before .before .before .before .before .before .before .before .before .before .before .before .before .before .before .before .before .before .before .before .pre .1 .scratch))
 
 took-requires : tie.Need-took-requires
 took-requires c κs = search needs
@@ -66,7 +66,7 @@ same-length-9 : tie.Need-same-length-9
 same-length-9 c = c .before .before .area .given
 
 returns-4 : tie.Need-returns-4
-returns-4 c = (take-parsed (c .before .before .before .before .before .before .before .before .before .before .before .before .before .before .before .before .before .before .before .before .before .before .before .before .before .before .before .before .before .before .before .before .before .before .before .first-event .ensures) (c .before .before .before .before .before .before .before .before .before .before .before .before .before .before .before .before .before .before .before .before .before .before .before .before .before .before .before .before .before .before .before .before .before .n .given .1) (c .before .before .before .before .before .before .before .before .before .before .before .before .before .before .before .before .before .before .before .parse-event .ensures .0) (c .took .ensures), c .before .before .before .before .before .before .before .before .before .before .before .before .before .before .before .before .before .before .before .parse-event .ensures .1)
+returns-4 c = (take-parsed (c .before .before .before .before .before .before .before .before .before .before .before .before .before .before .before .before .before .before .before .before .before .before .before .before .before .before .before .before .before .before .before .before .before .before .before .before .first-event .ensures) (c .before .before .before .before .before .before .before .before .before .before .before .before .before .before .before .before .before .before .before .before .before .before .before .before .before .before .before .before .before .before .before .before .before .before .n .given .1) (c .before .before .before .before .before .before .before .before .before .before .before .before .before .before .before .before .before .before .before .parse-event .ensures .0) (c .took .ensures), c .before .before .before .before .before .before .before .before .before .before .before .before .before .before .before .before .before .before .before .parse-event .ensures .1)
 
 pub core-spec : {M : Type 1} → statement M
 core-spec =

@@ -1,7 +1,7 @@
--- `judging::judge_property` meets its contract.
-use mathlib.Core.Path.{ap}
+-- `judging::judge_property` meets its contract: 14, 19, 15 or 18, 7, or what is planned.
+use mathlib.Core.Path.{refl, ap}
 use Rattle.state.specs.Meaning.{count}
-use Rattle.start_tag.specs.Properties.{property-refused, property-long, property-judged, parse-read, both-left}
+use Rattle.start_tag.specs.Properties.{property-reserved-here, property-broken, property-refused, property-long, property-judged, both-left, parse-read}
 use borrow.Author.Tests.{not-true, not-false}
 use borrow.Author.Needs.{needs}
 use Rattle.start_tag.proofs.judging.judge_property.Statement.{statement}
@@ -21,6 +21,18 @@ iri-text-requires c κs = search needs
 
 is-reserved-property-requires : tie.Need-is-reserved-property-requires
 is-reserved-property-requires c κs = search needs
+
+same-length : tie.Need-same-length
+same-length c = refl
+
+returns : tie.Need-returns
+returns c = property-reserved-here (c .before .before .iri-text .ensures) (c .before .is-reserved-property .ensures) (c .if1 .taken)
+
+same-length-2 : tie.Need-same-length-2
+same-length-2 c = refl
+
+returns-2 : tie.Need-returns-2
+returns-2 c = property-broken (c .before .before .before .iri-text .ensures) (c .before .before .is-reserved-property .ensures) (c .before .if1 .left) (c .before .before .before .before .before .before .before .before .before .before .before .before .pre .2) (not-true _ (c .if2 .taken))
 
 is-li-requires : tie.Need-is-li-requires
 is-li-requires c κs = search needs
@@ -43,29 +55,29 @@ enum-known-why c = search needs
 enum-told : tie.Need-enum-told
 enum-told c = search needs
 
-same-length : tie.Need-same-length
-same-length c = search needs
+same-length-3 : tie.Need-same-length-3
+same-length-3 c = refl
 
-returns : tie.Need-returns
-returns c = property-long (c .before .before .before .before .before .before .before .before .before .before .before .before .iri-text .ensures) (c .before .before .before .before .before .before .before .before .before .before .before .is-reserved-property .ensures) (c .before .before .before .before .before .before .before .before .before .before .is-li .ensures) (c .before .before .before .before .before .before .is-missing .ensures) (parse-read _ _ _ _ (c .before .before .before .before .before .before .before .parse-type-of .ensures) (c .before .before .before .before .before .before .before .before .value-of .ensures)) (ap count (c .before .before .before .before .before .before .before .before .before .before .before .before .before .before .before .top .ensures)) (c .before .before .before .before .judge-property .ensures) (c .before .before .enum-told .given .1) (not-true _ (c .if1 .taken))
+returns-3 : tie.Need-returns-3
+returns-3 c = property-long (c .before .before .before .before .before .before .before .before .before .before .before .before .before .before .iri-text .ensures) (c .before .before .before .before .before .before .before .before .before .before .before .before .before .is-reserved-property .ensures) (c .before .before .before .before .before .before .before .before .before .before .before .before .before .before .before .before .before .before .before .before .before .before .before .pre .2) (not-false _ (c .before .before .before .before .before .before .before .before .before .before .before .if2 .left)) (c .before .before .before .before .before .before .before .before .before .before .is-li .ensures) (c .before .before .before .before .before .before .is-missing .ensures) (parse-read _ _ _ _ (c .before .before .before .before .before .before .before .parse-type-of .ensures) (c .before .before .before .before .before .before .before .before .value-of .ensures)) (ap count (c .before .before .before .before .before .before .before .before .before .before .before .before .before .before .before .before .before .top .ensures)) (c .before .before .before .before .judge-property .ensures) (c .before .before .enum-told .given .1) (not-true _ (c .if3 .taken))
 
 takes-label-requires : tie.Need-takes-label-requires
 takes-label-requires c κs = search needs
 
 make-property-requires : tie.Need-make-property-requires
-make-property-requires c κs = ((c .before .before .before .before .before .before .before .before .before .before .before .before .before .before .before .before .before .before .before .before .before .before .before .pre), both-left (c .before .before .before .before .before .before .before .judge-property .ensures) (c .before .before .before .before .before .enum-told .given .1) (c .before .takes-label .ensures))
+make-property-requires c κs = ((c .before .before .before .before .before .before .before .before .before .before .before .before .before .before .before .before .before .before .before .before .before .before .before .before .before .before .pre .0), (c .before .before .before .before .before .before .before .before .before .before .before .before .before .before .before .before .before .before .before .before .before .before .before .before .before .before .pre .1), both-left (c .before .before .before .before .before .before .before .judge-property .ensures) (c .before .before .before .before .before .enum-told .given .1) (c .before .takes-label .ensures))
 
-same-length-2 : tie.Need-same-length-2
-same-length-2 c = search needs
+same-length-4 : tie.Need-same-length-4
+same-length-4 c = refl
 
-returns-2 : tie.Need-returns-2
-returns-2 c = property-refused (c .before .before .before .before .before .before .before .before .before .before .before .iri-text .ensures) (c .before .before .before .before .before .before .before .before .before .before .is-reserved-property .ensures) (c .before .before .before .before .before .before .before .before .before .is-li .ensures) (c .before .before .before .before .before .is-missing .ensures) (parse-read _ _ _ _ (c .before .before .before .before .before .before .parse-type-of .ensures) (c .before .before .before .before .before .before .before .value-of .ensures)) (ap count (c .before .before .before .before .before .before .before .before .before .before .before .before .before .before .top .ensures)) (c .before .before .before .judge-property .ensures) (c .before .why .given .1)
+returns-4 : tie.Need-returns-4
+returns-4 c = property-refused (c .before .before .before .before .before .before .before .before .before .before .before .before .before .iri-text .ensures) (c .before .before .before .before .before .before .before .before .before .before .before .before .is-reserved-property .ensures) (c .before .before .before .before .before .before .before .before .before .before .before .before .before .before .before .before .before .before .before .before .before .before .pre .2) (not-false _ (c .before .before .before .before .before .before .before .before .before .before .if2 .left)) (c .before .before .before .before .before .before .before .before .before .is-li .ensures) (c .before .before .before .before .before .is-missing .ensures) (parse-read _ _ _ _ (c .before .before .before .before .before .before .parse-type-of .ensures) (c .before .before .before .before .before .before .before .value-of .ensures)) (ap count (c .before .before .before .before .before .before .before .before .before .before .before .before .before .before .before .before .top .ensures)) (c .before .before .before .judge-property .ensures) (c .before .why .given .1)
 
-same-length-3 : tie.Need-same-length-3
-same-length-3 c = search needs
+same-length-5 : tie.Need-same-length-5
+same-length-5 c = c .before .area .given
 
-returns-3 : tie.Need-returns-3
-returns-3 c = property-judged (c .before .before .before .before .before .before .before .before .before .before .before .before .before .before .before .before .before .before .iri-text .ensures) (c .before .before .before .before .before .before .before .before .before .before .before .before .before .before .before .before .before .is-reserved-property .ensures) (c .before .before .before .before .before .before .before .before .before .before .before .before .before .before .before .before .is-li .ensures) (c .before .before .before .before .before .before .before .before .before .before .before .before .is-missing .ensures) (parse-read _ _ _ _ (c .before .before .before .before .before .before .before .before .before .before .before .before .before .parse-type-of .ensures) (c .before .before .before .before .before .before .before .before .before .before .before .before .before .before .value-of .ensures)) (ap count (c .before .before .before .before .before .before .before .before .before .before .before .before .before .before .before .before .before .before .before .before .before .top .ensures)) (c .before .before .before .before .before .before .before .before .before .before .judge-property .ensures) (c .before .before .before .before .before .before .before .before .enum-told .given .1) (c .before .before .before .before .takes-label .ensures) (not-false _ (c .before .before .before .before .before .before .if1 .left)) (c .before .before .before .before .before .before .before .before .before .before .before .before .before .before .before .before .before .before .before .before .before .before .before .before .before .before .pre) (c .before .before .make-property .ensures)
+returns-5 : tie.Need-returns-5
+returns-5 c = property-judged (c .before .before .before .before .before .before .before .before .before .before .before .before .before .before .before .before .before .before .before .before .iri-text .ensures) (c .before .before .before .before .before .before .before .before .before .before .before .before .before .before .before .before .before .before .before .is-reserved-property .ensures) (c .before .before .before .before .before .before .before .before .before .before .before .before .before .before .before .before .before .before .before .before .before .before .before .before .before .before .before .before .before .pre .2) (not-false _ (c .before .before .before .before .before .before .before .before .before .before .before .before .before .before .before .before .before .if2 .left)) (c .before .before .before .before .before .before .before .before .before .before .before .before .before .before .before .before .is-li .ensures) (c .before .before .before .before .before .before .before .before .before .before .before .before .is-missing .ensures) (parse-read _ _ _ _ (c .before .before .before .before .before .before .before .before .before .before .before .before .before .parse-type-of .ensures) (c .before .before .before .before .before .before .before .before .before .before .before .before .before .before .value-of .ensures)) (ap count (c .before .before .before .before .before .before .before .before .before .before .before .before .before .before .before .before .before .before .before .before .before .before .before .top .ensures)) (c .before .before .before .before .before .before .before .before .before .before .judge-property .ensures) (c .before .before .before .before .before .before .before .before .enum-told .given .1) (c .before .before .before .before .takes-label .ensures) (not-false _ (c .before .before .before .before .before .before .if3 .left)) (c .before .before .before .before .before .before .before .before .before .before .before .before .before .before .before .before .before .before .before .before .before .before .before .before .before .before .before .before .before .pre .0) (c .before .before .make-property .ensures)
 
 pub judge-property-spec : {M : Type 1} → statement M
 judge-property-spec =
@@ -76,6 +88,10 @@ judge-property-spec =
     cast-numbers
     iri-text-requires
     is-reserved-property-requires
+    same-length
+    returns
+    same-length-2
+    returns-2
     is-li-requires
     value-of-requires
     parse-type-of-requires
@@ -83,11 +99,11 @@ judge-property-spec =
     judge-property-requires
     enum-known-why
     enum-told
-    same-length
-    returns
+    same-length-3
+    returns-3
     takes-label-requires
     make-property-requires
-    same-length-2
-    returns-2
-    same-length-3
-    returns-3)
+    same-length-4
+    returns-4
+    same-length-5
+    returns-5)

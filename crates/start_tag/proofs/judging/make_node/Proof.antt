@@ -6,10 +6,7 @@ use Rattle.start_tag.proofs.judging.make_node.Statement.{statement}
 use Rattle.start_tag.proofs.judging.make_node.Tie as tie
 
 make-label-requires : tie.Need-make-label-requires
-make-label-requires c κs = label-asks (c .before .before .before .before .pre .0) (c .before .before .before .before .pre .1)
-
-given-requires : tie.Need-given-requires
-given-requires c κs = search needs
+make-label-requires c κs = label-asks (c .before .before .before .before .pre .0) (c .before .before .before .before .pre .2)
 
 build-node-elt-requires : tie.Need-build-node-elt-requires
 build-node-elt-requires c κs = search needs
@@ -18,17 +15,16 @@ start-by-requires : tie.Need-start-by-requires
 start-by-requires c κs = search needs
 
 same-length : tie.Need-same-length
-same-length c = search needs
+same-length c = c .before .before .before .area .given
 
 returns : tie.Need-returns
-returns c = node-made (c .before .before .given .ensures) (c .before .build-node-elt .ensures) (c .before .before .before .before .before .make-label .ensures) (c .start-by .ensures)
+returns c = node-made (c .before .before .before .before .before .before .before .before .before .pre .1) (c .before .build-node-elt .ensures) (c .before .before .before .before .make-label .ensures) (c .start-by .ensures)
 
 pub make-node-spec : {M : Type 1} → statement M
 make-node-spec =
     tie.close
     (tie.spec
     make-label-requires
-    given-requires
     build-node-elt-requires
     start-by-requires
     same-length

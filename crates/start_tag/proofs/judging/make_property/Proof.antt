@@ -1,4 +1,5 @@
 -- `judging::make_property` meets its contract.
+use mathlib.Core.Path.{refl, _∙_}
 use Rattle.start_tag.specs.Properties.{labels-asks, numbers-asks, property-made}
 use native.Mathlib.Omega.{arith}
 use borrow.Author.Needs.{needs}
@@ -6,13 +7,10 @@ use Rattle.start_tag.proofs.judging.make_property.Statement.{statement}
 use Rattle.start_tag.proofs.judging.make_property.Tie as tie
 
 label-if-requires : tie.Need-label-if-requires
-label-if-requires c κs = labels-asks (c .before .before .before .before .pre .0) (c .before .before .before .before .pre .1)
+label-if-requires c κs = labels-asks (c .before .before .before .before .pre .0) (c .before .before .before .before .pre .2)
 
 numbered-requires : tie.Need-numbered-requires
-numbered-requires c κs = numbers-asks (c .before .before .before .before .before .before .before .before .pre .0) (c .before .before .before .before .before .before .before .before .pre .1) (c .before .before .before .label-if .ensures)
-
-given-requires : tie.Need-given-requires
-given-requires c κs = search needs
+numbered-requires c κs = numbers-asks (c .before .before .before .before .before .before .before .before .pre .0) (c .before .before .before .before .before .before .before .before .pre .2) (c .before .before .before .label-if .ensures)
 
 property-plan-requires : tie.Need-property-plan-requires
 property-plan-requires c κs = search needs
@@ -21,10 +19,10 @@ start-by-requires : tie.Need-start-by-requires
 start-by-requires c κs = search needs
 
 same-length : tie.Need-same-length
-same-length c = search needs
+same-length c = c .before .before .before .area2 .given ∙ c .before .before .before .before .before .before .before .area .given
 
 returns : tie.Need-returns
-returns c = property-made (c .before .before .before .before .before .before .before .before .before .before .before .before .before .before .pre .0) (c .before .before .before .before .before .before .before .before .before .label-if .ensures) (c .before .before .before .before .before .numbered .ensures) (c .before .before .given .ensures) (c .before .property-plan .ensures) (c .start-by .ensures)
+returns c = property-made (c .before .before .before .before .before .before .before .before .before .before .before .before .before .pre .0) (c .before .before .before .before .before .before .before .before .label-if .ensures) (c .before .before .before .before .numbered .ensures) (c .before .before .before .before .before .before .before .before .before .before .before .before .before .pre .1) (c .before .property-plan .ensures) (c .start-by .ensures)
 
 pub make-property-spec : {M : Type 1} → statement M
 make-property-spec =
@@ -32,7 +30,6 @@ make-property-spec =
     (tie.spec
     label-if-requires
     numbered-requires
-    given-requires
     property-plan-requires
     start-by-requires
     same-length

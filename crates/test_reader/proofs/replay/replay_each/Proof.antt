@@ -10,10 +10,10 @@ use Rattle.test_reader.proofs.replay.replay_each.Statement.{statement}
 use Rattle.test_reader.proofs.replay.replay_each.Tie as tie
 
 abbrev Inv-loop : tie.InvT-loop
-Inv-loop text work₀ ids₀ out₀ at₀ count₀ same₀ work ids out at count same = (same ≤ count) × (count ≤ at) × (at ≤ length text) × (length work ≡ length work₀) × (length ids ≡ length ids₀) × (length out ≡ length out₀)
+Inv-loop text mode work₀ ids₀ out₀ at₀ count₀ same₀ work ids out at count same = (same ≤ count) × (count ≤ at) × (at ≤ length text) × (length work ≡ length work₀) × (length ids ≡ length ids₀) × (length out ≡ length out₀)
 
 abbrev μ-loop : tie.MeasureT-loop
-μ-loop text work₀ ids₀ out₀ at₀ count₀ same₀ work ids out at count same = length text - at
+μ-loop text mode work₀ ids₀ out₀ at₀ count₀ same₀ work ids out at count same = length text - at
 
 loop-holds : tie.Need-loop-holds Inv-loop μ-loop
 loop-holds c = search needs

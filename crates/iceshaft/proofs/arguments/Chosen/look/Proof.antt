@@ -2,7 +2,7 @@
 use mathlib.Core.Path.{sym, _∙_}
 use Rattle.spec.specs.Bytes.{ascii}
 use borrow.Author.Tests.{not-true, not-false}
-use Rattle.iceshaft.specs.Arguments.{look-base, look-file, look-late, look-pyx, look-awaits, look-unknown}
+use Rattle.iceshaft.specs.Arguments.{look-base, look-file, look-late, look-pyx, look-xmp, look-awaits, look-unknown}
 use borrow.Author.Needs.{needs}
 use Rattle.iceshaft.proofs.arguments.Chosen.look.Statement.{statement}
 use Rattle.iceshaft.proofs.arguments.Chosen.look.Tie as tie
@@ -49,16 +49,35 @@ slice-aggregate-equal-2 c = search needs
 equal-requires-2 : tie.Need-equal-requires-2
 equal-requires-2 c κs = search needs
 
-awaiting-requires : tie.Need-awaiting-requires
-awaiting-requires c κs = search needs
+with-xmp-requires : tie.Need-with-xmp-requires
+with-xmp-requires c κs = search needs
 
 returns-5 : tie.Need-returns-5
 unfolding ascii
-returns-5 c = look-awaits (c .before .before .before .before .before .before .before .before .before .before .before .before .before .before .args .self) (c .before .before .before .before .before .before .before .before .before .before .before .before .before .before .args .i) (c .before .before .before .before .before .before .before .before .before .before .before .before .before .before .args .word .now) (c .before .before .before .before .before .before .before .before .before .before .before .before .if1 .left) (sym (c .before .before .before .before .before .before .before .before .before .before .begins .ensures) ∙ not-false _ (c .before .before .before .before .before .before .before .before .before .if2 .left)) (c .before .before .before .before .before .before .before .if3 .left) (sym (c .before .before .before .before .before .equal .ensures) ∙ c .before .before .before .before .if4 .left) (sym (c .before .before .equal2 .ensures) ∙ c .before .if5 .taken) (c .awaiting .ensures)
+returns-5 c =
+    look-xmp (c .before .before .before .before .before .before .before .before .before .before .before .before .before .before .args .self) (c .before .before .before .before .before .before .before .before .before .before .before .before .before .before .args .i) (c .before .before .before .before .before .before .before .before .before .before .before .before .before .before .args .word .now) (c .before .before .before .before .before .before .before .before .before .before .before .before .if1 .left) (sym (c .before .before .before .before .before .before .before .before .before .before .begins .ensures) ∙ not-false _ (c .before .before .before .before .before .before .before .before .before .if2 .left)) (c .before .before .before .before .before .before .before .if3 .left)
+    (sym (c .before .before .before .before .before .equal .ensures) ∙ c .before .before .before .before .if4 .left) (sym (c .before .before .equal2 .ensures) ∙ c .before .if5 .taken) (c .with-xmp .ensures)
+
+slice-aggregate-equal-3 : tie.Need-slice-aggregate-equal-3
+slice-aggregate-equal-3 c = search needs
+
+equal-requires-3 : tie.Need-equal-requires-3
+equal-requires-3 c κs = search needs
+
+awaiting-requires : tie.Need-awaiting-requires
+awaiting-requires c κs = search needs
 
 returns-6 : tie.Need-returns-6
 unfolding ascii
-returns-6 c = look-unknown (c .before .before .before .before .before .before .before .before .before .before .before .before .before .args .self) (c .before .before .before .before .before .before .before .before .before .before .before .before .before .args .i) (c .before .before .before .before .before .before .before .before .before .before .before .before .before .args .word .now) (c .before .before .before .before .before .before .before .before .before .before .before .if1 .left) (sym (c .before .before .before .before .before .before .before .before .before .begins .ensures) ∙ not-false _ (c .before .before .before .before .before .before .before .before .if2 .left)) (c .before .before .before .before .before .before .if3 .left) (sym (c .before .before .before .before .equal .ensures) ∙ c .before .before .before .if4 .left) (sym (c .before .equal2 .ensures) ∙ c .if5 .left)
+returns-6 c =
+    look-awaits (c .before .before .before .before .before .before .before .before .before .before .before .before .before .before .before .before .before .args .self) (c .before .before .before .before .before .before .before .before .before .before .before .before .before .before .before .before .before .args .i) (c .before .before .before .before .before .before .before .before .before .before .before .before .before .before .before .before .before .args .word .now) (c .before .before .before .before .before .before .before .before .before .before .before .before .before .before .before .if1 .left) (sym (c .before .before .before .before .before .before .before .before .before .before .before .before .before .begins .ensures) ∙ not-false _ (c .before .before .before .before .before .before .before .before .before .before .before .before .if2 .left)) (c .before .before .before .before .before .before .before .before .before .before .if3 .left)
+    (sym (c .before .before .before .before .before .before .before .before .equal .ensures) ∙ c .before .before .before .before .before .before .before .if4 .left) (sym (c .before .before .before .before .before .equal2 .ensures) ∙ c .before .before .before .before .if5 .left) (sym (c .before .before .equal3 .ensures) ∙ c .before .if6 .taken) (c .awaiting .ensures)
+
+returns-7 : tie.Need-returns-7
+unfolding ascii
+returns-7 c =
+    look-unknown (c .before .before .before .before .before .before .before .before .before .before .before .before .before .before .before .before .args .self) (c .before .before .before .before .before .before .before .before .before .before .before .before .before .before .before .before .args .i) (c .before .before .before .before .before .before .before .before .before .before .before .before .before .before .before .before .args .word .now) (c .before .before .before .before .before .before .before .before .before .before .before .before .before .before .if1 .left) (sym (c .before .before .before .before .before .before .before .before .before .before .before .before .begins .ensures) ∙ not-false _ (c .before .before .before .before .before .before .before .before .before .before .before .if2 .left)) (c .before .before .before .before .before .before .before .before .before .if3 .left)
+    (sym (c .before .before .before .before .before .before .before .equal .ensures) ∙ c .before .before .before .before .before .before .if4 .left) (sym (c .before .before .before .before .equal2 .ensures) ∙ c .before .before .before .if5 .left) (sym (c .before .equal3 .ensures) ∙ c .if6 .left)
 
 pub look-spec : {M : Type 1} → statement M
 look-spec =
@@ -77,6 +96,10 @@ look-spec =
     returns-4
     slice-aggregate-equal-2
     equal-requires-2
-    awaiting-requires
+    with-xmp-requires
     returns-5
-    returns-6)
+    slice-aggregate-equal-3
+    equal-requires-3
+    awaiting-requires
+    returns-6
+    returns-7)

@@ -1,10 +1,10 @@
--- `end_tag::held_after` meets its contract. A law of specs/ for each kind of the element around the node.
+-- `end_tag::stored_after` meets its contract. A law of specs/ for each kind of the element around the node.
 use mathlib.Core.Path.{sym, _∙_}
 use Rattle.end_tag.specs.Node.{after-object, after-child, after-none}
 use native.Mathlib.Omega.{arith}
 use borrow.Author.Needs.{needs}
-use Rattle.end_tag.proofs.held_after.Statement.{statement}
-use Rattle.end_tag.proofs.held_after.Tie as tie
+use Rattle.end_tag.proofs.stored_after.Statement.{statement}
+use Rattle.end_tag.proofs.stored_after.Tie as tie
 
 top-requires : tie.Need-top-requires
 top-requires c κs = search needs
@@ -54,8 +54,8 @@ returns-2 c = after-child (c .before .before .before .before .before .before .be
 returns-3 : tie.Need-returns-3
 returns-3 c = after-none (c .before .before .before .before .before .before .before .pop .ensures) (c .before .before .before .before .before .before .before .before .before .top .ensures) (c .before .before .before .before .before .before .before .before .main-size .ensures .0) (c .before .before .before .before .before .top2 .ensures) (sym (c .before .before .before .same-kind .ensures) ∙ c .before .before .if1 .left) (sym (c .before .same-kind2 .ensures) ∙ c .if2 .left)
 
-pub held-after-spec : {M : Type 1} → statement M
-held-after-spec =
+pub stored-after-spec : {M : Type 1} → statement M
+stored-after-spec =
     tie.close
     (tie.spec
     top-requires
