@@ -1,6 +1,7 @@
 // The three calls. What is kept of a document between them goes in and comes back by value; the stores are lent.
 ghost use mathlib.Core.Path.{_≡_};
-ghost use Rattle.reader_contract.specs.Meaning.{lawfulState};
+ghost use lib.ListN.{length};
+ghost use Rattle.reader_contract.specs.Meaning.{lawfulParts};
 ghost use Rattle.reader_contract.specs.Meets.{Starts, Steps, Finishes};
 ghost use Rattle.reader.specs.Starting.{Judges, sizeOfBase, Begins};
 
@@ -70,19 +71,30 @@ pub fn step(
 ) -> Report
     ensures { λ r. ⌜ Steps last (now (input .entry)) state (now (work .entry)) (now (ids .entry)) (now (out .entry)) r (now (work .exit)) (now (ids .exit)) (now (out .exit)) ⌝ }
 {
-    if !is_lawful(state, work, ids) {
-        return Report::refused(state, Refusal::BadState);
-    }
     let registers = state.registers;
-    if registers.flags.closed {
-        return Report::refused(state, Refusal::Closed);
-    }
     let mut frames = state.frames;
     let mut bindings = state.bindings;
     let mut inners = state.inners;
     let table = state.ids;
     let mut at = table.at;
     let mut len = table.len;
+    if !is_lawful(
+        registers,
+        &frames,
+        &bindings,
+        &inners,
+        work,
+        table.count,
+        table.used,
+        &at,
+        &len,
+        ids,
+    ) {
+        return Report::refused(state, Refusal::BadState);
+    }
+    if registers.flags.closed {
+        return Report::refused(state, Refusal::Closed);
+    }
     let mut scratch = [0u8; Taken::SCRATCH];
     let mut spans = [0u32; Taken::SPANS];
     let mut area = [0u8; Taken::AREA];
@@ -116,10 +128,27 @@ pub fn step(
 pub fn finish(state: State, work: &[u8], ids: &[u8]) -> Report
     ensures { λ r. ⌜ Finishes state (now (work .entry)) (now (ids .entry)) r ⌝ }
 {
-    if !is_lawful(state, work, ids) {
+    let registers = state.registers;
+    let frames = state.frames;
+    let bindings = state.bindings;
+    let inners = state.inners;
+    let table = state.ids;
+    let at = table.at;
+    let len = table.len;
+    if !is_lawful(
+        registers,
+        &frames,
+        &bindings,
+        &inners,
+        work,
+        table.count,
+        table.used,
+        &at,
+        &len,
+        ids,
+    ) {
         return Report::refused(state, Refusal::BadState);
     }
-    let registers = state.registers;
     if registers.flags.closed {
         return Report::refused(state, Refusal::Closed);
     }
@@ -129,21 +158,25 @@ pub fn finish(state: State, work: &[u8], ids: &[u8]) -> Report
     Report::done(state.closed())
 }
 
-// Are state and stores by the rules of docs/STATE.md?
-fn is_lawful(state: State, work: &[u8], ids: &[u8]) -> bool
-    ensures { λ b. ⌜ b ≡ lawfulState state (now (work .entry)) (now (ids .entry)) ⌝ }
+// Are state and stores by the rules of docs/STATE.md? The parts of a state where they lie: it is too large to be copied for this.
+fn is_lawful(
+    registers: Registers,
+    frames: &[u32],
+    bindings: &[u32],
+    inners: &[u32],
+    work: &[u8],
+    count: usize,
+    used: usize,
+    at: &[u32; IdTable::MOST],
+    len: &[u32; IdTable::MOST],
+    ids: &[u8],
+) -> bool
+    ensures { λ b. ⌜ b ≡ lawfulParts registers (now (frames .entry)) (now (bindings .entry)) (now (inners .entry)) (now (work .entry)) count used (now (at .entry)) (now (len .entry)) (length (now (ids .entry))) ⌝ }
 {
-    let registers = state.registers;
-    let frames = state.frames;
-    let bindings = state.bindings;
-    let inners = state.inners;
-    if !state::valid(registers, &frames, &bindings, &inners, work) {
+    if !state::valid(registers, frames, bindings, inners, work) {
         return false;
     }
-    let table = state.ids;
-    let at = table.at;
-    let len = table.len;
-    state_ids::valid(table.count, table.used, &at, &len, ids.len())
+    state_ids::valid(count, used, at, len, ids.len())
 }
 
 // 3, 11 and 7, in this order.

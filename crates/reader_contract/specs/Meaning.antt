@@ -1,6 +1,6 @@
 -- What a state means beside its stores, for the calls of `spec`.
 use Prim.Native.Nat.{ℕ, zero, suc, _≤_}
-use mathlib.Core.Path.{_≡_, refl, ap, _∙_}
+use mathlib.Core.Path.{_≡_, refl, sym, ap, _∙_}
 use mathlib.Core.Bool.{Bool, true, false, _&&_}
 use mathlib.Core.Option.{Option, none, some}
 use mathlib.Core.List.{List, [], _++_}
@@ -40,10 +40,13 @@ baseOf based b = pick based (some b) none
 abbrev pub lentBy : State → List ℕ → List ℕ → List ℕ → Lent
 lentBy s w i out = lent (s .frames) (s .bindings) (s .inners) w (s .ids .at) (s .ids .len) i out
 
--- by the rules of docs/STATE.md?
+-- are the parts of a state by the rules of docs/STATE.md, wherever they lie, beside an ID store of n bytes?
+abbrev pub lawfulParts : Registers → List ℕ → List ℕ → List ℕ → List ℕ → ℕ → ℕ → List ℕ → List ℕ → ℕ → Bool
+lawfulParts r frames bindings inners w count used at len n = validState r frames bindings inners w && validIds count used at len n
+
+-- is a state?
 unfoldable pub lawfulState : State → List ℕ → List ℕ → Bool
-lawfulState s w i =
-    validState (s .registers) (s .frames) (s .bindings) (s .inners) w && validIds (s .ids .count) (s .ids .used) (s .ids .at) (s .ids .len) (length i)
+lawfulState s w i = lawfulParts (s .registers) (s .frames) (s .bindings) (s .inners) w (s .ids .count) (s .ids .used) (s .ids .at) (s .ids .len) (length i)
 
 -- the document that is kept in a state, the work store and the ID store
 unfoldable pub docFrom : State → List ℕ → List ℕ → Doc
@@ -54,15 +57,20 @@ meaningOf s w i = pick (lawfulState s w i) (pick (s .registers .flags .closed) (
 
 -- ---- the test
 
-module _ (s : State) (w i : List ℕ) where
-  pub not-valid : validState (s .registers) (s .frames) (s .bindings) (s .inners) w ≡ false → false ≡ lawfulState s w i
-  unfolding lawfulState
+module _ (r : Registers) (frames bindings inners w : List ℕ) (count used : ℕ) (at len : List ℕ) (n : ℕ) where
+  pub not-valid : validState r frames bindings inners w ≡ false → false ≡ lawfulParts r frames bindings inners w count used at len n
   not-valid h = rw h
 
-  pub table-decides : {b : Bool} → validState (s .registers) (s .frames) (s .bindings) (s .inners) w ≡ true
-      → b ≡ validIds (s .ids .count) (s .ids .used) (s .ids .at) (s .ids .len) (length i) → b ≡ lawfulState s w i
-  unfolding lawfulState
+  pub table-decides : {b : Bool} → validState r frames bindings inners w ≡ true → b ≡ validIds count used at len n
+      → b ≡ lawfulParts r frames bindings inners w count used at len n
   table-decides h e = rw h e
+
+module _ (s : State) (w i : List ℕ) where
+  pub lawful-as-parts : {b : Bool}
+      → b ≡ lawfulParts (s .registers) (s .frames) (s .bindings) (s .inners) w (s .ids .count) (s .ids .used) (s .ids .at) (s .ids .len) (length i)
+      → lawfulState s w i ≡ b
+  unfolding lawfulState
+  lawful-as-parts e = sym e
 
 -- ---- the closing mark
 

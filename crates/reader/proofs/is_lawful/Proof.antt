@@ -6,34 +6,22 @@ use Rattle.reader_contract.specs.Meaning.{not-valid, table-decides}
 use Rattle.reader.proofs.is_lawful.Statement.{statement}
 use Rattle.reader.proofs.is_lawful.Tie as tie
 
-slice-aggregate-valid : tie.Need-slice-aggregate-valid
-slice-aggregate-valid c = search needs
-
-slice-aggregate-valid-2 : tie.Need-slice-aggregate-valid-2
-slice-aggregate-valid-2 c = search needs
-
-slice-aggregate-valid-3 : tie.Need-slice-aggregate-valid-3
-slice-aggregate-valid-3 c = search needs
-
 valid-requires : tie.Need-valid-requires
 valid-requires c κs = search needs
 
 returns : tie.Need-returns
-returns c = not-valid _ _ _ (sym (c .before .valid .ensures) ∙ not-true _ (c .if1 .taken))
+returns c = not-valid _ _ _ _ _ _ _ _ _ _ (sym (c .before .valid .ensures) ∙ not-true _ (c .if1 .taken))
 
 valid-requires-2 : tie.Need-valid-requires-2
 valid-requires-2 c κs = search needs
 
 returns-2 : tie.Need-returns-2
-returns-2 c = table-decides _ _ _ (sym (c .before .before .before .before .before .before .before .valid .ensures) ∙ not-false _ (c .before .before .before .before .before .before .if1 .left)) (c .valid2 .ensures)
+returns-2 c = table-decides _ _ _ _ _ _ _ _ _ _ (sym (c .before .before .valid .ensures) ∙ not-false _ (c .before .if1 .left)) (c .valid2 .ensures)
 
 pub is-lawful-spec : {M : Type 1} → statement M
 is-lawful-spec =
     tie.close
     (tie.spec
-    slice-aggregate-valid
-    slice-aggregate-valid-2
-    slice-aggregate-valid-3
     valid-requires
     returns
     valid-requires-2
