@@ -51,7 +51,7 @@ enum {
     ICESHAFT_NO_NAMESPACE = 8,     /* unknown prefix; an element without namespace, or an attribute
                                       without prefix whose name does not begin `xml` */
     ICESHAFT_NOT_NCNAME = 9,       /* rdf:ID, rdf:bagID or rdf:nodeID is no NCName */
-    ICESHAFT_BAD_LANGUAGE = 10,    /* bad xml:lang */
+    ICESHAFT_BAD_LANGUAGE = 10,    /* bad xml:lang; an empty one is good, it clears the language */
     ICESHAFT_BAD_IRI = 11,         /* bad IRI, or relative with no base */
     ICESHAFT_REPEATED_ID = 12,     /* an earlier event had the same resolved rdf:ID */
     ICESHAFT_BAD_LABEL = 13,       /* rdf:nodeID ends in a full stop, or is riog and eight digits */

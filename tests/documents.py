@@ -14,6 +14,8 @@ from vectors import Judges, entry
 GOOD = [(seed, 12) for seed in range(1, 121)] + [(seed, 30) for seed in range(121, 151)]
 DAMAGED_SEEDS = range(1, 6)
 DAMAGED_SIZE = 10
+# the mistake of this one is an empty xml:lang, which is none: another seed takes its place
+INSTEAD = {('10lang', 5): 6}
 
 SAMPLE = pathlib.Path(__file__).parent.parent / 'samples'
 
@@ -100,7 +102,7 @@ def main(oracle, converter, generator):
         xml, base, number = generator.run('--seed', seed, '--size', size)
         add(f'good-{seed}', base, xml, number)
     for kind in generator.kinds():
-        for seed in DAMAGED_SEEDS:
+        for seed in (INSTEAD.get((kind, seed), seed) for seed in DAMAGED_SEEDS):
             xml, base, number = generator.run('--seed', seed, '--damage', kind, '--size', DAMAGED_SIZE)
             # the Rust sees neither a second root nor an element that is left open
             silent = {'6root': xml[:xml.rfind(b'<')], '6open': xml}

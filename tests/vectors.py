@@ -1,6 +1,9 @@
 """What the scripts beside it share: the oracle, the converter, and a document in the form that `test_reader` reads."""
 import subprocess
 
+# The Rust refuses xml:lang="", which clears the language here. It is given this tag in its place.
+CLEARED = 'x-cleared'
+
 
 class Judges:
     """The commands that answer for the Rust and for the conversion to PYX."""
@@ -22,6 +25,11 @@ class Judges:
         if run.returncode:
             return None, run.stderr.decode().strip()
         return run.stdout.decode(), None
+
+
+def without_cleared(lines):
+    """The Rust's lines as they are where the tag clears: a literal is plain, and in XML text the value is empty."""
+    return lines.replace(f'"@{CLEARED} ', '" ').replace(f'xml:lang=\\"{CLEARED}\\"', 'xml:lang=\\"\\"')
 
 
 def entry(name, base, pyx, number, lines):

@@ -8,8 +8,8 @@ use native.Mathlib.Numerals.{add-one}
 use native.Mathlib.Nat.{add-assoc, add-zero}
 use native.Mathlib.Omega.{arith}
 use lib.Dec.{leb}
-use lib.ListN.{length, getD, take, drop, set, length-append, length-take, length-drop, length-set, List·getD-append, take-append-drop}
-use lib.Seq.{paste, paste-zero, paste-suc, take-length, take-at, drop-at, take-take, take-add, drop-drop, drop-append-le, length-take-le, getD-append-add, getD-take, drop-append-add, set-split, getD-drop, ext-getD}
+use lib.ListN.{length, getD, take, drop, drop-of-length-le, set, length-append, length-take, length-drop, length-set, List·getD-append, take-append-drop}
+use lib.Seq.{paste, paste-zero, paste-suc, take-length, take-all, take-nil, take-at, drop-at, take-take, take-add, drop-drop, drop-append-le, length-take-le, getD-append-add, getD-take, drop-append-add, set-split, getD-drop, ext-getD}
 use borrow.Author.Tests.{le-leb, lt-leb, leb-true, leb-false}
 
 -- `d` with `s` in place of what stood from `at` on
@@ -38,6 +38,10 @@ pub record Wrote (d e : List ℕ) (at to : ℕ) (s : List ℕ) : Type 0 where
 pub length-part : (w : List ℕ) (at n : ℕ) → at + n ≤ length w → length (part w at n) ≡ n
 unfolding part
 length-part w at n h = simp (length-take, length-drop) (omega arith)
+
+pub part-short : (w : List ℕ) (at n : ℕ) → length (part w at n) ≤ length w
+unfolding part
+part-short w at n = simp (length-take, length-drop) (omega arith)
 
 pub length-stored : (d : List ℕ) (at : ℕ) (s : List ℕ) → at + length s ≤ length d → length (storedAt d at s) ≡ length d
 unfolding storedAt
@@ -189,6 +193,16 @@ part-of w at n = let e : at + n - at ≡ n = omega arith in rw e
 -- `&w[at..]`
 pub rest-of : (w : List ℕ) (at : ℕ) → take (length w - at) (drop at w) ≡ drop at w
 rest-of w at = rw (← length-drop at w) (take-length (drop at w))
+
+-- a piece of a slice: what there is of it
+module _ (s : List ℕ) (at n : ℕ) where
+  pub piece-none : length s < at → [] ≡ part s at n
+  unfolding part
+  piece-none h = sym (rw (drop-of-length-le s {i = at} (omega arith)) (take-nil n))
+
+  pub piece-end : length s - at < n → take (length s - at) (drop at s) ≡ part s at n
+  unfolding part
+  piece-end h = rest-of s at ∙ sym (take-all n (drop at s) (rw length-drop (omega arith)))
 
 -- `&mut w[at..to]`, back from a call that left `y` there: `k` is its length
 pub lent-back : (w : List ℕ) (at k : ℕ) (y : List ℕ) → length y ≡ k → take at w ++ (y ++ drop k (drop at w)) ≡ storedAt w at y

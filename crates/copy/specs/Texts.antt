@@ -7,9 +7,21 @@ use native.Mathlib.Omega.{arith}
 use lib.Dec.{eqb}
 use lib.ListN.{length, take, drop, getD}
 use borrow.Author.Tests.{eq-eqb, eqb-true}
-use Rattle.spec.specs.Bytes.{Bytes, if_then_else_, begins, after, upTo, from, among}
+use Rattle.spec.specs.Bytes.{Bytes, if_then_else_, isEmpty, begins, after, upTo, from, among}
 use Rattle.spec.proofs.Booleans.{and-left, and-right, and-both, no-true}
 pub use Rattle.spec.proofs.Bytes.{same-true, same-refl, same-false, same-lengths}
+
+-- ---- is a text empty?
+
+pub empty-is : (s : Bytes) → length s ≡ 0 → isEmpty s ≡ true
+unfolding isEmpty
+empty-is [] h = refl
+empty-is (b ∷ s) h = absurd (omega arith)
+
+pub empty-not : (s : Bytes) → (length s ≡ 0 → ⊥) → isEmpty s ≡ false
+unfolding isEmpty
+empty-not [] h = absurd (h refl)
+empty-not (b ∷ s) h = refl
 
 -- ---- what a text begins with
 

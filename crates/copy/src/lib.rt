@@ -4,7 +4,7 @@ ghost use mathlib.Core.Bool.{not, true, false};
 ghost use lib.ListN.{length};
 ghost use lib.Dec.{eqb};
 ghost use Rattle.spec.specs.Bytes.{same, begins, upTo, among};
-ghost use Rattle.copy.specs.Copy.{Put};
+ghost use Rattle.copy.specs.Copy.{part, Put};
 ghost use Rattle.copy.specs.Scan.{Sought};
 ghost use Rattle.copy.specs.Blocks.{Tails};
 
@@ -26,6 +26,20 @@ pub fn put(dst: &mut [u8], at: usize, src: &[u8]) -> bool
         i += 1;
     }
     true
+}
+
+// The `n` bytes of `s` from `at` on; of a piece that runs past the end, what there is of it.
+pub fn piece(s: &[u8], at: usize, n: usize) -> &[u8]
+    ensures { λ r. ⌜ now r ≡ part (now (s .entry)) at n ⌝ }
+{
+    if s.len() < at {
+        return &s[0..0];
+    }
+    if s.len() - at < n {
+        return &s[at..];
+    }
+    let to = at + n;
+    &s[at..to]
 }
 
 // Are the two the same bytes?

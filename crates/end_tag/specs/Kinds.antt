@@ -26,7 +26,9 @@ use Rattle.state.specs.Meaning.{at, count, first, span, childrenOf, subjectOf, 
 use Rattle.state.specs.Valid.{kindOk, nodeBelow, stands, Sound}
 use Rattle.state.specs.Held.{room}
 use Rattle.state_stack.specs.declared.Changed.{Changed}
-use Rattle.state_stack.specs.declared.Found.{Found}
+use Rattle.spec.specs.XmlLang as spec
+use Rattle.state.specs.Language.{tagOfLanguage}
+use Rattle.state.specs.declared.language.Language.{Language}
 use Rattle.state_stack.specs.Change.{Holds, holds-doc, labelledTo, labelled-holds, popped, top-frame}
 use Rattle.state_stack.specs.Calls.{topFrame, mayPop, Pops}
 use Rattle.state_stack.specs.Laws.{topmost}
@@ -95,7 +97,7 @@ unfolding without withFrames docOf
 labels-of r fs bs is w ids = refl
 
 -- n labels were generated, and there are k children
-module _ (p : Property) (cs : List Subject) (l : Option Bytes) (d : Doc) (n k : ℕ) (a : n ≡ d .labels) (b : k ≡ length cs) where
+module _ (p : Property) (cs : List Subject) (l : spec.Language) (d : Doc) (n k : ℕ) (a : n ≡ d .labels) (b : k ≡ length cs) where
   collection-ends : n + k ≤ 99_999_999 → endValue p (collection cs) l d ≡ good (cells n nil cs ++ statement p (node (headCell n nil cs)), withLabels (n + k) d)
   unfolding endValue _>>_ require_or_ mostLabels
   collection-ends h = rw (a, b, le-leb (d .labels + length cs) 99_999_999 (rw (a, b) at h))
@@ -112,7 +114,7 @@ same-top u n fs = refl
 
 -- an element of kind q, of this frame, leaves nothing but the document without it
 pub record Silent (q : Kind) (f : Frame) : Type 0 where
-  pub says : (w : List ℕ) (s : Subject) (n : Bytes) (l : Option Bytes) (d : Doc) → endKind (whatOf q f w s) n l d ≡ good ([], d)
+  pub says : (w : List ℕ) (s : Subject) (n : Bytes) (l : spec.Language) (d : Doc) → endKind (whatOf q f w s) n l d ≡ good ([], d)
 
 pub rdf-silent : (f : Frame) → Silent Rdf f
 unfolding whatOf endKind
@@ -143,16 +145,16 @@ module _ {r : Registers} {fs w : List ℕ} {p : Changed} (o : Pops r fs p) where
 
   -- ---- a default property
 
-  pub property-tells : {n f : Frame} {l : Found} → f ≡ topFrame r fs → n ≡ topFrame (p .registers) fs → l ≡ languageIn r fs
-      → Tells PropertyElt r (p .registers) fs w (propertyLines n f l w)
+  pub property-tells : {n f : Frame} {l : Language} {t : Bytes} → f ≡ topFrame r fs → n ≡ topFrame (p .registers) fs → l ≡ languageIn r fs → t ≡ tagOfLanguage l w
+      → Tells PropertyElt r (p .registers) fs w (propertyLines n f t w)
   unfolding whatOf endKind endValue stands
-  property-tells x y z =
+  property-tells x y z g =
       record {
         tells =
             λ bs is c.
             let e = o .moved (pops c) in
             record {
-              answer = λ ids. rw (x, y, z, around c e (stood c e), language-read (c .valid), pop-doc c e ids);
+              answer = λ ids. rw (x, y, g, z, around c e (stood c e), language-read (c .valid), pop-doc c e ids);
               valid = pop-is c e .valid;
               mark = pop-mark c e;
             };
@@ -245,15 +247,3 @@ listed {r} {fs} {w} {f} h e k l =
       ends = rw e (h .ends);
       few = l;
     }
-
--- ---- is a text empty?
-
-pub empty-is : (s : List ℕ) → length s ≡ 0 → isEmpty s ≡ true
-unfolding isEmpty
-empty-is [] h = refl
-empty-is (b ∷ s) h = absurd (omega arith)
-
-pub empty-not : (s : List ℕ) → (length s ≡ 0 → ⊥) → isEmpty s ≡ false
-unfolding isEmpty
-empty-not [] h = absurd (h refl)
-empty-not (b ∷ s) h = refl

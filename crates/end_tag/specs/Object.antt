@@ -3,7 +3,9 @@ use Prim.Native.Nat.{ℕ, _-_}
 use mathlib.Core.Path.{_≡_, refl, _∙_}
 use mathlib.Core.Bool.{Bool, true, false, not}
 use mathlib.Core.Option.{none, some}
-use mathlib.Core.List.{List, [], _++_, append-nil}
+use mathlib.Core.List.{List, [], _∷_, _++_, append-nil}
+use native.Mathlib.Omega.{arith}
+use lib.ListN.{length}
 use lib.Dec.{eqb}
 use borrow.Author.Tests.{eq-eqb, ne-eqb}
 use Rattle.spec.specs.Bytes.{Bytes}
@@ -17,17 +19,17 @@ use Rattle.state_words.specs.Parts.{MAIN, ID, DATATYPE, TAIL, END, BLANK, IDENT
 use Rattle.state_words.specs.declared.Frame.{Frame}
 use Rattle.state_words.specs.Words.{pick}
 use Rattle.state.specs.Meaning.{at, has, span, optional, nodeOf, objectOf, subjectOf, propertyOf}
-use Rattle.state_stack.specs.declared.Found.{Found}
-use Rattle.state_inner.specs.Laws.{found}
+use Rattle.spec.specs.XmlLang.{written}
+use Rattle.state.specs.Language.{languageOf}
 use Rattle.ntriples.specs.declared.Node.{Node}
 use Rattle.ntriples.specs.declared.Term.{Term}
 use Rattle.ntriples.specs.declared.Term.the-variants as term-kind
 use Rattle.ntriples.specs.Terms as T
 
--- the statement of a default property of frame f, in the node of frame n, where language l is in force
-abbrev pub propertyLines : Frame → Frame → Found → List ℕ → List Triple
+-- the statement of a default property of frame f, in the node of frame n, where the language of tag l is in force
+abbrev pub propertyLines : Frame → Frame → Bytes → List ℕ → List Triple
 propertyLines n f l w =
-    statement (propertyOf f w (subjectOf n w)) (objectTerm (optional (has f TYPED) (span w (at f DATATYPE) (at f TAIL))) (found l w) (objectOf (has f PENDING) (span w (at f TAIL) (at f END))))
+    statement (propertyOf f w (subjectOf n w)) (objectTerm (optional (has f TYPED) (span w (at f DATATYPE) (at f TAIL))) (languageOf l) (objectOf (has f PENDING) (span w (at f TAIL) (at f END))))
 
 -- that of a Literal property
 abbrev pub literalLines : Frame → Frame → List ℕ → List Triple
@@ -35,13 +37,13 @@ literalLines n f w = statement (propertyOf f w (subjectOf n w)) (typed (span w (
 
 -- ---- what kind of term it is, whatever its bytes are
 
--- a literal: t marks a datatype, and there may be a language
-pub record LiteralFor (t : ℕ) (there : Bool) (r : Term) : Type 0 where
-  pub says : (v d l : Bytes) → T.termOf r v (pick (eqb t 0) l d) ≡ literalOf (optional t d) (pick there (some l) none) v
+-- a literal: t marks a datatype, and there may be a language, of tag l
+pub record LiteralFor (t : ℕ) (l : Bytes) (r : Term) : Type 0 where
+  pub says : (v d : Bytes) → T.termOf r v (pick (eqb t 0) l d) ≡ literalOf (optional t d) (languageOf l) v
 
 -- an object: h marks what it is
-pub record TermFor (h t : ℕ) (there : Bool) (r : Term) : Type 0 where
-  pub says : (s d l : Bytes) → T.termOf r (pick (eqb h 0) [] s) (pick (eqb t 0) l d) ≡ objectTerm (optional t d) (pick there (some l) none) (objectOf h s)
+pub record TermFor (h t : ℕ) (l : Bytes) (r : Term) : Type 0 where
+  pub says : (s d : Bytes) → T.termOf r (pick (eqb h 0) [] s) (pick (eqb t 0) l d) ≡ objectTerm (optional t d) (languageOf l) (objectOf h s)
 
 -- a node, blank or not
 pub node-is : (b : Bool) {r : Node} → r ≡ T.nodeFor b → (s : Bytes) → T.subjectOf r s ≡ pick b (blank s) (named s)
@@ -59,35 +61,36 @@ node-marked h e s = node-is (not (eqb h 0)) e s ∙ go (eqb h 0)
     go false = refl
 
 -- datatype beats language
-pub literal-typed : {t : ℕ} {there : Bool} → (t ≡ 0 → ⊥) → LiteralFor t there term-kind.Typed
+pub literal-typed : {t : ℕ} (l : Bytes) → (t ≡ 0 → ⊥) → LiteralFor t l term-kind.Typed
 unfolding T.termOf literalOf optional
-literal-typed {t} z = record { says = λ v d l. rw (ne-eqb t 0 z) }
+literal-typed {t} l z = record { says = λ v d. rw (ne-eqb t 0 z) }
 
-pub literal-tagged : {t : ℕ} → t ≡ 0 → LiteralFor t true term-kind.Tagged
-unfolding T.termOf literalOf optional
-literal-tagged {t} z = record { says = λ v d l. rw (eq-eqb t 0 z) }
+pub literal-tagged : {t : ℕ} (l : Bytes) → t ≡ 0 → (length l ≡ 0 → ⊥) → LiteralFor t l term-kind.Tagged
+unfolding T.termOf literalOf languageOf written optional
+literal-tagged {t} [] z e = absurd (e refl)
+literal-tagged {t} (c ∷ l) z e = record { says = λ v d. rw (eq-eqb t 0 z) }
 
-pub literal-plain : {t : ℕ} → t ≡ 0 → LiteralFor t false term-kind.Plain
-unfolding T.termOf literalOf optional
-literal-plain {t} z = record { says = λ v d l. rw (eq-eqb t 0 z) }
+pub literal-plain : {t : ℕ} (l : Bytes) → t ≡ 0 → length l ≡ 0 → LiteralFor t l term-kind.Plain
+unfolding T.termOf literalOf languageOf optional
+literal-plain {t} [] z e = record { says = λ v d. rw (eq-eqb t 0 z) }
+literal-plain {t} (c ∷ l) z e = absurd (omega arith)
 
-module _ {h t : ℕ} {there : Bool} where
-  pub term-named : h ≡ 1 → TermFor h t there term-kind.Named
+module _ {h t : ℕ} {l : Bytes} where
+  pub term-named : h ≡ 1 → TermFor h t l term-kind.Named
   unfolding T.termOf objectTerm objectOf
-  term-named e = record { says = λ s d l. rw e }
+  term-named e = record { says = λ s d. rw e }
 
-  pub term-blank : h ≡ 2 → TermFor h t there term-kind.Blank
+  pub term-blank : h ≡ 2 → TermFor h t l term-kind.Blank
   unfolding T.termOf objectTerm objectOf
-  term-blank e = record { says = λ s d l. rw e }
+  term-blank e = record { says = λ s d. rw e }
 
-  pub term-literal : {r : Term} → (h ≡ 1 → ⊥) → (h ≡ 2 → ⊥) → LiteralFor t there r → TermFor h t there r
+  pub term-literal : {r : Term} → (h ≡ 1 → ⊥) → (h ≡ 2 → ⊥) → LiteralFor t l r → TermFor h t l r
   unfolding objectTerm objectOf
-  term-literal {r} a b i = record { says = λ s d l. rw (ne-eqb h 1 a, ne-eqb h 2 b) (go s d l (eqb h 0)) }
+  term-literal {r} a b i = record { says = λ s d. rw (ne-eqb h 1 a, ne-eqb h 2 b) (go s d (eqb h 0)) }
     where
-      go : (s d l : Bytes) (z : Bool) → T.termOf r (pick z [] s) (pick (eqb t 0) l d)
-          ≡ objectTerm (optional t d) (pick there (some l) none) (pick z noObject (textObject s))
-      go s d l true = i .says [] d l
-      go s d l false = i .says s d l
+      go : (s d : Bytes) (z : Bool) → T.termOf r (pick z [] s) (pick (eqb t 0) l d) ≡ objectTerm (optional t d) (languageOf l) (pick z noObject (textObject s))
+      go s d true = i .says [] d
+      go s d false = i .says s d
 
 -- ---- the parts of a frame, as they are lent
 
@@ -130,9 +133,8 @@ unfolding subjectOf
 stated {s = s} {iri = iri} n f w front extra term x p q i =
     rw (append-nil front, append-nil iri, q, i, node-marked (has n BLANK) x s, p, property-marked f w (nodeOf (has n BLANK) (span w (at n MAIN) (at n ID))))
 
-pub said : {text extra : List ℕ} {term : Term} (f : Frame) (w : List ℕ) (l : Found) (p : Property) → TermFor (has f PENDING) (has f TYPED) (l .there) term
-    → text ≡ pick (eqb (has f PENDING) 0) [] (span w (at f TAIL) (at f END)) → extra ≡ pick (eqb (has f TYPED) 0) (part w (l .at) (l .len)) (span w (at f DATATYPE) (at f TAIL))
+pub said : {text extra : List ℕ} {term : Term} (f : Frame) (w : List ℕ) (l : Bytes) (p : Property) → TermFor (has f PENDING) (has f TYPED) l term
+    → text ≡ pick (eqb (has f PENDING) 0) [] (span w (at f TAIL) (at f END)) → extra ≡ pick (eqb (has f TYPED) 0) l (span w (at f DATATYPE) (at f TAIL))
     → write (statement p (T.termOf term text extra))
-    ≡ write (statement p (objectTerm (optional (has f TYPED) (span w (at f DATATYPE) (at f TAIL))) (found l w) (objectOf (has f PENDING) (span w (at f TAIL) (at f END)))))
-unfolding found
-said f w l p t x y = rw (x, y, t .says (span w (at f TAIL) (at f END)) (span w (at f DATATYPE) (at f TAIL)) (part w (l .at) (l .len)))
+    ≡ write (statement p (objectTerm (optional (has f TYPED) (span w (at f DATATYPE) (at f TAIL))) (languageOf l) (objectOf (has f PENDING) (span w (at f TAIL) (at f END)))))
+said f w l p t x y = rw (x, y, t .says (span w (at f TAIL) (at f END)) (span w (at f DATATYPE) (at f TAIL)))

@@ -1,7 +1,7 @@
 -- The most bytes that the statement of a property has, from the sizes of its frame's parts.
 use mathlib.Core.Path.{_≡_, refl}
 use mathlib.Core.Bool.{Bool, true, false}
-use mathlib.Core.List.{List, []}
+use mathlib.Core.List.{List, [], _∷_}
 use mathlib.Core.Option.{Option, none, some}
 use Prim.Native.Nat.{ℕ, _+_, _-_, _*_, _≤_}
 use native.Mathlib.Omega.{arith}
@@ -19,8 +19,8 @@ use Rattle.state_words.specs.Parts.{MAIN, ID, DATATYPE, TAIL, END, BLANK, IDENT
 use Rattle.state_words.specs.declared.Frame.{Frame}
 use Rattle.state_words.specs.Words.{pick}
 use Rattle.state.specs.Meaning.{at, has, span, optional, nodeOf, objectOf, subjectOf, propertyOf}
-use Rattle.state_stack.specs.declared.Found.{Found}
-use Rattle.state_inner.specs.Laws.{found}
+use Rattle.spec.specs.XmlLang.{written}
+use Rattle.state.specs.Language.{languageOf}
 use Rattle.ntriples.specs.Room.{length-named, length-blank, length-node, length-plain, length-tagged, length-typed, statementRoom, length-statement}
 use Rattle.end_tag.specs.Object.{propertyLines, literalLines}
 
@@ -87,25 +87,25 @@ module _ {n f : Frame} {object room : ℕ} where
 abbrev pub objectRoom : ℕ → ℕ → ℕ
 objectRoom h n = pick (eqb h 1) (6 * n) (2 * n)
 
--- a datatype or a tag, if there is one
+-- a datatype, if there is one
 size : Option Bytes → ℕ
 size none = 0
 size (some s) = length s
 
-length-literal : (d l : Option Bytes) (v : Bytes) → length (writeTerm (literalOf d l v)) ≤ 2 * length v + 6 * size d + size l + 6
-unfolding literalOf size
+length-literal : (d : Option Bytes) (l v : Bytes) → length (writeTerm (literalOf d (languageOf l) v)) ≤ 2 * length v + 6 * size d + length l + 6
+unfolding literalOf languageOf written size
 length-literal (some d) l v = omega (arith, length-typed v d)
-length-literal none (some l) v = omega (arith, length-tagged v l)
-length-literal none none v = omega (arith, length-plain v)
+length-literal none [] v = omega (arith, length-plain v)
+length-literal none (c ∷ l) v = omega (arith, length-tagged v (c ∷ l))
 
-length-object : (d l : Option Bytes) (h : ℕ) (s : Bytes) {n : ℕ} → length s ≤ n
-    → length (writeTerm (objectTerm d l (objectOf h s))) ≤ objectRoom h n + 6 * size d + size l + 6
+length-object : (d : Option Bytes) (l : Bytes) (h : ℕ) (s : Bytes) {n : ℕ} → length s ≤ n
+    → length (writeTerm (objectTerm d (languageOf l) (objectOf h s))) ≤ objectRoom h n + 6 * size d + length l + 6
 unfolding objectOf objectTerm
 length-object d l h s {n} e = go (eqb h 0) (eqb h 1) (eqb h 2)
   where
     go : (a b c : Bool)
-        → length (writeTerm (objectTerm d l (pick a noObject (pick b (nodeObject (named s)) (pick c (nodeObject (blank s)) (textObject s))))))
-        ≤ pick b (6 * n) (2 * n) + 6 * size d + size l + 6
+        → length (writeTerm (objectTerm d (languageOf l) (pick a noObject (pick b (nodeObject (named s)) (pick c (nodeObject (blank s)) (textObject s))))))
+        ≤ pick b (6 * n) (2 * n) + 6 * size d + length l + 6
     go true true c = omega (arith, length-literal d l [])
     go true false c = omega (arith, length-literal d l [])
     go false true c = omega (arith, length-node (named s), length-named s)
@@ -120,26 +120,17 @@ size-optional h s = go (eqb h 0)
     go true = omega arith
     go false = omega arith
 
-size-found : (l : Found) (w : List ℕ) → size (found l w) ≤ l .len
-unfolding found size
-size-found l w = go (l .there)
-  where
-    go : (t : Bool) → size (pick t (some (part w (l .at) (l .len))) none) ≤ l .len
-    go true = part-at-most w (l .at) (l .len)
-    go false = omega arith
-
-pub property-fits : {n f : Frame} {room : ℕ} (l : Found)
-    → StatementFits n f (objectRoom (has f PENDING) (at f END - at f TAIL) + 6 * (at f TAIL - at f DATATYPE) + l .len) room
+pub property-fits : {n f : Frame} {room : ℕ} (l : Bytes)
+    → StatementFits n f (objectRoom (has f PENDING) (at f END - at f TAIL) + 6 * (at f TAIL - at f DATATYPE) + length l) room
     → (w : List ℕ) → length (write (propertyLines n f l w)) ≤ room
 property-fits {f = f} l p w =
     let d : Bytes = span w (at f DATATYPE) (at f TAIL) in
     p .fits w _
     (omega (
       arith,
-      length-object (optional (has f TYPED) d) (found l w) (has f PENDING) (span w (at f TAIL) (at f END)) (span-at-most w (at f TAIL) (at f END)),
+      length-object (optional (has f TYPED) d) l (has f PENDING) (span w (at f TAIL) (at f END)) (span-at-most w (at f TAIL) (at f END)),
       size-optional (has f TYPED) d,
       span-at-most w (at f DATATYPE) (at f TAIL),
-      size-found l w,
     ))
 
 -- ---- the text of a Literal property

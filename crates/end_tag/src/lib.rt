@@ -21,7 +21,6 @@ use event::Outcome;
 use label::BlankNodeIdGenerator;
 use spec::Refusal;
 use state::Registers;
-use state_stack::Found;
 use state_words::Frame;
 use state_words::Kind;
 use writer::Said;
@@ -43,7 +42,7 @@ pub fn end_outside(
     if !own.there {
         return Outcome::Stop(Refusal::NotWellFormed);
     }
-    if !copy::equal(name, start_names::piece(work, own.at, own.len)) {
+    if !copy::equal(name, copy::piece(work, own.at, own.len)) {
         return Outcome::Stop(Refusal::NotWellFormed);
     }
     end_state(r, frames, work, out)
@@ -122,7 +121,7 @@ fn end_property(r: Registers, frames: &[u32], work: &[u8], out: &mut [u8]) -> Ou
     if !state_inner::holds_no_more(behind) {
         return Outcome::Stop(Refusal::OverLimit);
     }
-    let said = say_property(out, n, f, language, work);
+    let said = say_property(out, n, f, language.tag(work), work);
     if !said.fits {
         return Outcome::Stop(Refusal::NoRoom);
     }
@@ -132,24 +131,24 @@ fn end_property(r: Registers, frames: &[u32], work: &[u8], out: &mut [u8]) -> Ou
     })
 }
 
-// Its statement, if all of it has room: measured first, unless that is sure.
-fn say_property(out: &mut [u8], n: Frame, f: Frame, language: Found, work: &[u8]) -> Said
-    ensures { λ s. ⌜ Says (now (out .entry)) (now (out .exit)) (write (propertyLines n f language (now (work .entry)))) s ⌝ }
+// Its statement, if all of it has room: measured first, unless that is sure. `tag` is the language in force.
+fn say_property<'a>(out: &mut [u8], n: Frame, f: Frame, tag: &'a [u8], work: &'a [u8]) -> Said
+    ensures { λ s. ⌜ Says (now (out .entry)) (now (out .exit)) (write (propertyLines n f (now (tag .entry)) (now (work .entry)))) s ⌝ }
 {
-    if crate::statements::property_fits(out.len(), n, f, language) {
-        let written = crate::statements::property_lines(out, true, n, f, language, work);
+    if crate::statements::property_fits(out.len(), n, f, tag) {
+        let written = crate::statements::property_lines(out, true, n, f, tag, work);
         return Said {
             fits: true,
             written,
         };
     }
-    if out.len() < crate::statements::property_lines(out, false, n, f, language, work) {
+    if out.len() < crate::statements::property_lines(out, false, n, f, tag, work) {
         return Said {
             fits: false,
             written: 0,
         };
     }
-    let written = crate::statements::property_lines(out, true, n, f, language, work);
+    let written = crate::statements::property_lines(out, true, n, f, tag, work);
     Said {
         fits: true,
         written,

@@ -25,7 +25,6 @@ use label::BlankNodeId;
 use label::BlankNodeIdGenerator;
 use ntriples::Node;
 use ntriples::Term;
-use state_stack::Found;
 use state_stack::nodes::Child;
 use state_words::Frame;
 use writer::iriref;
@@ -40,30 +39,31 @@ const MOST_MARKS: usize = 15;
 // What the four lines of an rdf:ID have at most beside the rdf:ID and another line's bytes: rdf names and marks.
 const MOST_RDF: usize = 1_533;
 
-// The statement of a default property: its object so far, or the empty literal.
-pub fn property_lines(
+// The statement of a default property: its object so far, or the empty literal. `tag` is the language in force, with no byte where there
+// is none.
+pub fn property_lines<'a>(
     out: &mut [u8],
     on: bool,
     n: Frame,
     f: Frame,
-    language: Found,
-    work: &[u8],
+    tag: &'a [u8],
+    work: &'a [u8],
 ) -> usize
-    ensures { λ r. ⌜ Put on (now (out .entry)) (now (out .exit)) 0 r (write (propertyLines n f language (now (work .entry)))) ⌝ }
+    ensures { λ r. ⌜ Put on (now (out .entry)) (now (out .exit)) 0 r (write (propertyLines n f (now (tag .entry)) (now (work .entry)))) ⌝ }
 {
     let has = f.has;
-    let term = object_term(has[Frame::PENDING], has[Frame::TYPED], language.there);
+    let term = object_term(has[Frame::PENDING], has[Frame::TYPED], tag);
     let text = object_text(work, f);
-    let extra = type_or_tag(work, f, language);
+    let extra = type_or_tag(work, f, tag);
     statement(out, 0, on, n, f, work, term, text, extra)
 }
 
 // Is there surely room for its lines?
-pub fn property_fits(room: usize, n: Frame, f: Frame, language: Found) -> bool
-    ensures { λ r. ⌜ (r ≡ true → (w : List ℕ) → length (write (propertyLines n f language w)) ≤ room) ⌝ }
+pub fn property_fits(room: usize, n: Frame, f: Frame, tag: &[u8]) -> bool
+    ensures { λ r. ⌜ (r ≡ true → (w : List ℕ) → length (write (propertyLines n f (now (tag .entry)) w)) ≤ room) ⌝ }
 {
     let has = f.has;
-    if language.len > MOST_TAG {
+    if tag.len() > MOST_TAG {
         return false;
     }
     let text = object_room(has[Frame::PENDING], part_size(f, Frame::TAIL));
@@ -71,7 +71,7 @@ pub fn property_fits(room: usize, n: Frame, f: Frame, language: Found) -> bool
         room,
         n,
         f,
-        text + iriref::MOST * part_size(f, Frame::DATATYPE) + language.len,
+        text + iriref::MOST * part_size(f, Frame::DATATYPE) + tag.len(),
     )
 }
 
@@ -175,7 +175,7 @@ fn cell(out: &mut [u8], at: usize, on: bool, c: Child, first: u64, n: u64, work:
     let own = label_of(n + 1);
     let id = own.id;
     let node = Node::of(c.blank);
-    let member = start_names::piece(work, c.at, c.len);
+    let member = copy::piece(work, c.at, c.len);
     if n == first {
         return ntriples::cell(
             out,
@@ -270,8 +270,8 @@ fn object_room(what: u32, size: usize) -> usize
 }
 
 // What the object of a default property is: none means the empty literal.
-fn object_term(what: u32, datatype: u32, language: bool) -> Term
-    ensures { λ r. ⌜ TermFor what datatype language r ⌝ }
+fn object_term(what: u32, datatype: u32, tag: &[u8]) -> Term
+    ensures { λ r. ⌜ TermFor what datatype (now (tag .entry)) r ⌝ }
 {
     if what == 1 {
         return Term::Named;
@@ -279,20 +279,20 @@ fn object_term(what: u32, datatype: u32, language: bool) -> Term
     if what == 2 {
         return Term::Blank;
     }
-    new_literal(datatype, language)
+    new_literal(datatype, tag)
 }
 
 // Datatype beats language.
-fn new_literal(datatype: u32, language: bool) -> Term
-    ensures { λ r. ⌜ LiteralFor datatype language r ⌝ }
+fn new_literal(datatype: u32, tag: &[u8]) -> Term
+    ensures { λ r. ⌜ LiteralFor datatype (now (tag .entry)) r ⌝ }
 {
     if datatype != 0 {
         return Term::Typed;
     }
-    if language {
-        return Term::Tagged;
+    if tag.len() == 0 {
+        return Term::Plain;
     }
-    Term::Plain
+    Term::Tagged
 }
 
 // The bytes of the object so far.
@@ -301,18 +301,18 @@ fn object_text(work: &[u8], f: Frame) -> &[u8]
 {
     let has = f.has;
     if has[Frame::PENDING] == 0 {
-        return start_names::piece(work, 0, 0);
+        return copy::piece(work, 0, 0);
     }
     part_of(work, f, Frame::TAIL)
 }
 
 // What stands beside a literal's text: its datatype, or else the language in force.
-fn type_or_tag(work: &[u8], f: Frame, language: Found) -> &[u8]
-    ensures { λ r. ⌜ now r ≡ pick (eqb (has f TYPED) 0) (part (now (work .entry)) (language .at) (language .len)) (span (now (work .entry)) (at f DATATYPE) (at f TAIL)) ⌝ }
+fn type_or_tag<'a>(work: &'a [u8], f: Frame, tag: &'a [u8]) -> &'a [u8]
+    ensures { λ r. ⌜ now r ≡ pick (eqb (has f TYPED) 0) (now (tag .entry)) (span (now (work .entry)) (at f DATATYPE) (at f TAIL)) ⌝ }
 {
     let has = f.has;
     if has[Frame::TYPED] == 0 {
-        return start_names::piece(work, language.at, language.len);
+        return tag;
     }
     part_of(work, f, Frame::DATATYPE)
 }
@@ -326,9 +326,9 @@ fn part_of(work: &[u8], f: Frame, k: usize) -> &[u8]
     let from = wide(at[k]);
     let to = wide(at[k + 1]);
     if to < from {
-        return start_names::piece(work, from, 0);
+        return copy::piece(work, from, 0);
     }
-    start_names::piece(work, from, to - from)
+    copy::piece(work, from, to - from)
 }
 
 // How many bytes it has.

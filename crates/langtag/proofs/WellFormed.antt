@@ -2,14 +2,17 @@
 use mathlib.Core.Path.{_≡_, refl, sym, _∙_}
 use mathlib.Core.Logic.{_⊎_, inl, inr}
 use mathlib.Core.Bool.{Bool, true, false, _||_}
-use Rattle.spec.specs.Bytes.{Bytes}
+use Rattle.spec.specs.Bytes.{Bytes, if_then_else_}
+use lib.ListN.{length}
 use Rattle.spec.specs.Grammar.{_or_, Describes}
 use Rattle.spec.specs.Rfc5646 as R
 use Rattle.spec.specs.Rfc5646.{language-tag, isLanguageTag}
 use Rattle.spec.proofs.Booleans.{or-cases, or-left, or-right}
 use Rattle.theorems.specs.Grammar.{accepts-sound, accepts-complete}
-use Rattle.langtag.specs.declared.Tag.the-variants.{Good, Bad}
-use Rattle.langtag.specs.Verdict.{tagOf, verdict}
+use Rattle.spec.specs.declared.Verdict.the-variants.{Good, Clears, Bad}
+use Rattle.spec.specs.XmlLang.{verdict}
+use Rattle.theorems.specs.Languages.{tags-good}
+use Rattle.copy.specs.Texts.{empty-is, empty-not}
 use Rattle.langtag.specs.Machine.{composed, irregular}
 use Rattle.langtag.proofs.Machine.{composed-sound, composed-complete}
 use Rattle.langtag.proofs.Grandfathered.{irregular-sound, irregular-complete, regular-composed}
@@ -42,14 +45,16 @@ well-formed s =
 -- ---- the answers of `parse`
 
 module _ (s : Bytes) where
+  pub none-clears : length s ≡ 0 → Clears ≡ verdict s
+  unfolding verdict if_then_else_
+  none-clears h = rw (empty-is s h)
+
   pub composed-good : composed s ≡ true → Good ≡ verdict s
-  unfolding verdict tagOf
-  composed-good h = rw (well-formed s, h)
+  composed-good h = sym (tags-good s (well-formed s ∙ rw h))
 
   pub irregular-good : irregular s ≡ true → Good ≡ verdict s
-  unfolding verdict tagOf
-  irregular-good h = rw (well-formed s ∙ or-right (composed s) (irregular s) h)
+  irregular-good h = sym (tags-good s (well-formed s ∙ or-right (composed s) (irregular s) h))
 
-  pub neither-bad : composed s ≡ false → irregular s ≡ false → Bad ≡ verdict s
-  unfolding verdict tagOf
-  neither-bad h k = rw (well-formed s, h, k)
+  pub neither-bad : (length s ≡ 0 → ⊥) → composed s ≡ false → irregular s ≡ false → Bad ≡ verdict s
+  unfolding verdict if_then_else_
+  neither-bad e h k = rw (empty-not s e, well-formed s, h, k)

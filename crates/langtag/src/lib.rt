@@ -3,15 +3,10 @@ ghost use mathlib.Core.Path.{_≡_};
 ghost use mathlib.Core.List.{map};
 ghost use Rattle.spec.specs.Bytes.{if_then_else_, same, member};
 ghost use Rattle.spec.specs.Abnf.{lower};
+ghost use Rattle.spec.specs.XmlLang.{verdict};
 ghost use Rattle.copy.specs.Copy.{Put};
-ghost use Rattle.langtag.specs.Verdict.{verdict};
 ghost use Rattle.langtag.specs.Machine.{letter, digit, isX, fresh, longer, first, grown, kind, extensions, variants, regions, scripts, extlangs, languages, extended, private, follow, final, ended, step, composed, words, irregular};
-
-// What a text is as a language tag.
-pub enum Tag {
-    Good,
-    Bad,
-}
+use spec::Verdict;
 
 // What a subtag can serve as, by its length and its bytes: letters and digits are counted, `Variant` is no row of letters,
 // `Other` serves in extensions and private use alone, and `Bad` nowhere.
@@ -62,17 +57,20 @@ struct Reader {
     subtag: Subtag,
 }
 
-// Is the text a well-formed language tag?
-pub fn parse(s: &[u8]) -> Tag
+// Is the text a well-formed language tag, or the empty one, which clears?
+pub fn parse(s: &[u8]) -> Verdict
     ensures { λ r. ⌜ r ≡ verdict (now (s .entry)) ⌝ }
 {
+    if s.len() == 0 {
+        return Verdict::Clears;
+    }
     if composed(s) {
-        return Tag::Good;
+        return Verdict::Good;
     }
     if irregular(s) {
-        return Tag::Good;
+        return Verdict::Good;
     }
-    Tag::Bad
+    Verdict::Bad
 }
 
 // An ASCII letter in lower case, and any other byte as it is.

@@ -17,6 +17,8 @@ use Rattle.spec.specs.Document.{Frame as Element, ordinary, xmlElement, binding
 use Rattle.spec.specs.XmlLiteral.{startTagXml}
 use Rattle.copy.specs.Copy.{part, Put, Wrote, put-fits, wrote-part, wrote-same}
 use Rattle.state_words.specs.Kept.{kept-then, kept-less, kept-before, kept-behind}
+use Rattle.spec.specs.XmlLang.{unsaid}
+use Rattle.spec.specs.XmlLang as X
 use Rattle.state.specs.declared.Registers.{Registers}
 use Rattle.state.specs.Meaning.{startOf, elementsOf}
 use Rattle.state.specs.Valid.{Valid}
@@ -27,7 +29,7 @@ use Rattle.state_inner.specs.Calls.{Opens, mayOpen, held-is}
 use Rattle.state_inner.specs.Laws.{Written, open-holds}
 use Rattle.start_names.specs.Tag.{attributesOf}
 use Rattle.start_element.specs.declared.Next.{Next}
-use Rattle.start_element.specs.Sizes.{length-part-of}
+use Rattle.copy.specs.Copy.{part-short}
 use Rattle.start_element.specs.Rows.{Fits, Entered}
 use Rattle.event.specs.declared.Done.{Done}
 use Rattle.event.specs.declared.Outcome.{Outcome}
@@ -55,7 +57,7 @@ pub record Room (r : Registers) (bs w : List ℕ) (n : Bytes) (all : List Bindin
 -- what `enter` does to a valid state: q, cs, js and v are behind it
 pub record Enters (r : Registers) (bs is w : List ℕ) (n : Bytes) (all : List Binding) (more : ℕ) (q : Registers) (cs js v : List ℕ) : Type 0 where
   pub holds : {fs : List ℕ} → Valid r fs bs is w → r .store .top + more ≤ r .store .low → r .counts .depth + r .counts .inner < 64
-      → Holds q fs cs js v (r .mode) (startOf r w) (record { name = n; bindings = all; ownBase = none; ownTag = none; kind = xmlElement; part = ordinary } ∷ elementsOf r fs bs is w) (r .flags .rooted) (r .counts .labels)
+      → Holds q fs cs js v (r .mode) (startOf r w) (record { name = n; bindings = all; ownBase = none; ownTag = unsaid; kind = xmlElement; part = ordinary } ∷ elementsOf r fs bs is w) (r .flags .rooted) (r .counts .labels)
   pub mark : {fs : List ℕ} → Valid r fs bs is w → r .counts .depth + r .counts .inner < 64 → q .flags .closed ≡ r .flags .closed
 
 -- ---- how `enter` comes to its answer
@@ -130,7 +132,7 @@ ready {e = e} {m = m} a l p t q h g =
       asks = a;
       wide = l;
       short = t .short;
-      named = omega (arith, ap length q, length-part-of e 0 m, t .short);
+      named = omega (arith, ap length q, part-short e 0 m, t .short);
       few = t .few;
       counts = judged-counts h g;
       quiet = judged-quiet (a .valid) p h g;
@@ -138,7 +140,7 @@ ready {e = e} {m = m} a l p t q h g =
 
 -- held bytes with it
 held-copied : (start : Option Bytes) (n : Bytes) (as′ : List Attribute) (es : List Element) → heldWith start (copied n as′ ∷ es) ≡ heldWith start es + ownBytes n (declared as′)
-unfolding heldWith total frameBytes kindBytes sizeOf
+unfolding heldWith total frameBytes kindBytes sizeOf X.ownBytes
 held-copied start n as′ es = omega arith
 
 module _ {r : Registers} {fs bs is w e sp : List ℕ} {n : Bytes} {k : ℕ} {area made fs′ w′ : List ℕ} {size more : ℕ} {o : Outcome} (y : Ready r fs bs is w e sp n k area)

@@ -21,6 +21,7 @@ use Rattle.spec.specs.XmlLiteral.{startTagXml, takesXml, addXml}
 use Rattle.spec.specs.Opening.{Step, isSecondRoot, countsFit, copyElement, openIn, isXml, repeated, onOpening}
 use Rattle.spec.specs.RdfXml.{onEvent}
 use Rattle.spec.proofs.Booleans.{and-left, and-right}
+use Rattle.spec.specs.XmlLang.{unsaid}
 use Rattle.state.specs.declared.Registers.{Registers}
 use Rattle.state.specs.Meaning.{bindingsOf, elementsOf, docOf}
 use Rattle.state.specs.Valid.{Valid}
@@ -61,7 +62,7 @@ judgement n as′ d bs =
 
 -- the element that it opens
 abbrev pub copied : Bytes → List Attribute → Element
-copied n as′ = record { name = n; bindings = declared as′; ownBase = none; ownTag = none; kind = xmlElement; part = ordinary }
+copied n as′ = record { name = n; bindings = declared as′; ownBase = none; ownTag = unsaid; kind = xmlElement; part = ordinary }
 
 -- ---- the definitions' answer
 

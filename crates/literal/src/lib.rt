@@ -70,7 +70,7 @@ pub fn end_inside(
     let c = state_inner::close_inside(r, inners);
     let behind = c.registers;
     let own = state_inner::name(r, frames, inners);
-    if !copy::equal(name, start_names::piece(work, own.at, own.len)) {
+    if !copy::equal(name, copy::piece(work, own.at, own.len)) {
         return Outcome::Stop(Refusal::NotWellFormed);
     }
     let n = xmltext::end_tag(area, 0, true, name);
@@ -95,7 +95,7 @@ pub fn start_inside(
     requires { ⌜ Asks r (now frames) (now bindings) (now inners) (now work) × (mostHeldBytes ≤ length (now area)) × (placeIn (elementsOf r (now frames) (now bindings) (now inners) (now work)) ≡ xml) × Tag (now scratch) (now spans) m c k ⌝ }
     ensures { λ o. ⌜ Quietly (opening (take m (now (scratch .entry))) (attributesOf (now (scratch .entry)) (now (spans .entry)) k)) r o (now (frames .entry)) (now (bindings .entry)) (now (inners .entry)) (now (work .entry)) (now (frames .exit)) (now (bindings .exit)) (now (inners .exit)) (now (work .exit)) ⌝ }
 {
-    let name = start_names::piece(scratch, 0, m);
+    let name = copy::piece(scratch, 0, m);
     let judged = judge(r, bindings, work, scratch, spans, name, c, k);
     match judged {
         Judged::Stop(n) => Outcome::Stop(n),

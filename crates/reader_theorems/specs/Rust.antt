@@ -1,5 +1,6 @@
 -- Demand 2, the Rust, of documents that are run through the calls in the base mode: what they write is the N-Triples
--- text of exactly the Rust's triples, in its order, and what they refuse in the domain the Rust refuses.
+-- text of exactly the Rust's triples, in its order, and what they refuse in the domain the Rust refuses. No event of them
+-- has an empty xml:lang outside Literal content: the Rust refuses it.
 use Prim.Native.Nat.{ℕ}
 use mathlib.Core.Path.{_≡_, refl, sym, ap, _∙_, subst}
 use mathlib.Core.Logic.{_⊎_, inl, inr}
@@ -29,7 +30,7 @@ use Rattle.rio.specs.Parser.{Result, Err, Ok, Emits, RdfXmlReader, new, parse-s
 use Rattle.rio.specs.Parser as P
 use Rattle.rio.specs.Domain.{InDomain}
 use Rattle.rio.specs.Related.{Related, Both, Same}
-use Rattle.rio.specs.SameAsRust.{event-same, accepted-same, begins-related, at-end, parse-more, parse-fails}
+use Rattle.rio.specs.SameAsRust.{NeverCleared, event-same, accepted-same, begins-related, at-end, parse-more, parse-fails}
 use Rattle.reader_contract.specs.declared.State.{State}
 use Rattle.reader_contract.specs.declared.Report.{Report}
 use Rattle.reader_contract.specs.declared.Answer.the-variants.{Done, Refused}
@@ -47,14 +48,14 @@ pub record OnRust (b : Option Bytes) (d : Doc) (ts : List Triple) (es : List Eve
   pub accepts : parse-all es (new b) ≡ (ts, Ok reader)
   pub related : Related d reader
 
-on-rust : (b : Option Bytes) {d : Doc} {ts : List Triple} (a : After (fresh baseMode b) d ts)
+on-rust : (b : Option Bytes) {d : Doc} {ts : List Triple} (a : After (fresh baseMode b) d ts) → NeverCleared a
     → OnRust b d ts (eventsOf a)
 unfolding eventsOf parse-all
-on-rust b here = record { reader = new b; accepts = refl; related = begins-related b }
-on-rust b (event {d = d} {ts = ts} before e d′ us q) =
-    let h : OnRust b d ts (eventsOf before) = on-rust b before in
+on-rust b here k = record { reader = new b; accepts = refl; related = begins-related b }
+on-rust b (event {d = d} {ts = ts} before e d′ us q) k =
+    let h : OnRust b d ts (eventsOf before) = on-rust b before (k .0) in
     let base : d .mode ≡ baseMode = always-mode baseMode b d ts before in
-    let g = accepted-same e d d′ (h .reader) us base (nested-in baseMode b d ts before) (h .related) q in
+    let g = accepted-same e d d′ (h .reader) us base (nested-in baseMode b d ts before) (h .related) (k .1) q in
     record {
       reader = g .0;
       accepts =
@@ -121,12 +122,12 @@ finish-accepts t d (inr e) h = absurd (number-positive Closed (rw e at h))
 -- ---- of the calls
 
 module _ {based : Bool} {base : Bytes} {s : State} {w i : List ℕ} {o : Bytes}
-    (h : Ran baseMode based base s w i o) where
+    (h : Ran baseMode based base s w i o) (c : NeverCleared (run-lines h .after)) where
   -- the Rust on the events that the calls took
   rust : OnRust (baseOf based base) (run-lines h .doc) (run-lines h .lines) (runEvents h)
   rust =
       subst (λ (es : List Event). OnRust (baseOf based base) (run-lines h .doc) (run-lines h .lines) es)
-      (run-lines h .events) (on-rust (baseOf based base) (run-lines h .after))
+      (run-lines h .events) (on-rust (baseOf based base) (run-lines h .after) c)
 
   -- The Rust accepts the events that the calls of a document took; what they wrote is the text of exactly its
   -- triples, in its order.

@@ -1,4 +1,5 @@
--- Document 01, "Domain of equality with the Rust", clause by clause, of one event at a document.
+-- Document 01, "Domain of equality with the Rust", as request 2 of document 02 amends it: clause by clause, of one
+-- event at a document.
 --
 -- The theorems begin where both sides have the same decoded events; that quick_xml and PYX yield the same ones is not
 -- proved. So the clauses on how XML becomes events exclude nothing here. They are:
@@ -10,11 +11,11 @@
 use mathlib.Core.Path.{_≡_}
 use mathlib.Core.Bool.{Bool, true, false}
 use mathlib.Core.List.{List, _++_}
-use Rattle.spec.specs.Bytes.{ascii, begins, All}
+use Rattle.spec.specs.Bytes.{ascii, same, begins, isEmpty, All}
 use Rattle.spec.specs.Numbers.{refuse}
 use Rattle.spec.specs.declared.Refusal.{Refusal}
 use Rattle.spec.specs.declared.Refusal.the-variants.{Incomplete, NoRoom, BadState, Closed, NotPyx, NotWellFormed, OverLimit, NoNamespace, NotNcName, BadLanguage, BadIri, RepeatedId, BadLabel, Reserved, TwoNames, StrayText, EmptyLiteral, LabelsSpent, ProfileBroken}
-use Rattle.spec.specs.Pyx.{Attribute, Event, opening, closing, text, instruction}
+use Rattle.spec.specs.Pyx.{Attribute, attribute, Event, opening, closing, text, instruction}
 use Rattle.spec.specs.Namespaces.{Binding, declared, isDeclaration, nameOf, isKnown, allLegal}
 use Rattle.spec.specs.Document.{Doc, inScope, placeIn}
 use Rattle.spec.specs.Opening.{isSecondRoot, isXml, repeated}
@@ -50,6 +51,18 @@ NoRepeatedAttribute (closing n) d = Unit {0}
 NoRepeatedAttribute (text s) d = Unit {0}
 NoRepeatedAttribute instruction d = Unit {0}
 
+-- an attribute that is no empty xml:lang
+abbrev pub NotEmptyLang : Attribute → Type 0
+NotEmptyLang (attribute n v) = same n (ascii "xml:lang") ≡ true → isEmpty v ≡ false
+
+-- outside Literal content no xml:lang is empty: it clears the language here, and the Rust refuses it; inside, both
+-- copy it
+abbrev pub NoneCleared : Event → Doc → Type 0
+NoneCleared (opening n as′) d = isXml (placeIn (d .frames)) ≡ false → All NotEmptyLang as′
+NoneCleared (closing n) d = Unit {0}
+NoneCleared (text s) d = Unit {0}
+NoneCleared instruction d = Unit {0}
+
 -- the paragraph, in its words and order
 pub record InDomain (e : Event) (d : Doc) : Type 0 where
   -- "Namespace-well-formed
@@ -67,6 +80,8 @@ pub record InDomain (e : Event) (d : Doc) : Type 0 where
   pub not-refused-by-18 : NotRefusedBy LabelsSpent e d
   -- or 6 for a repeated attribute"
   pub no-repeated-attribute : NoRepeatedAttribute e d
+  -- request 2: "the domain of equality now excludes empty xml:lang"
+  pub none-cleared : NoneCleared e d
 
 -- ---- unknown prefixes
 

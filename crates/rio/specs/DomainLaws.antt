@@ -1,4 +1,5 @@
--- What is in the domain is refused by no number outside it; and whatever is accepted is in the domain.
+-- What is in the domain is refused by no number outside it; and whatever is accepted is in the domain, but for what
+-- clears the language.
 use mathlib.Core.Path.{_≡_, refl, sym, _∙_}
 use mathlib.Core.Logic.{inl, inr}
 use mathlib.Core.Bool.{Bool, true, false, _&&_, not, true≢false}
@@ -16,7 +17,7 @@ use Rattle.spec.specs.RdfXml.{next}
 use Rattle.spec.proofs.Booleans.{and-left, and-right}
 use Rattle.theorems.specs.AttributeNames.{accepted-known}
 use Rattle.theorems.specs.Refusals.{wellFormed, refused-above, not-well-formed}
-use Rattle.rio.specs.Domain.{KnownPrefixes, NamespaceWellFormed, NoRepeatedAttribute, InDomain, XmlNameKnown, NeededPrefixes, outside}
+use Rattle.rio.specs.Domain.{KnownPrefixes, NamespaceWellFormed, NoRepeatedAttribute, NoneCleared, InDomain, XmlNameKnown, NeededPrefixes, outside}
 
 -- ---- prefixes
 
@@ -73,7 +74,7 @@ in-domain-needed (closing n) d k = tt
 in-domain-needed (text s) d k = tt
 in-domain-needed instruction d k = tt
 
--- ---- every event that is accepted is in it
+-- ---- every event that is accepted, and clears no language, is in it
 
 pub refuse-good : {A : Type 0} {n : Refusal} {a : A} → refuse n ≡ good a → ⊥
 refuse-good e = let z : true ≡ false = cc in true≢false z
@@ -108,8 +109,8 @@ module _ (d : Doc) (s : Step) where
   accepted-names (text t) q h = (tt, tt)
   accepted-names instruction q h = (tt, tt)
 
-  pub accepted-in-domain : (e : Event) → next e d ≡ good s → InDomain e d
-  accepted-in-domain e q =
+  pub accepted-in-domain : (e : Event) → next e d ≡ good s → NoneCleared e d → InDomain e d
+  accepted-in-domain e q said =
       let k = accepted-names e q (accepted-well-formed e q) in
       record {
         namespace-well-formed = k .0;
@@ -117,4 +118,5 @@ module _ (d : Doc) (s : Step) where
         not-refused-by-13 = λ h. refuse-good (sym h ∙ q);
         not-refused-by-18 = λ h. refuse-good (sym h ∙ q);
         no-repeated-attribute = k .1;
+        none-cleared = said;
       }

@@ -15,6 +15,7 @@ use Rattle.spec.specs.Pyx.{Attribute, attribute, Event, opening, closing}
 use Rattle.spec.specs.Rdf.{rdf}
 use Rattle.spec.specs.NTriples.{named, blank, node, plain, Triple, triple}
 use Rattle.spec.specs.Modes.{baseMode}
+use Rattle.spec.specs.XmlLang.{unsaid}
 use Rattle.spec.specs.Document.{nodeElement, ordinary, Doc, fresh}
 use Rattle.spec.specs.RdfXml.{next}
 use Rattle.spec.specs.RdfXml as X
@@ -148,7 +149,7 @@ lis-spent = record {
     name = ascii "e:P";
     bindings = (ascii "rdf", rdf "") ∷ [];
     ownBase = none;
-    ownTag = none;
+    ownTag = unsaid;
     kind = nodeElement (blank (ascii "k")) 99_999_999;
     part = ordinary;
   } ∷ [];

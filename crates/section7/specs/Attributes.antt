@@ -13,6 +13,8 @@ use Rattle.spec.specs.Abnf as A
 use Rattle.spec.specs.XmlNames.{isNCName, prefixOf, localOf}
 use Rattle.spec.specs.Rfc3987.{isIri}
 use Rattle.spec.specs.Rfc5646.{isLanguageTag}
+use Rattle.spec.specs.declared.Verdict.the-variants.{Good, Clears, Bad}
+use Rattle.spec.specs.XmlLang.{verdict, isAllowed}
 use Rattle.spec.specs.Pyx.{Attribute, attribute}
 use Rattle.spec.specs.Namespaces.{Binding, isDeclaration, nameOf, isKnown, namespace, joined, expandAttribute, expandedNames}
 use Rattle.spec.specs.Rdf.{rdf}
@@ -37,7 +39,7 @@ pub data Fine (bs : List Binding) : Attribute → Type 0 where
   declaration : {n v : Bytes} → isDeclaration (attribute n v) ≡ true → Fine bs (attribute n v)
   -- a name that begins `xml`
   reserved : {n v : Bytes} → isDeclaration (attribute n v) ≡ false → begins (ascii "xml") n ≡ true → isKnown bs n ≡ true
-      → (same n (ascii "xml:lang") ≡ true → isLanguageTag v ≡ true) → (same n (ascii "xml:base") ≡ true → isIri v ≡ true) → Fine bs (attribute n v)
+      → (same n (ascii "xml:lang") ≡ true → isAllowed (verdict v) ≡ true) → (same n (ascii "xml:base") ≡ true → isIri v ≡ true) → Fine bs (attribute n v)
   -- any other, with a prefix, and none of the terms that no production has
   event : {n v ns : Bytes} → begins (ascii "xml") (map lower n) ≡ false → isEmpty (prefixOf n) ≡ false → namespace bs (prefixOf n) ≡ some ns
       → member (ns ++ localOf n) (rdf "RDF" ∷ rdf "li" ∷ oldTerms) ≡ false → goodValue (ns ++ localOf n) v ≡ true → Fine bs (attribute n v)
@@ -180,12 +182,12 @@ known-xml bs n x k = go (isEmpty (prefixOf n)) (namespace bs (prefixOf n)) refl 
     go false none p h = absurd (false≢true h)
     go false (some ns) p h = rw (known, p)
 
-judge-xml : (n v : Bytes) → (same n (ascii "xml:lang") ≡ true → isLanguageTag v ≡ true) → (same n (ascii "xml:base") ≡ true → isIri v ≡ true)
+judge-xml : (n v : Bytes) → (same n (ascii "xml:lang") ≡ true → isAllowed (verdict v) ≡ true) → (same n (ascii "xml:base") ≡ true → isIri v ≡ true)
     → judge (if same n (ascii "xml:lang") then xml-lang else if same n (ascii "xml:base") then xml-base else nothing) v ≡ good tt
 unfolding judge if_then_else_ require_or_
 judge-xml n v l b = go (same n (ascii "xml:lang")) (same n (ascii "xml:base")) l b
   where
-    go : (x y : Bool) → (x ≡ true → isLanguageTag v ≡ true) → (y ≡ true → isIri v ≡ true) → judge (if x then xml-lang else if y then xml-base else nothing) v ≡ good tt
+    go : (x y : Bool) → (x ≡ true → isAllowed (verdict v) ≡ true) → (y ≡ true → isIri v ≡ true) → judge (if x then xml-lang else if y then xml-base else nothing) v ≡ good tt
     go true y l b = rw (l refl)
     go false true l b = rw (b refl)
     go false false l b = refl
@@ -214,19 +216,20 @@ pub says-then : (m : String) (test : Bytes → Bool) (n v : Bytes) → says m te
 unfolding says if_then_else_
 says-then m test n v h e = let g : (if true then test v else true) ≡ true = rw e at h in g
 
-language-good : (v : Bytes) → not (isEmpty v) ≡ true → (isEmpty v || isLanguageTag v) ≡ true → isLanguageTag v ≡ true
-language-good v h k = go (isEmpty v) (isLanguageTag v) h k
+language-good : (v : Bytes) → (isEmpty v || isLanguageTag v) ≡ true → isAllowed (verdict v) ≡ true
+unfolding verdict isAllowed if_then_else_
+language-good v k = go (isEmpty v) (isLanguageTag v) k
   where
-    go : (a b : Bool) → not a ≡ true → (a || b) ≡ true → b ≡ true
-    go true b h k = absurd (false≢true h)
-    go false b h k = k
+    go : (a b : Bool) → (a || b) ≡ true → isAllowed (if a then Clears else if b then Good else Bad) ≡ true
+    go true b k = refl
+    go false true k = refl
+    go false false k = absurd (false≢true k)
 
 -- what the grammar and the clauses say of one attribute
 pub record Accepted (bs : List Binding) (y : Attribute) : Type 0 where
   pub named : is-named bs y ≡ true
   pub prefixed : (is-reserved (nameOf y) || not (isEmpty (prefixOf (nameOf y)))) ≡ true
   pub small : (not (is-reserved (nameOf y)) || begins (ascii "xml") (nameOf y)) ≡ true
-  pub language : says "xml:lang" (λ v. not (isEmpty v)) y ≡ true
   pub tag : says "xml:lang" (λ v. isEmpty v || isLanguageTag v) y ≡ true
   pub base : says "xml:base" isIri y ≡ true
 
@@ -241,7 +244,7 @@ module _ (bs : List Binding) (n v : Bytes) (k : Accepted bs (attribute n v)) whe
       let z : (isKnown bs n && (true || isSome (attribute-uri bs n))) ≡ true = rw (d, r) at (k .named) in
       let x : begins (ascii "xml") n ≡ true = rw r at (k .small) in
       reserved d x (and-left (isKnown bs n) _ z)
-      (λ e. language-good v (says-then "xml:lang" _ n v (k .language) e) (says-then "xml:lang" _ n v (k .tag) e))
+      (λ e. language-good v (says-then "xml:lang" _ n v (k .tag) e))
       (λ e. says-then "xml:base" isIri n v (k .base) e)
 
   has-namespace : (o : Option Bytes) → isSome (joined o (localOf n)) ≡ true → (ns : Bytes) × (o ≡ some ns)

@@ -57,9 +57,7 @@ pub record NoDifferenceInTag (c : Context) (as′ : List Attribute) : Type 0 whe
   pub names-in-capitals : All (λ a. (not (is-reserved (nameOf a)) || begins (ascii "xml") (nameOf a)) ≡ true) as′
   -- two names whose namespace and local name, joined, are one text are two names; 6
   pub joined-names : repeatsExpanded (declared as′ ++ c .bindings) as′ ≡ false
-  -- 6.1.2: xml:lang="" clears the language; 10
-  pub cleared-language : All (λ a. says "xml:lang" (λ v. not (isEmpty v)) a ≡ true) as′
-  -- a language is any text; 10 unless it is a tag of RFC 5646
+  -- a language is any text; 10 unless it is a tag of RFC 5646 or empty
   pub other-language : All (λ a. says "xml:lang" (λ v. isEmpty v || isLanguageTag v) a ≡ true) as′
   -- 5.3: a relative xml:base is resolved; 11
   pub relative-base : All (λ a. says "xml:base" isIri a ≡ true) as′

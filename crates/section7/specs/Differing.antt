@@ -260,22 +260,6 @@ joined-names = record {
   others = refl;
 }
 
--- <e:q xml:lang="">t</e:q>
-cleared-tag : StartElement in-p (ascii "e:q") (only "xml:lang" "") []
-unfolding D.all
-cleared-tag = start _ _ _ _ q none none none none none [] refl
-
-pub cleared-language : Differs none (q-with (only "xml:lang" "") (characters (ascii "t") end))
-    (type-of-p ∷ triple p q (plain (ascii "t")) ∷ [])
-    (refuse BadLanguage)
-unfolding D.all lines run gives cleared-tag
-cleared-language = record {
-  used = behind-root;
-  accepted = accepted-in-node (literalPropertyElt cleared-tag refl tt refl refl noProperty);
-  read = refl;
-  others = refl;
-}
-
 -- <e:q xml:lang="e">t</e:q>
 short-tag : StartElement in-p (ascii "e:q") (only "xml:lang" "e") []
 unfolding D.all

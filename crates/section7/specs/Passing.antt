@@ -15,6 +15,7 @@ use Rattle.spec.specs.XmlNames.{isNCName, localOf, prefixOf}
 use Rattle.spec.specs.Pyx.{Attribute, attribute, Event, opening, closing, text, instruction}
 use Rattle.spec.specs.Namespaces.{Binding, namespace, inNamespace, expandElement, isDeclaration, expandAttribute, knownAttribute}
 use Rattle.spec.specs.Document.{Value, default, collection, literal, other, Property, Kind, rdfRDF, wrapper, nodeElement, propertyElement, xmlElement, Frame, Doc, withFrames, languageInForce, Place, outside, nodes, nodesOrText, xml, properties, placeIn, fits}
+use Rattle.spec.specs.XmlLang.{Language}
 use Rattle.spec.specs.StartTag.{Role, nothing, xml-lang, xml-base, rdf-ID, rdf-bagID, rdf-nodeID, rdf-about, rdf-resource, rdf-datatype, rdf-parseType, rdf-type, forbidden, property, roleOf, judge, known, Meaning, means, meaning, resolved, Tag, readTag, isShort}
 use Rattle.spec.specs.Productions.{Opened, oneMore, openNode, objectOf, openWithNode, openDefault, openResource, openWith, noParseType, asCollection, asResource, asLiteral, asOther, ParseType, openAs, openProperty, openRoot}
 use Rattle.spec.specs.NTriples.{Subject}
@@ -194,14 +195,14 @@ module _ (n : Bytes) (d : Doc) where
   abbrev WhyEnd : Refusal → Type 0
   WhyEnd = Passes (closing n) d
 
-  for-value : (f : Frame) (fs : List Frame) (p : Property) (v : Value) (l : Option Bytes) → d .frames ≡ f ∷ fs → f .kind ≡ propertyElement p v → For WhyEnd (endValue p v l (withFrames fs d))
+  for-value : (f : Frame) (fs : List Frame) (p : Property) (v : Value) (l : Language) → d .frames ≡ f ∷ fs → f .kind ≡ propertyElement p v → For WhyEnd (endValue p v l (withFrames fs d))
   unfolding endValue withFrames
   for-value f fs p (default t o) l e k = tt
   for-value f fs p (collection cs) l e k = for-then WhyEnd _ _ (for-limit WhyEnd (leb (d .labels + length cs) mostLabels) LabelsSpent λ h. cells e k h) tt
   for-value f fs p (literal x) l e k = for-then WhyEnd _ _ (for-other WhyEnd _ EmptyLiteral refl) tt
   for-value f fs p other l e k = tt
 
-  for-kind : (f : Frame) (fs : List Frame) (k : Kind) (l : Option Bytes) → d .frames ≡ f ∷ fs → f .kind ≡ k → For WhyEnd (endKind k n l (withFrames fs d))
+  for-kind : (f : Frame) (fs : List Frame) (k : Kind) (l : Language) → d .frames ≡ f ∷ fs → f .kind ≡ k → For WhyEnd (endKind k n l (withFrames fs d))
   unfolding endKind
   for-kind f fs rdfRDF l e q = tt
   for-kind f fs (wrapper b) l e q = for-then WhyEnd _ _ (for-other WhyEnd _ ProfileBroken refl) tt

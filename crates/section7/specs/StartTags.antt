@@ -4,7 +4,6 @@ use mathlib.Core.Bool.{Bool, true, false, _&&_, _||_, not, false≢true}
 use mathlib.Core.Option.{Option, none, some}
 use mathlib.Core.List.{List, [], _∷_, _++_, map, append-nil}
 use Prim.Native.Nat.{ℕ}
-use borrow.Author.Tests.{not-true}
 use Rattle.spec.specs.Bytes.{Bytes, ascii, byte, if_then_else_, same, begins, isEmpty, isSome, member, repeats, those, All, orElse, each, _>>=_, _>>_, require_or_}
 use Rattle.spec.specs.Numbers.{Answer, refuse, good}
 use Rattle.spec.specs.declared.Refusal.the-variants.{NotWellFormed, OverLimit, BadIri}
@@ -12,6 +11,8 @@ use Rattle.spec.specs.XmlNames.{prefixOf}
 use Rattle.spec.specs.Rfc3986.{resolve, resolves}
 use Rattle.spec.specs.Rfc3987.{isIri, isIriReference}
 use Rattle.spec.specs.Rfc5646.{isLanguageTag}
+use Rattle.spec.specs.declared.Verdict.the-variants.{Good, Clears, Bad}
+use Rattle.spec.specs.XmlLang.{verdict, tagOf, saidBy, ownOf, Language, noLanguage, language, inForce}
 use Rattle.spec.specs.Pyx.{Attribute, attribute, opening}
 use Rattle.spec.specs.Namespaces.{Binding, declared, isDeclaration, nameOf, allLegal, expandedNames, unknownNames, repeatsExpanded}
 use Rattle.spec.specs.Rdf.{rdf}
@@ -21,7 +22,7 @@ use Rattle.spec.proofs.Bytes.{same-true, same-refl}
 use Rattle.spec.specs.Rdf as F
 use Rattle.spec.specs.Modes.{baseMode}
 use Rattle.spec.specs.Document.{Kind, ordinary, Frame, Doc, withKind, withPart, inScope, languageInForce, baseInForce, placeIn, inKind}
-use Rattle.spec.specs.StartTag.{rdf-ID, rdf-nodeID, rdf-about, rdf-resource, rdf-datatype, rdf-parseType, rdf-type, roleNumber, sameRole, rdfRoles, roleAmong, lowercased, resolved, withHash, isUnused, Tag, readTag, isShort}
+use Rattle.spec.specs.StartTag.{rdf-ID, rdf-nodeID, rdf-about, rdf-resource, rdf-datatype, rdf-parseType, rdf-type, roleNumber, sameRole, rdfRoles, roleAmong, resolved, withHash, isUnused, Tag, readTag, isShort}
 use Rattle.spec.specs.Productions.{Opened}
 use Rattle.spec.specs.Xmp.{startsWrapper, newPart, noted}
 use Rattle.spec.specs.Opening.{enter, counted, countLi, opened, openElement, openIn, isXml, isSecondRoot, repeated, onOpening}
@@ -100,15 +101,25 @@ module _ (ids : List Identifier) where
 -- ---- what is inside
 
 -- 6.1.2 as document 01 has it
-pub same-language : (as′ : List Attribute) (l : Option Bytes) → All (λ a. says "xml:lang" (λ v. not (isEmpty v)) a ≡ true) as′
-    → language-in (written (ascii "xml:lang") as′) l ≡ orElse (lowercased (written (ascii "xml:lang") as′)) l
-unfolding language-in written lowercased orElse if_then_else_
+pub same-language : (as′ : List Attribute) (l : Language)
+    → All (λ a. says "xml:lang" (λ v. isEmpty v || isLanguageTag v) a ≡ true) as′
+    → language-in (written (ascii "xml:lang") as′) l ≡ inForce (ownOf (written (ascii "xml:lang") as′)) l
+unfolding language-in written ownOf saidBy verdict tagOf inForce if_then_else_
 same-language [] l h = refl
 same-language (attribute n v ∷ as′) l h = go (same n (ascii "xml:lang")) refl (same-language as′ l (h .1))
   where
-    go : (t : Bool) → same n (ascii "xml:lang") ≡ t → language-in (written (ascii "xml:lang") as′) l ≡ orElse (lowercased (written (ascii "xml:lang") as′)) l
-        → language-in (if t then some v else written (ascii "xml:lang") as′) l ≡ orElse (lowercased (if t then some v else written (ascii "xml:lang") as′)) l
-    go true e k = let g : isEmpty v ≡ false = not-true _ (says-then "xml:lang" _ n v (h .0) e) in rw g
+    said : (a b : Bool) → (a || b) ≡ true
+        → (if a then noLanguage else language (tagOf v))
+        ≡ inForce (saidBy (if a then Clears else if b then Good else Bad) v) l
+    said true b k = refl
+    said false true k = refl
+    said false false k = absurd (false≢true k)
+
+    go : (t : Bool) → same n (ascii "xml:lang") ≡ t
+        → language-in (written (ascii "xml:lang") as′) l ≡ inForce (ownOf (written (ascii "xml:lang") as′)) l
+        → language-in (if t then some v else written (ascii "xml:lang") as′) l
+        ≡ inForce (ownOf (if t then some v else written (ascii "xml:lang") as′)) l
+    go true e k = said (isEmpty v) (isLanguageTag v) (says-then "xml:lang" _ n v (h .0) e)
     go false e k = k
 
 pub same-base-uri : (as′ : List Attribute) (b : Option Bytes) → resolved b (written (ascii "xml:base") as′) ≡ good (written (ascii "xml:base") as′)
@@ -116,7 +127,7 @@ pub same-base-uri : (as′ : List Attribute) (b : Option Bytes) → resolved b (
 unfolding target
 same-base-uri as′ b h = rw h
 
-same-context : (x : Context) {bs : List Binding} {b l : Option Bytes} → x .bindings ≡ bs → x .base-uri ≡ b → x .language ≡ l → x ≡ record { bindings = bs; base-uri = b; language = l }
+same-context : (x : Context) {bs : List Binding} {b : Option Bytes} {l : Language} → x .bindings ≡ bs → x .base-uri ≡ b → x .language ≡ l → x ≡ record { bindings = bs; base-uri = b; language = l }
 same-context x p q r = rw (← p, ← q, ← r)
 
 -- ---- rdf:type
@@ -191,17 +202,17 @@ pub record Readable (c : Context) (n : Bytes) (as′ : List Attribute) (u : Used
   pub fine : All (Fine (declared as′ ++ c .bindings)) as′
   pub joined : repeatsExpanded (declared as′ ++ c .bindings) as′ ≡ false
   pub base-same : inside as′ c .base-uri ≡ orElse (written (ascii "xml:base") as′) (c .base-uri)
-  pub language-same : inside as′ c .language ≡ orElse (lowercased (written (ascii "xml:lang") as′)) (c .language)
+  pub language-same : inside as′ c .language ≡ inForce (ownOf (written (ascii "xml:lang") as′)) (c .language)
   pub unused : isUnused (e .id) (map iri-of (u .ids)) ≡ true
   pub one-type : few (e .types) ≡ true
 
 all-accepted : (bs : List Binding) (as′ : List Attribute) → All (λ a. is-named bs a ≡ true) as′
     → All (λ a. (is-reserved (nameOf a) || not (isEmpty (prefixOf (nameOf a)))) ≡ true) as′ → All (λ a. (not (is-reserved (nameOf a)) || begins (ascii "xml") (nameOf a)) ≡ true) as′
-    → All (λ a. says "xml:lang" (λ v. not (isEmpty v)) a ≡ true) as′ → All (λ a. says "xml:lang" (λ v. isEmpty v || isLanguageTag v) a ≡ true) as′ → All (λ a. says "xml:base" isIri a ≡ true) as′
+    → All (λ a. says "xml:lang" (λ v. isEmpty v || isLanguageTag v) a ≡ true) as′ → All (λ a. says "xml:base" isIri a ≡ true) as′
     → All (Accepted bs) as′
-all-accepted bs [] g h i j k l = tt
-all-accepted bs (y ∷ as′) g h i j k l =
-    (record { named = g .0; prefixed = h .0; small = i .0; language = j .0; tag = k .0; base = l .0 }, all-accepted bs as′ (g .1) (h .1) (i .1) (j .1) (k .1) (l .1))
+all-accepted bs [] g h i k l = tt
+all-accepted bs (y ∷ as′) g h i k l =
+    (record { named = g .0; prefixed = h .0; small = i .0; tag = k .0; base = l .0 }, all-accepted bs as′ (g .1) (h .1) (i .1) (k .1) (l .1))
 
 all-events : (es : List AttributeEvent) → All (λ a. is-rdf-id a ≡ true) es → All (λ a. is-free-label a ≡ true) es → All (λ a. member (a .0) noAttributes ≡ false) es → All AcceptedEvent es
 all-events [] g h i = tt
@@ -219,13 +230,13 @@ unfolding inside
 readable c n as′ u e d a o =
     let bs : List Binding = declared as′ ++ c .bindings in
     let fine : All (Fine bs) as′
-    = fine-all bs as′ (all-accepted bs as′ (e .all-named) (d .names-without-prefix) (d .names-in-capitals) (d .cleared-language) (d .other-language) (d .relative-base))
+    = fine-all bs as′ (all-accepted bs as′ (e .all-named) (d .names-without-prefix) (d .names-in-capitals) (d .other-language) (d .relative-base))
     (all-events (attrs c as′) (e .all-ids) (d .refused-label) a) in
     record {
       fine = fine;
       joined = d .joined-names;
       base-same = same-base-uri as′ (c .base-uri) (d .dots-in-base);
-      language-same = same-language as′ (c .language) (d .cleared-language);
+      language-same = same-language as′ (c .language) (d .other-language);
       unused = unused-iri (u .ids) (e .id) (rw (entered-iri (u .ids) (inside as′ c .base-uri) (value (rdf "ID") (attrs c as′)) (e .id) (e .id-resolved)) o);
       one-type = few-types _ _ (e .types) (few-values (rdf "type") (attrs c as′) (once-among bs as′ fine (names-once bs as′ (d .joined-names)))) (e .types-resolved);
     }
@@ -239,7 +250,7 @@ module _ (c : Context) (n : Bytes) (as′ : List Attribute) (u : Used) (e : Star
     bindings = declared as′;
     names = expandedNames (declared as′ ++ c .bindings) as′;
     ownBase = written (ascii "xml:base") as′;
-    ownTag = lowercased (written (ascii "xml:lang") as′);
+    ownTag = ownOf (written (ascii "xml:lang") as′);
     language = inside as′ c .language;
     nodeID = nodeID c as′;
     parseType = value (rdf "parseType") (attrs c as′);
@@ -253,7 +264,7 @@ module _ (c : Context) (n : Bytes) (as′ : List Attribute) (u : Used) (e : Star
 
   -- the new element, of kind k
   unfoldable pub frame : Kind → Frame
-  frame k = record { name = n; bindings = declared as′; ownBase = written (ascii "xml:base") as′; ownTag = lowercased (written (ascii "xml:lang") as′); kind = k; part = ordinary }
+  frame k = record { name = n; bindings = declared as′; ownBase = written (ascii "xml:base") as′; ownTag = ownOf (written (ascii "xml:lang") as′); kind = k; part = ordinary }
 
   -- its rdf:ID, entered
   pub ids-entered : enter (e .id) (map iri-of (u .ids)) ≡ map iri-of (entered (identifier c as′) (u .ids))
@@ -334,4 +345,4 @@ module _ (c : Context) (n : Bytes) (as′ : List Attribute) (u : Used) (e : Star
         let qu : c .base-uri ≡ baseInForce b fs = ap (λ (x : Context). x .base-uri) q in
         let ql : c .language ≡ languageInForce fs = ap (λ (x : Context). x .language) q in
         same-context (inside as′ c) (inside-bindings ∙ ap (λ (x : List Binding). declared as′ ++ x) qb)
-        (r .base-same ∙ ap (orElse (written (ascii "xml:base") as′)) qu) (r .language-same ∙ ap (orElse (lowercased (written (ascii "xml:lang") as′))) ql)
+        (r .base-same ∙ ap (orElse (written (ascii "xml:base") as′)) qu) (r .language-same ∙ ap (inForce (ownOf (written (ascii "xml:lang") as′))) ql)

@@ -10,6 +10,7 @@ use Rattle.spec.specs.Pyx.{Attribute, attribute, Event, opening, closing, text}
 use Rattle.spec.specs.Namespaces.{Binding, declared, nameOf, allLegal, isKnown, knownAttribute, repeatsWritten}
 use Rattle.spec.specs.Rdf.{rdf}
 use Rattle.spec.specs.NTriples.{Triple, typed, coded}
+use Rattle.spec.specs.XmlLang.{unsaid}
 use Rattle.spec.specs.Document.{Value, literal, Property, Kind, propertyElement, xmlElement, ordinary, Frame, Doc, withFrames, withKind, isXmlElement, onValue, changeValue, inScope, languageInForce, Place, xml, placeIn, inKind, inValue}
 use Rattle.spec.specs.Productions.{statement}
 use Rattle.spec.specs.XmlLiteral.{startTagXml, endTagXml, textByte, textXml, takesXml, addXml}
@@ -56,7 +57,7 @@ AllXml xs = All (λ f. f .kind ≡ xmlElement) xs
 
 -- the element in Literal content that a start tag opens
 abbrev copy : Bytes → List Attribute → Frame
-copy n as′ = record { name = n; bindings = declared as′; ownBase = none; ownTag = none; kind = xmlElement; part = ordinary }
+copy n as′ = record { name = n; bindings = declared as′; ownBase = none; ownTag = unsaid; kind = xmlElement; part = ordinary }
 
 -- g is the Literal property, with the XML text y so far
 module _ (b : Option Bytes) (p : Property) (g : Frame) (fs : List Frame) (u : Used) where

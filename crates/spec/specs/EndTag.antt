@@ -11,6 +11,7 @@ use Rattle.spec.specs.declared.Refusal.the-variants.{NotWellFormed, Empt
 use Rattle.spec.specs.Limits.{mostLabels}
 use Rattle.spec.specs.Rdf.{rdf}
 use Rattle.spec.specs.NTriples.{Subject, named, blank, Term, node, typed, Triple, triple, label}
+use Rattle.spec.specs.XmlLang.{Language}
 use Rattle.spec.specs.Document.{Object, noObject, nodeObject, textObject, Value, default, collection, literal, other, Property, Kind, rdfRDF, wrapper, nodeElement, propertyElement, xmlElement, Frame, Doc, withFrames, withLabels, languageInForce, changeValue}
 use Rattle.spec.specs.Productions.{literalOf, statement}
 use Rattle.spec.specs.XmlLiteral.{endTagXml, addXml}
@@ -25,7 +26,7 @@ takesNode s (literal x) = literal x
 takesNode s other = other
 
 -- none means the empty literal
-unfoldable pub objectTerm : Option Bytes → Option Bytes → Object → Term
+unfoldable pub objectTerm : Option Bytes → Language → Object → Term
 objectTerm d l noObject = literalOf d l []
 objectTerm d l (nodeObject s) = node s
 objectTerm d l (textObject t) = literalOf d l t
@@ -43,7 +44,7 @@ headCell n rest [] = rest
 headCell n rest (c ∷ cs) = headCell (suc n) (blank (label (suc n))) cs
 
 -- statements are written at the end tag; d is the document without the element, l the language in force in it
-unfoldable pub endValue : Property → Value → Option Bytes → Doc → Answer Step
+unfoldable pub endValue : Property → Value → Language → Doc → Answer Step
 endValue p (default t o) l d = good (statement p (objectTerm t l o), d)
 endValue p (collection cs) l d = do
   let n = d .labels
@@ -56,7 +57,7 @@ endValue p (literal x) l d = do
 endValue p other l d = good ([], d)
 
 -- by the kind of the element n that closes
-unfoldable pub endKind : Kind → Bytes → Option Bytes → Doc → Answer Step
+unfoldable pub endKind : Kind → Bytes → Language → Doc → Answer Step
 endKind rdfRDF n l d = good ([], d)
 endKind (wrapper had) n l d = (require had or ProfileBroken) >> good ([], d)
 endKind (nodeElement s li) n l d = good ([], withFrames (changeValue (takesNode s) (d .frames)) d)

@@ -18,6 +18,7 @@ pub mod Refusals
 pub mod Calls
 pub mod Order
 pub mod Xmp
+pub mod XmlLang
 pub mod Rfc3986
 pub mod Reading
 

@@ -12,6 +12,7 @@ use Rattle.spec.specs.Numbers.{Answer, refuse, good}
 use Rattle.spec.specs.Pyx.{Attribute, Event, opening, closing, text, instruction}
 use Rattle.spec.specs.Namespaces.{Binding, declared, expandElement}
 use Rattle.spec.specs.NTriples.{Subject, Term, node, Triple}
+use Rattle.spec.specs.XmlLang.{Own}
 use Rattle.spec.specs.Document.{Value, other, Property, Kind, rdfRDF, wrapper, nodeElement, propertyElement, xmlElement, Frame, Doc, inScope}
 use Rattle.spec.specs.Productions.{statement, isLi}
 use Rattle.spec.specs.RdfXml.{next}
@@ -26,7 +27,7 @@ innermost (f ∷ fs) = some (f .kind)
 
 -- what a start tag says that holds as long as its element is open: name, bindings, own xml:base and xml:lang
 abbrev pub Said : Type 0
-Said = Bytes × List Binding × Option Bytes × Option Bytes
+Said = Bytes × List Binding × Option Bytes × Own
 
 abbrev pub saidOf : Frame → Said
 saidOf f = (f .name, f .bindings, f .ownBase, f .ownTag)

@@ -3,22 +3,22 @@ use mathlib.Core.Path.{_≡_}
 use mathlib.Core.Bool.{Bool, true, false}
 use mathlib.Core.Option.{Option, none, some}
 use mathlib.Core.List.{List, [], _∷_}
-use Rattle.spec.specs.Bytes.{Bytes, ascii, if_then_else_, same, orElse}
+use Rattle.spec.specs.Bytes.{Bytes, ascii, if_then_else_, same}
 use Rattle.spec.specs.Pyx.{Attribute, attribute, Event, opening, closing, text, instruction}
 use Rattle.spec.specs.NTriples.{Term, node, plain, tagged, typed, Triple, triple}
 use Rattle.spec.specs.Document.{Frame, Doc, Place, outside, nodes, nodesOrText, xml, properties, languageInForce}
 use Rattle.spec.specs.Xmp.{startsWrapper}
-use Rattle.spec.specs.StartTag.{lowercased}
+use Rattle.spec.specs.XmlLang.{ownOf, Language, inForce, spoken}
 
--- is it a literal without datatype, then it has this language, or none where there is none
-abbrev pub InLanguage : Option Bytes → Term → Type 0
+-- is it a literal without datatype, then it has the tag of this language, or none where there is none
+abbrev pub InLanguage : Language → Term → Type 0
 InLanguage l (node s) = Unit {0}
-InLanguage l (plain v) = l ≡ none
-InLanguage l (tagged v m) = l ≡ some m
+InLanguage l (plain v) = spoken l ≡ none
+InLanguage l (tagged v m) = spoken l ≡ some m
 InLanguage l (typed v t) = Unit {0}
 
 -- of every line
-abbrev pub AllInLanguage : Option Bytes → List Triple → Type 0
+abbrev pub AllInLanguage : Language → List Triple → Type 0
 AllInLanguage l [] = Unit {0}
 AllInLanguage l (triple s p o ∷ ts) = InLanguage l o × AllInLanguage l ts
 
@@ -42,7 +42,8 @@ isMute nodesOrText n as′ d = false
 isMute (properties s li) n as′ d = false
 isMute xml n as′ d = true
 
--- the language in force behind a start tag, where xml:lang means nothing or not: its own xml:lang, lowercased, or else the one around
-abbrev pub languageBehind : Bool → List Attribute → List Frame → Option Bytes
+-- the language in force behind a start tag, where xml:lang means nothing or not: its own xml:lang, lowercased, none where it clears,
+-- or else the one around
+abbrev pub languageBehind : Bool → List Attribute → List Frame → Language
 languageBehind true as′ fs = languageInForce fs
-languageBehind false as′ fs = orElse (lowercased (valueNamed (ascii "xml:lang") as′)) (languageInForce fs)
+languageBehind false as′ fs = inForce (ownOf (valueNamed (ascii "xml:lang") as′)) (languageInForce fs)

@@ -11,6 +11,8 @@ pub mod Rfc3986
 pub mod Rfc3987
 pub mod Rfc5646
 pub mod XmlNames
+-- ---- the language that xml:lang says
+pub mod XmlLang
 -- ---- events
 pub mod Pyx
 pub mod PyxCut

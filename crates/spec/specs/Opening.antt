@@ -14,6 +14,7 @@ use Rattle.spec.specs.Pyx as P
 use Rattle.spec.specs.Namespaces.{declared, allLegal, isKnown, knownAttribute, repeatsExpanded, repeatsWritten}
 use Rattle.spec.specs.NTriples.{Triple}
 use Rattle.spec.specs.Document.{Kind, rdfRDF, wrapper, nodeElement, propertyElement, xmlElement, Part, ordinary, Frame, Doc, withFrames, withKind, withPart, inScope, Place, outside, nodes, nodesOrText, xml, properties, placeIn}
+use Rattle.spec.specs.XmlLang.{unsaid}
 use Rattle.spec.specs.StartTag.{Tag, readTag, isShort}
 use Rattle.spec.specs.declared.Mode.{Mode}
 use Rattle.spec.specs.Xmp.{startsWrapper, openWrapper, keeps, newPart, noted}
@@ -42,7 +43,7 @@ copyElement n as′ d = do
   let scope = declared as′ ++ inScope (d .frames)
   require isKnown scope n or NoNamespace
   each (knownAttribute scope) as′
-  let f : Frame = record { name = n; bindings = declared as′; ownBase = none; ownTag = none; kind = xmlElement; part = ordinary }
+  let f : Frame = record { name = n; bindings = declared as′; ownBase = none; ownTag = unsaid; kind = xmlElement; part = ordinary }
   let d′ = addXml (startTagXml n as′) d
   good ([], withFrames (f ∷ d′ .frames) d′)
 

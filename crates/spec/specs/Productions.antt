@@ -13,19 +13,20 @@ use Rattle.spec.specs.Rdf.{rdf, mayBeNode, mayBeProperty}
 use Rattle.spec.specs.NTriples.{Subject, named, blank, Term, node, plain, tagged, typed, Triple, triple, label, decimal}
 use Rattle.spec.specs.NTriples as N
 use Rattle.spec.specs.Document.{noObject, nodeObject, Value, default, collection, literal, other, Property, Kind, rdfRDF, nodeElement, propertyElement}
+use Rattle.spec.specs.XmlLang.{Language, noLanguage, language, written}
 use Rattle.spec.specs.StartTag.{Tag}
 use Rattle.spec.specs.StartTag as T
 
 -- ---- lines
 
 -- datatype beats language
-unfoldable pub literalOf : Option Bytes → Option Bytes → Bytes → Term
+unfoldable pub literalOf : Option Bytes → Language → Bytes → Term
 literalOf (some d) l v = typed v d
-literalOf none (some l) v = tagged v l
-literalOf none none v = plain v
+literalOf none (language t) v = tagged v (written t)
+literalOf none noLanguage v = plain v
 
 -- property attributes in order; they take the language in force
-unfoldable pub attributeLines : Subject → Option Bytes → List (Bytes × Bytes) → List Triple
+unfoldable pub attributeLines : Subject → Language → List (Bytes × Bytes) → List Triple
 attributeLines s l [] = []
 attributeLines s l (a ∷ as′) = triple s (a .0) (literalOf none l (a .1)) ∷ attributeLines s l as′
 

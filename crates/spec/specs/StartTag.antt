@@ -1,7 +1,7 @@
 -- Document 01, "Order in step": a start tag outside Literal content, read; refusals 8 to 14 in their order.
 use mathlib.Core.Bool.{Bool, true, false, _&&_, _||_, not}
 use mathlib.Core.Option.{Option, none, some}
-use mathlib.Core.List.{List, [], _∷_, _++_, map}
+use mathlib.Core.List.{List, [], _∷_, _++_}
 use Prim.Native.Nat.{ℕ}
 use Prim.Native.String.{String}
 use lib.Dec.{eqb, leb}
@@ -12,14 +12,13 @@ use Rattle.spec.specs.Numbers.{Answer, refuse, good}
 use Rattle.spec.specs.declared.Refusal.the-variants.{BadIri, BadLabel, BadLanguage, NoNamespace, NotNcName, RepeatedId, Reserved}
 use Rattle.spec.specs.Limits.{mostNameBytes}
 use Rattle.spec.specs.Limits as M
-use Rattle.spec.specs.Abnf.{lower}
 use Rattle.spec.specs.XmlNames.{isNCName, prefixOf}
 use Rattle.spec.specs.Rfc3986.{resolve, resolves}
 use Rattle.spec.specs.Rfc3986 as R
 use Rattle.spec.specs.Rfc3987.{isIri, isIriReference}
 use Rattle.spec.specs.Rfc3987 as I
-use Rattle.spec.specs.Rfc5646.{isLanguageTag}
-use Rattle.spec.specs.Rfc5646 as L
+use Rattle.spec.specs.XmlLang.{verdict, isAllowed, Own, ownOf, Language, inForce}
+use Rattle.spec.specs.XmlLang as L
 use Rattle.spec.specs.Pyx.{Attribute, attribute}
 use Rattle.spec.specs.Namespaces.{Binding, declared, isDeclaration, expandAttribute, expandElement, expandedNames}
 use Rattle.spec.specs.Namespaces as N
@@ -84,7 +83,7 @@ endsInStop (c ∷ d ∷ s) = endsInStop (d ∷ s)
 -- is a value good in its role?
 unfoldable pub judge : Role → Bytes → Answer (Unit {0})
 judge nothing v = good tt
-judge xml-lang v = require isLanguageTag v or BadLanguage
+judge xml-lang v = require isAllowed (verdict v) or BadLanguage
 judge xml-base v = require isIri v or BadIri
 judge rdf-ID v = require isNCName v or NotNcName
 judge rdf-bagID v = require isNCName v or NotNcName
@@ -126,11 +125,6 @@ unfoldable pub propertyAttributes : List Meaning → List (Bytes × Bytes)
 propertyAttributes [] = []
 propertyAttributes (means q i v ∷ ms) = if sameRole property q then ((i, v) ∷ propertyAttributes ms) else propertyAttributes ms
 
--- xml:lang is lowercased
-unfoldable pub lowercased : Option Bytes → Option Bytes
-lowercased none = none
-lowercased (some v) = some (map lower v)
-
 -- 11: a reference against a base, or without one an IRI; none stays none
 unfoldable pub resolved : Option Bytes → Option Bytes → Answer (Option Bytes)
 resolved b none = good none
@@ -156,8 +150,8 @@ pub record Tag : Type 0 where
   pub bindings : List Binding
   pub names : List Bytes
   pub ownBase : Option Bytes
-  pub ownTag : Option Bytes
-  pub language : Option Bytes
+  pub ownTag : Own
+  pub language : Language
   pub nodeID : Option Bytes
   pub parseType : Option Bytes
   pub attributes : List (Bytes × Bytes)
@@ -175,7 +169,7 @@ readTag n as′ d = do
   i ← expandElement scope n
   ms ← each (meaning scope) as′
   let base = orElse (first xml-base ms) (baseInForce (d .startBase) (d .frames))
-  let tag = lowercased (first xml-lang ms)
+  let tag = ownOf (first xml-lang ms)
   id′ ← resolved base (withHash (first rdf-ID ms))
   require isUnused id′ (d .ids) or RepeatedId
   about′ ← resolved base (first rdf-about ms)
@@ -189,7 +183,7 @@ readTag n as′ d = do
     names = expandedNames scope as′;
     ownBase = first xml-base ms;
     ownTag = tag;
-    language = orElse tag (languageInForce (d .frames));
+    language = inForce tag (languageInForce (d .frames));
     nodeID = first rdf-nodeID ms;
     parseType = first rdf-parseType ms;
     attributes = propertyAttributes ms;
@@ -211,5 +205,5 @@ isShort t =
     allShort (t .iri ∷ t .names ++ present (t .ownBase ∷ t .id ∷ t .about ∷ t .resource ∷ t .datatype ∷ t .type ∷ []))
 
 unfoldable pub all : Unit {0}
-unfolding B.all M.all R.all I.all L.all N.all D.all F.all roleNumber sameRole rdfRoles roleAmong roleOf isGenerated endsInStop judge known meaning first propertyAttributes lowercased resolved withHash isUnused readTag allShort isShort
+unfolding B.all M.all R.all I.all L.all N.all D.all F.all roleNumber sameRole rdfRoles roleAmong roleOf isGenerated endsInStop judge known meaning first propertyAttributes resolved withHash isUnused readTag allShort isShort
 all = tt

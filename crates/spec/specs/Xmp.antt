@@ -11,6 +11,7 @@ use Rattle.spec.specs.Namespaces.{declared, expandElement, knownAttribut
 use Rattle.spec.specs.NTriples.{Triple}
 use Rattle.spec.specs.Rdf.{rdf}
 use Rattle.spec.specs.Document.{Kind, rdfRDF, wrapper, nodeElement, propertyElement, xmlElement, Part, ordinary, topLevel, alternatives, Frame, Doc, Place, outside, nodes, properties, nodesOrText, xml, inScope}
+use Rattle.spec.specs.XmlLang.{unsaid, carries}
 use Rattle.spec.specs.StartTag.{Tag, allShort}
 
 -- ---- "the x:xmpmeta wrapper (namespace adobe:ns:meta/)"
@@ -34,7 +35,7 @@ unfoldable pub wrapped : Bytes → List Attribute → Doc → Doc
 wrapped n as′ d = record {
   mode = d .mode;
   startBase = d .startBase;
-  frames = record { name = n; bindings = declared as′; ownBase = none; ownTag = none; kind = wrapper false; part = ordinary } ∷ d .frames;
+  frames = record { name = n; bindings = declared as′; ownBase = none; ownTag = unsaid; kind = wrapper false; part = ordinary } ∷ d .frames;
   rooted = true;
   labels = d .labels;
   ids = d .ids;
@@ -76,7 +77,7 @@ hasNoneOut t = not (isSome (t .id)) && (not (isSome (t .nodeID)) && (not (isSome
 unfoldable pub carriesToo : Option Bool → Tag → Bool
 carriesToo none t = true
 carriesToo (some false) t = true
-carriesToo (some true) t = not (same (t .iri) (rdf "li")) || isSome (t .ownTag)
+carriesToo (some true) t = not (same (t .iri) (rdf "li")) || carries (t .ownTag)
 
 -- by what the element around is in the packet
 unfoldable pub keepsPart : Part → Tag → Bool
@@ -117,7 +118,7 @@ unfoldable pub withChild : Tag → Part → Part
 withChild t ordinary = ordinary
 withChild t (topLevel none) = topLevel (t .about)
 withChild t (topLevel (some a)) = topLevel (some a)
-withChild t (alternatives none) = if same (t .iri) (rdf "li") then alternatives (some (isSome (t .ownTag))) else alternatives none
+withChild t (alternatives none) = if same (t .iri) (rdf "li") then alternatives (some (carries (t .ownTag))) else alternatives none
 withChild t (alternatives (some b)) = alternatives (some b)
 
 unfoldable pub noted : Bool → Tag → Part → Part

@@ -1,5 +1,5 @@
 // Documents 01 and 02 as definitions (specs/), with a few laws of bytes and Booleans (proofs/); here, what code and definitions share:
-// the refusals, and what is chosen of a document at its start.
+// the refusals, what a language tag can be, and what is chosen of a document at its start.
 ghost use mathlib.Core.Path.{_≡_};
 ghost use Rattle.spec.specs.Modes.{baseMode, xmpMode};
 
@@ -24,6 +24,13 @@ pub enum Refusal {
     EmptyLiteral,
     LabelsSpent,
     ProfileBroken,
+}
+
+// What a value of xml:lang is: a language tag, empty, by which no language is in force, or neither. Document 02, request 2.
+pub enum Verdict {
+    Good,
+    Clears,
+    Bad,
 }
 
 // What is chosen of a document at its start. One field for each choice; they do not depend on each other.

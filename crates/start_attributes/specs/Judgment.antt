@@ -3,12 +3,12 @@ use mathlib.Core.Path.{_≡_, refl}
 use mathlib.Core.Bool.{Bool, true, false}
 use Rattle.spec.specs.Bytes.{Bytes, _>>_, require_or_}
 use Rattle.spec.specs.Numbers.{Answer, refuse, good}
-use Rattle.spec.specs.declared.Refusal.the-variants.{NotNcName, BadLabel}
-use Rattle.spec.specs.StartTag.{rdf-nodeID, endsInStop, isGenerated, judge}
+use Rattle.spec.specs.declared.Refusal.the-variants.{NotNcName, BadLabel, BadLanguage}
+use Rattle.spec.specs.StartTag.{xml-lang, rdf-nodeID, endsInStop, isGenerated, judge}
 use Rattle.spec.specs.XmlNames.{isNCName}
-use Rattle.langtag.specs.declared.Tag.{Tag}
-use Rattle.langtag.specs.declared.Tag.the-variants.{Good as WellFormed, Bad}
-use Rattle.langtag.specs.Verdict.{tagOf}
+use Rattle.spec.specs.declared.Verdict.{Verdict}
+use Rattle.spec.specs.declared.Verdict.the-variants as verdict-is
+use Rattle.spec.specs.XmlLang.{verdict, isAllowed}
 use Rattle.start_attributes.specs.declared.roles.Judgment.{Judgment}
 use Rattle.start_attributes.specs.declared.roles.Judgment.the-variants.{Good, Stop}
 
@@ -37,14 +37,17 @@ module _ (v : Bytes) where
     unfolding judge _>>_ require_or_
     is-label h g = rw (n, h, g)
 
--- ---- the arms of `is_language_tag`
+-- ---- the arms of `judge_language`
 
-pub well-formed : (b : Bool) {t : Tag} → t ≡ tagOf b → t ≡ WellFormed → true ≡ b
-unfolding tagOf
-well-formed true p q = refl
-well-formed false p q = cc
+module _ (v : Bytes) {t : Verdict} (e : t ≡ verdict v) where
+  pub tag-good : t ≡ verdict-is.Good → good tt ≡ judge xml-lang v
+  unfolding judge require_or_ isAllowed
+  tag-good h = rw (← e, h)
 
-pub ill-formed : (b : Bool) {t : Tag} → t ≡ tagOf b → t ≡ Bad → false ≡ b
-unfolding tagOf
-ill-formed true p q = cc
-ill-formed false p q = refl
+  pub tag-clears : t ≡ verdict-is.Clears → good tt ≡ judge xml-lang v
+  unfolding judge require_or_ isAllowed
+  tag-clears h = rw (← e, h)
+
+  pub tag-bad : t ≡ verdict-is.Bad → refuse BadLanguage ≡ judge xml-lang v
+  unfolding judge require_or_ isAllowed
+  tag-bad h = rw (← e, h)

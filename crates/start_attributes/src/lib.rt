@@ -60,7 +60,7 @@ pub fn first_in(roles: &[u8], k: usize, role: Role) -> usize
     ensures { λ r. ⌜ r ≡ firstIn (now (roles .entry)) k (roleIs role) ⌝ }
 {
     let word = role.word();
-    let within = start_names::piece(roles, 0, k);
+    let within = copy::piece(roles, 0, k);
     let mut i: usize = 0;
     while i < within.len() {
         if within[i] == word {
@@ -121,8 +121,8 @@ fn role_at(scratch: &[u8], spans: &[u32], work: &[u8], class: Class, j: usize) -
         Class::Unknown => Role::Nothing,
         Class::Unprefixed => crate::roles::role_of(name, name, b""),
         Class::Xml => crate::roles::role_of(name, &XML, local),
-        Class::Own(at, n) => crate::roles::role_of(name, start_names::piece(scratch, at, n), local),
-        Class::Held(at, n) => crate::roles::role_of(name, start_names::piece(work, at, n), local),
+        Class::Own(at, n) => crate::roles::role_of(name, copy::piece(scratch, at, n), local),
+        Class::Held(at, n) => crate::roles::role_of(name, copy::piece(work, at, n), local),
     }
 }
 

@@ -2,13 +2,12 @@
 ghost use mathlib.Core.Path.{_≡_};
 ghost use mathlib.Core.List.{_++_};
 ghost use Rattle.spec.specs.Bytes.{require_or_};
-ghost use Rattle.spec.specs.Rfc5646.{isLanguageTag};
-ghost use Rattle.spec.specs.StartTag.{roleNumber, roleOf, judge, rdf-nodeID};
+ghost use Rattle.spec.specs.StartTag.{roleNumber, roleOf, judge, xml-lang, rdf-nodeID};
 ghost use Rattle.start_attributes.specs.Role.{roleIs, attributeRole};
 ghost use Rattle.start_attributes.specs.Judgment.{said};
 use crate::vocabulary::RdfTerm;
-use langtag::Tag;
 use spec::Refusal;
+use spec::Verdict;
 
 // What an attribute is there for, by its name.
 pub enum Role {
@@ -78,7 +77,7 @@ pub fn judge(role: Role, value: &[u8]) -> Judgment
 {
     match role {
         Role::Nothing => Judgment::Good,
-        Role::XmlLang => require(is_language_tag(value), Refusal::BadLanguage),
+        Role::XmlLang => judge_language(value),
         Role::XmlBase => require(iri::is_iri(value), Refusal::BadIri),
         Role::Id => require(utils::is_nc_name(value), Refusal::NotNcName),
         Role::BagId => require(utils::is_nc_name(value), Refusal::NotNcName),
@@ -131,12 +130,14 @@ fn judge_label(value: &[u8]) -> Judgment
     Judgment::Good
 }
 
-fn is_language_tag(value: &[u8]) -> bool
-    ensures { λ r. ⌜ r ≡ isLanguageTag (now (value .entry)) ⌝ }
+// 10 of xml:lang: a tag, and the empty value, by which no language is in force, are good.
+fn judge_language(value: &[u8]) -> Judgment
+    ensures { λ r. ⌜ said r tt ≡ judge xml-lang (now (value .entry)) ⌝ }
 {
     match langtag::parse(value) {
-        Tag::Good => true,
-        Tag::Bad => false,
+        Verdict::Good => Judgment::Good,
+        Verdict::Clears => Judgment::Good,
+        Verdict::Bad => Judgment::Stop(Refusal::BadLanguage),
     }
 }
 

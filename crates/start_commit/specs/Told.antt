@@ -8,7 +8,7 @@ use native.Mathlib.Omega.{arith}
 use lib.Dec.{eqb}
 use lib.ListN.{length}
 use borrow.Author.Tests.{eq-eqb, ne-eqb}
-use Rattle.spec.specs.Bytes.{Bytes, orElse}
+use Rattle.spec.specs.Bytes.{Bytes}
 use Rattle.spec.specs.NTriples.{Subject, named, blank, node, Triple, write}
 use Rattle.spec.specs.Document.{Doc}
 use Rattle.spec.specs.Productions.{attributeLines, typeLine, statement}
@@ -19,10 +19,12 @@ use Rattle.state_words.specs.Words.{pick, load-frame, noFrame}
 use Rattle.state.specs.declared.Registers.{Registers}
 use Rattle.state.specs.Meaning.{at, has, span, nodeOf, subjectOf, subjectBelow, elementsOf}
 use Rattle.state.specs.Valid.{Valid}
-use Rattle.state_stack.specs.declared.Found.{Found}
+use Rattle.spec.specs.XmlLang.{Language}
+use Rattle.state.specs.Language.{languageOf, tagInForce, in-force-by}
+use Rattle.state.specs.declared.language.Language as force
 use Rattle.state_stack.specs.Calls.{topFrame}
 use Rattle.state_inner.specs.Calls.{languageIn}
-use Rattle.state_inner.specs.Laws.{found, language-read}
+use Rattle.state_inner.specs.Laws.{language-read}
 use Rattle.writer.specs.Put.{Put, put-as, put-none}
 use Rattle.ntriples.specs.declared.Node.{Node}
 use Rattle.ntriples.specs.declared.Term.{Term}
@@ -41,26 +43,26 @@ use Rattle.start_plan.specs.Goes.{told, mainOf, objectOf, propertyOf, linesBy}
 -- ---- which lines
 
 -- the language in force: its own, or else that around it
-abbrev pub languageBy : Start → Found → List ℕ → List ℕ → List ℕ → Option Bytes
-languageBy x l w e a = orElse (maybe (x .plan .parts .tag) e a) (found l w)
+abbrev pub languageBy : Start → force.Language → List ℕ → List ℕ → Language
+languageBy x l w a = languageOf (tagInForce (x .plan .parts .tag) l w a)
 
 -- of its node, of its object; of its node as the object of the statement about s
-abbrev pub nodeLines : Start → Found → List ℕ → List ℕ → List ℕ → ℕ → List ℕ → List ℕ → List ℕ → List Triple
+abbrev pub nodeLines : Start → force.Language → List ℕ → List ℕ → List ℕ → ℕ → List ℕ → List ℕ → List ℕ → List Triple
 nodeLines x l w e v k a cs rs =
-    (attributeLines (mainOf x e a) (languageBy x l w e a) (propertiesFrom e v w cs rs 0 k) ++ typeLine (mainOf x e a) (maybe (x .kind) e a))
+    (attributeLines (mainOf x e a) (languageBy x l w a) (propertiesFrom e v w cs rs 0 k) ++ typeLine (mainOf x e a) (maybe (x .kind) e a))
     ++ typeLine (mainOf x e a) (given (x .named) (textOf (x .iri) e a))
 
-abbrev pub objectLines : Start → Found → List ℕ → List ℕ → List ℕ → ℕ → List ℕ → List ℕ → List ℕ → List Triple
+abbrev pub objectLines : Start → force.Language → List ℕ → List ℕ → List ℕ → ℕ → List ℕ → List ℕ → List ℕ → List Triple
 objectLines x l w e v k a cs rs =
-    attributeLines (objectOf x e a) (languageBy x l w e a) (propertiesFrom e v w cs rs 0 k) ++ typeLine (objectOf x e a) (maybe (x .kind) e a)
+    attributeLines (objectOf x e a) (languageBy x l w a) (propertiesFrom e v w cs rs 0 k) ++ typeLine (objectOf x e a) (maybe (x .kind) e a)
 
 abbrev pub resourceLines : Start → Subject → List ℕ → List ℕ → List Triple
 resourceLines x s e a = statement (propertyOf x e a s) (node (mainOf x e a))
 
 -- by the plan, in the element of frame f, where language l is in force
-unfoldable pub linesOf : Start → Frame → Found → List ℕ → List ℕ → List ℕ → ℕ → List ℕ → List ℕ → List ℕ → List Triple
+unfoldable pub linesOf : Start → Frame → force.Language → List ℕ → List ℕ → List ℕ → ℕ → List ℕ → List ℕ → List ℕ → List Triple
 linesOf x f l w e v k a cs rs =
-    told (x .plan .lines) (mainOf x e a) (objectOf x e a) (languageBy x l w e a) (propertiesFrom e v w cs rs 0 k) (maybe (x .kind) e a)
+    told (x .plan .lines) (mainOf x e a) (objectOf x e a) (languageBy x l w a) (propertiesFrom e v w cs rs 0 k) (maybe (x .kind) e a)
     (given (x .named) (textOf (x .iri) e a)) (propertyOf x e a (subjectOf f w))
 
 -- ---- nodes: a label where b, else an IRI
@@ -87,48 +89,22 @@ given-text Missing e a = refl
 given-text (Own i n) e a = refl
 given-text (Made i n) e a = refl
 
--- ---- the language in force
-
--- s is what was lent of it
-pub record LanguageFor (t : Source) (l : Found) (w e a : List ℕ) (s : Bytes) : Type 0 where
-  pub says : given (isThere t || l .there) s ≡ orElse (maybe t e a) (found l w)
-
-module _ {t : Source} {s : Bytes} (l : Found) (w e a : List ℕ) where
-  pub language-around : t ≡ Missing → s ≡ part w (l .at) (l .len) → LanguageFor t l w e a s
-  unfolding given maybe orElse found
-  language-around h p = record { says = rw (h, p) (go (l .there)) }
-    where
-      go : (b : Bool) → given b (part w (l .at) (l .len)) ≡ pick b (some (part w (l .at) (l .len))) none
-      go true = refl
-      go false = refl
-
-  pub language-own : {i n : ℕ} → t ≡ Own i n → s ≡ part e i n → LanguageFor t l w e a s
-  unfolding given maybe orElse
-  language-own h p = record { says = rw (h, p) }
-
-  pub language-made : {i n : ℕ} → t ≡ Made i n → s ≡ part a i n → LanguageFor t l w e a s
-  unfolding given maybe orElse
-  language-made h p = record { says = rw (h, p) }
-
 -- ---- what the calls write, from what they were lent
-
-language-is : {t : Source} {l : Found} {w e a : List ℕ} {y : Bytes} {g : Bool} → LanguageFor t l w e a y → g ≡ (isThere t || l .there) → given g y ≡ orElse (maybe t e a) (found l w)
-language-is j i = rw i (j .says)
 
 part-is : (s : Source) (e a : List ℕ) {z : Bytes} {h : Bool} → h ≡ isThere s → z ≡ textOf s e a → given h z ≡ maybe s e a
 part-is s e a o q = rw (o, q) (given-text s e a)
 
-module _ {on : Bool} {d f : List ℕ} {from to : ℕ} (x : Start) (l : Found) (w e v : List ℕ) (k : ℕ) (a cs rs : List ℕ) {g : Bool} {y z : Bytes} {h : Bool} {n : Node} {s : Bytes}
-    (i : g ≡ (isThere (x .plan .parts .tag) || l .there)) (j : LanguageFor (x .plan .parts .tag) l w e a y) (o : h ≡ isThere (x .kind)) (q : z ≡ textOf (x .kind) e a) where
+module _ {on : Bool} {d f : List ℕ} {from to : ℕ} (x : Start) (l : force.Language) (w e v : List ℕ) (k : ℕ) (a cs rs : List ℕ) {y z : Bytes} {h : Bool} {n : Node} {s : Bytes}
+    (j : y ≡ tagInForce (x .plan .parts .tag) l w a) (o : h ≡ isThere (x .kind)) (q : z ≡ textOf (x .kind) e a) where
   pub node-told : {u : Bytes} → n ≡ T.nodeFor (x .plan .parts .blank) → s ≡ textOf (x .plan .parts .main) e a → u ≡ textOf (x .iri) e a
-      → Put on d f from to (write ((attributeLines (T.subjectOf n s) (given g y) (propertiesFrom e v w cs rs 0 k) ++ typeLine (T.subjectOf n s) (given h z)) ++ typeLine (T.subjectOf n s) (given (x .named) u)))
+      → Put on d f from to (write ((attributeLines (T.subjectOf n s) (languageOf y) (propertiesFrom e v w cs rs 0 k) ++ typeLine (T.subjectOf n s) (given h z)) ++ typeLine (T.subjectOf n s) (given (x .named) u)))
       → Put on d f from to (write (nodeLines x l w e v k a cs rs))
-  node-told b c m p = put-as p (rw (node-is (x .plan .parts .blank) b s, c, m, language-is j i, part-is (x .kind) e a o q))
+  node-told b c m p = put-as p (rw (node-is (x .plan .parts .blank) b s, c, m, j, part-is (x .kind) e a o q))
 
   pub object-told : n ≡ T.nodeFor (eqb (x .plan .parts .what) 2) → s ≡ textOf (x .plan .parts .object) e a
-      → Put on d f from to (write (attributeLines (T.subjectOf n s) (given g y) (propertiesFrom e v w cs rs 0 k) ++ typeLine (T.subjectOf n s) (given h z)))
+      → Put on d f from to (write (attributeLines (T.subjectOf n s) (languageOf y) (propertiesFrom e v w cs rs 0 k) ++ typeLine (T.subjectOf n s) (given h z)))
       → Put on d f from to (write (objectLines x l w e v k a cs rs))
-  object-told b c p = put-as p (rw (node-is (eqb (x .plan .parts .what) 2) b s, c, language-is j i, part-is (x .kind) e a o q))
+  object-told b c p = put-as p (rw (node-is (eqb (x .plan .parts .what) 2) b s, c, j, part-is (x .kind) e a o q))
 
 -- the bytes from a to b, as they are lent
 pub span-lent : {r : List ℕ} {from n : ℕ} (w : List ℕ) (a b : ℕ) → r ≡ part w from n → from ≡ a → n ≡ b - a → r ≡ span w a b
@@ -147,7 +123,7 @@ resource-told x r w e a {s = s} {o = o} {own = own} b c j q u v t m y =
 
 -- ---- by the plan
 
-module _ (x : Start) (r : Frame) (l : Found) (w e v : List ℕ) (k : ℕ) (a cs rs : List ℕ) where
+module _ (x : Start) (r : Frame) (l : force.Language) (w e v : List ℕ) (k : ℕ) (a cs rs : List ℕ) where
   pub no-lines : x .plan .lines ≡ Nothing → write (linesOf x r l w e v k a cs rs) ≡ []
   unfolding linesOf told write
   no-lines h = rw h
@@ -188,4 +164,4 @@ pub lines-are : (x : Start) (d : Doc) {r : Registers} {fs bs is w : List ℕ} (e
 unfolding linesOf
 lines-are x d {r = r} {fs} {w = w} e v k a cs rs y f =
     let deep : r .counts .depth * FRAME ≤ length fs = omega (arith, y .frameWords, y .deep) in
-    rw (below-top r fs w deep, language-read y, ← f)
+    rw (below-top r fs w deep, in-force-by (x .plan .parts .tag) (languageIn r fs) w a, language-read y, ← f)

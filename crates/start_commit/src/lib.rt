@@ -15,7 +15,7 @@ ghost use Rattle.event.specs.Progress.{Lawful, HandlesAll, docIn, lent};
 ghost use Rattle.start_element.specs.Element.{textOf, maybe};
 ghost use Rattle.start_plan.specs.Plan.{isThere};
 ghost use Rattle.start_plan.specs.Goes.{Goes};
-ghost use Rattle.start_commit.specs.Told.{LanguageFor, linesOf, nodeLines, objectLines, resourceLines};
+ghost use Rattle.start_commit.specs.Told.{linesOf, nodeLines, objectLines, resourceLines};
 ghost use Rattle.start_commit.specs.Entered.{Enters};
 ghost use Rattle.state_words.specs.Parts.{MAIN, ID};
 use copy::words::wide;
@@ -27,9 +27,10 @@ use start_element::Source;
 use start_plan::Lines;
 use start_plan::Start;
 use state::Registers;
+use state::language::Language;
+use state::language::tag_in_force;
 use state_ids::Added;
 use state_ids::IdTable;
-use state_stack::Found;
 use state_words::Frame;
 use writer::Said;
 
@@ -180,7 +181,7 @@ fn tell<'a>(
     on: bool,
     x: Start,
     around: Frame,
-    language: Found,
+    language: Language,
     work: &'a [u8],
     scratch: &'a [u8],
     spans: &[u32],
@@ -230,7 +231,7 @@ fn tell_node<'a>(
     out: &mut [u8],
     on: bool,
     x: Start,
-    language: Found,
+    language: Language,
     work: &'a [u8],
     scratch: &'a [u8],
     spans: &[u32],
@@ -249,8 +250,7 @@ fn tell_node<'a>(
     let iri = x.iri;
     let node = Node::of(parts.blank);
     let subject = start_element::text(main, scratch, area);
-    let tagged = is_tagged(tag, language);
-    let own = language_of(tag, language, work, scratch, area);
+    let spoken = tag_in_force(tag, language, work, area);
     let typed = start_plan::is_there(kind);
     let type_of = start_element::text(kind, scratch, area);
     let element = start_element::text(iri, scratch, area);
@@ -260,8 +260,7 @@ fn tell_node<'a>(
         on,
         node,
         subject,
-        tagged,
-        own,
+        spoken,
         scratch,
         spans,
         k,
@@ -280,7 +279,7 @@ fn tell_object<'a>(
     out: &mut [u8],
     on: bool,
     x: Start,
-    language: Found,
+    language: Language,
     work: &'a [u8],
     scratch: &'a [u8],
     spans: &[u32],
@@ -298,8 +297,7 @@ fn tell_object<'a>(
     let kind = x.kind;
     let node = Node::of(parts.what == 2);
     let subject = start_element::text(object, scratch, area);
-    let tagged = is_tagged(tag, language);
-    let own = language_of(tag, language, work, scratch, area);
+    let spoken = tag_in_force(tag, language, work, area);
     let typed = start_plan::is_there(kind);
     let type_of = start_element::text(kind, scratch, area);
     start_lines::tag_lines(
@@ -308,8 +306,7 @@ fn tell_object<'a>(
         on,
         node,
         subject,
-        tagged,
-        own,
+        spoken,
         scratch,
         spans,
         k,
@@ -363,33 +360,6 @@ fn tell_resource<'a>(
     )
 }
 
-// Is there a language in force, its own or that around?
-fn is_tagged(tag: Source, language: Found) -> bool
-    ensures { λ b. ⌜ b ≡ (isThere tag || language .there) ⌝ }
-{
-    if start_plan::is_there(tag) {
-        return true;
-    }
-    language.there
-}
-
-// The language in force, where there is one: its own, or else that around.
-fn language_of<'a>(
-    tag: Source,
-    language: Found,
-    work: &'a [u8],
-    scratch: &'a [u8],
-    area: &'a [u8],
-) -> &'a [u8]
-    ensures { λ s. ⌜ LanguageFor tag language (now (work .entry)) (now (scratch .entry)) (now (area .entry)) (now s) ⌝ }
-{
-    match tag {
-        Source::Missing => start_names::piece(work, language.at, language.len),
-        Source::Own(at, n) => start_names::piece(scratch, at, n),
-        Source::Made(at, n) => start_names::piece(area, at, n),
-    }
-}
-
 // The subject of the node of frame `f`.
 fn main_of(f: Frame, work: &[u8]) -> &[u8]
     ensures { λ s. ⌜ now s ≡ span (now (work .entry)) (at f MAIN) (at f ID) ⌝ }
@@ -398,9 +368,9 @@ fn main_of(f: Frame, work: &[u8]) -> &[u8]
     let from = wide(at[Frame::MAIN]);
     let to = wide(at[Frame::ID]);
     if to < from {
-        return start_names::piece(work, from, 0);
+        return copy::piece(work, from, 0);
     }
-    start_names::piece(work, from, to - from)
+    copy::piece(work, from, to - from)
 }
 
 // The rdf:ID is entered, if there is one.

@@ -15,6 +15,7 @@ use Rattle.copy.specs.Copy.{part}
 use Rattle.state_words.specs.declared.Kind.{Kind}
 use Rattle.state_words.specs.declared.Kind.the-variants.{Rdf, NodeElt, PropertyElt, ParseTypeCollectionPropertyElt, ParseTypeLiteralPropertyElt, ParseTypeOtherPropertyElt, Wrapper}
 use Rattle.state_words.specs.Words.{pick}
+use Rattle.state.specs.Language.{ownOfCode}
 use Rattle.state.specs.Meaning.{objectOf}
 use Rattle.start_names.specs.Tag.{attributesOf}
 use Rattle.start_element.specs.declared.Source.{Source}
@@ -68,7 +69,7 @@ newElement e w m k a p s =
       name = take m e;
       bindings = declared (attributesOf e w k);
       ownBase = maybe (p .base) e a;
-      ownTag = maybe (p .tag) e a;
+      ownTag = ownOfCode (p .tag) a;
       kind = kindIs (p .kind) p e a s;
       part = partIs (p .kind) p e a;
     }

@@ -26,6 +26,7 @@ use Rattle.state.specs.declared.Flags.{Flags}
 use Rattle.state.specs.declared.Counts as state
 use Rattle.state.specs.Meaning.{at, first, span, bindingsOf, whatOf, partOf, elementOf, subjectBelow, framesOf, innersOf, startOf, elementsOf, docOf}
 use Rattle.state.specs.Valid.{isNode, nodeBelow, stands, Rising, Valid}
+use Rattle.state.specs.Language.{isSaid}
 use Rattle.state.specs.Held.{held}
 use Rattle.state.specs.Stay.{bindings-kept}
 use Rattle.state_stack.specs.declared.Changed.{Changed}
@@ -140,7 +141,6 @@ module _ {r : Registers} {fs bs w e s : List ℕ} {m k : ℕ} {a : List ℕ} {p 
                 j .ownBase,
                 j .ownTag,
                 optional-is e a (p .base),
-                optional-is e a (p .tag),
                 lays-what l (r .counts .outer) (p .kind) (y .fitting .lacks) t,
                 lays-part l (r .counts .outer) (p .kind),
               )
@@ -308,15 +308,9 @@ noting true li a c p = noteAbout a (pick li (noteLi c p) p)
 abbrev pub NotedBy : (Part → Part) → (Part → Part) → List Element → Type 0
 NotedBy h g es = (f : Element) (es′ : List Element) → es ≡ f ∷ es′ → h (f .part) ≡ g (f .part)
 
--- has a part a text?
-unfoldable pub isGiven : Source → Bool
-isGiven Missing = false
-isGiven (Own i n) = true
-isGiven (Made i n) = true
-
 -- one more element, counted and noted in the one around it
 pub record Commits (r : Registers) (fs bs w e s : List ℕ) (m k : ℕ) (a : List ℕ) (p : Parts) (li : Bool) (labels : ℕ) (q : Registers) (gs cs v : List ℕ) : Type 0 where
-  pub holds : (is : List ℕ) → Valid r fs bs is w → (i : Bytes) → CountedBy r fs i li → (h : Part → Part) → NotedBy h (noting (r .mode .xmp) li (textOf (p .main) e a) (isGiven (p .tag))) (elementsOf r fs bs is w)
+  pub holds : (is : List ℕ) → Valid r fs bs is w → (i : Bytes) → CountedBy r fs i li → (h : Part → Part) → NotedBy h (noting (r .mode .xmp) li (textOf (p .main) e a) (isSaid (p .tag))) (elementsOf r fs bs is w)
       → Holds q gs cs is v (r .mode) (startOf r w) (newElement e s m k a p (subjectBelow fs w (r .counts .depth)) ∷ countLi i h (elementsOf r fs bs is w)) true labels
   pub closed : q .flags .closed ≡ r .flags .closed
   pub frames : length gs ≡ length fs
@@ -527,18 +521,18 @@ noted-as i h g [] n = refl
 noted-as i h g (f ∷ es) n = rw (n f es refl)
 
 module _ {r : Registers} {fs bs w e s : List ℕ} {m k : ℕ} {a : List ℕ} {p : Parts} {li : Bool} {labels : ℕ} (y : Granted r fs bs w e s m k a p li labels)
-    {fs1 : List ℕ} (c : CountsIf r fs li fs1) {r2 : Registers} {fs2 w2 : List ℕ} (n : NotesIf r fs1 w li (textOf (p .main) e a) (isGiven (p .tag)) r2 fs2 w2) where
+    {fs1 : List ℕ} (c : CountsIf r fs li fs1) {r2 : Registers} {fs2 w2 : List ℕ} (n : NotesIf r fs1 w li (textOf (p .main) e a) (isSaid (p .tag)) r2 fs2 w2) where
   -- there is room for what is noted
   room-left : r .mode .xmp ≡ true → r .store .top + length (textOf (p .main) e a) ≤ r .store .low
   room-left h = omega (arith, y .ready .room (named []), y .ready .few, y .short h, flat (y .valid) (y .ready .inner) .low)
 
   module _ {is : List ℕ} (x : Valid r fs bs is w) (i : Bytes) (j : CountedBy r fs i li) where
     -- counted and noted
-    readied : Holds r2 fs2 bs is w2 (r .mode) (startOf r w) (countLi i (noting (r .mode .xmp) li (textOf (p .main) e a) (isGiven (p .tag))) (elementsOf r fs bs is w)) (r .flags .rooted) (r .counts .labels)
+    readied : Holds r2 fs2 bs is w2 (r .mode) (startOf r w) (countLi i (noting (r .mode .xmp) li (textOf (p .main) e a) (isSaid (p .tag))) (elementsOf r fs bs is w)) (r .flags .rooted) (r .counts .labels)
     readied =
         let h = counted-holds x (y .ready .inner) (y .ready .frameWords) c (y .numbered) i j in
         let g = noted-holds (h .valid) (y .ready .inner) room-left (y .short) n in
-        rw (← noted-counted i (noting (r .mode .xmp) li (textOf (p .main) e a) (isGiven (p .tag))) (λ q. q) (elementsOf r fs bs is w), ← h .elements) g
+        rw (← noted-counted i (noting (r .mode .xmp) li (textOf (p .main) e a) (isSaid (p .tag))) (λ q. q) (elementsOf r fs bs is w), ← h .elements) g
 
   same-around : {is : List ℕ} → Valid r fs bs is w → SameTop r fs w fs2 w2
   same-around x =
@@ -556,7 +550,7 @@ module _ {r : Registers} {fs bs w e s : List ℕ} {m k : ℕ} {a : List ℕ} {p 
       let g = readied x (y .iri) (y .counted) in
       let z : r2 .counts .inner ≡ 0 = ap (λ (c : state.Counts). c .inner) (n .counts) ∙ y .ready .inner in
       let here = held-with (g .valid) z [] (λ q. q) f in
-      let there = held-with x (y .ready .inner) (y .iri) (noting (r .mode .xmp) li (textOf (p .main) e a) (isGiven (p .tag))) f in
+      let there = held-with x (y .ready .inner) (y .iri) (noting (r .mode .xmp) li (textOf (p .main) e a) (isSaid (p .tag))) f in
       let b = ap sizeOf (g .base) in
       let es = ap (total frameBytes) (g .elements) in
       let none = count-bytes [] (λ q. q) (elementsOf r2 fs2 bs (y .inners) w2) in
@@ -580,12 +574,12 @@ module _ {r : Registers} {fs bs w e s : List ℕ} {m k : ℕ} {a : List ℕ} {p 
 
   module _ {q : Registers} {gs cs v : List ℕ} (o : Opens r2 fs2 bs w2 e s m k a p q gs cs v) where
     opened-holds : (is : List ℕ) → Valid r fs bs is w → (i : Bytes) → CountedBy r fs i li → (h : Part → Part)
-        → NotedBy h (noting (r .mode .xmp) li (textOf (p .main) e a) (isGiven (p .tag))) (elementsOf r fs bs is w)
+        → NotedBy h (noting (r .mode .xmp) li (textOf (p .main) e a) (isSaid (p .tag))) (elementsOf r fs bs is w)
         → Holds q gs cs is v (r .mode) (startOf r w) (newElement e s m k a p (subjectBelow fs w (r .counts .depth)) ∷ countLi i h (elementsOf r fs bs is w)) true (r .counts .labels)
     opened-holds is x i j h nb =
         let g = readied x i j in
         let sb : subjectBelow fs2 w2 (r2 .counts .depth) ≡ subjectBelow fs w (r .counts .depth) = rw depth-is (same-below (same-around x)) in
-        rw (← noted-as i h (noting (r .mode .xmp) li (textOf (p .main) e a) (isGiven (p .tag))) (elementsOf r fs bs is w) nb, ← g .elements, ← g .base, ← g .chosen, ← g .count, ← sb) (o .holds is (g .valid))
+        rw (← noted-as i h (noting (r .mode .xmp) li (textOf (p .main) e a) (isSaid (p .tag))) (elementsOf r fs bs is w) nb, ← g .elements, ← g .base, ← g .chosen, ← g .count, ← sb) (o .holds is (g .valid))
 
     pub commits : {q′ : Registers} → q′ ≡ labelledTo q labels → Commits r fs bs w e s m k a p li labels q′ gs cs v
     commits {q′} e′ =

@@ -16,6 +16,10 @@ use Rattle.state_words.specs.declared.Kind.{Kind}
 use Rattle.state_words.specs.declared.Kind.the-variants.{Rdf, NodeElt, PropertyElt, ParseTypeCollectionPropertyElt, ParseTypeLiteralPropertyElt, ParseTypeOtherPropertyElt, Wrapper}
 use Rattle.state_words.specs.declared.Frame.{Frame}
 use Rattle.state_words.specs.Words.{pick}
+use Rattle.state.specs.Language.{tagOfOwn}
+use Rattle.state.specs.Language as L
+use Rattle.state.specs.declared.language.Own as said
+use Rattle.state.specs.declared.language.Own.the-variants.{Unsaid, Cleared, Given}
 use Rattle.state.specs.Meaning.{at, optional, nodeOf, childrenOf, subjectOf, propertyOf, whatOf, partOf}
 use Rattle.state.specs.Valid.{notedBy, emptyOr, partsOk, childrenOk, kindOk}
 use Rattle.state_stack.specs.Laid.{Laid, laid}
@@ -66,10 +70,10 @@ module _ {w e a : List ℕ} {p : Parts} {name bound from : ℕ} (s : Spread w e 
   spread-1 = record { store = s .store; room = omega (arith, s .room) }
 
   module _ {w1 : List ℕ} {x3 : ℕ} (b : Puts w w1 from x3 (textOf (p .base) e a)) where
-    pub spread-2 : Room w1 x3 (length (textOf (p .tag) e a))
+    pub spread-2 : Room w1 x3 (length (tagOfOwn (p .tag) a))
     spread-2 = record { store = omega (arith, s .store, b .same); room = omega (arith, s .room, b .same, b .wrote .up) }
 
-    module _ {w2 : List ℕ} {x4 : ℕ} (t : Puts w1 w2 x3 x4 (textOf (p .tag) e a)) where
+    module _ {w2 : List ℕ} {x4 : ℕ} (t : Puts w1 w2 x3 x4 (tagOfOwn (p .tag) a)) where
       pub spread-3 : Room w2 x4 (length (textOf (p .main) e a))
       spread-3 = record { store = omega (arith, spread-2 .store, t .same); room = omega (arith, s .room, b .same, t .same, b .wrote .up, t .wrote .up) }
 
@@ -103,17 +107,17 @@ pub record Lays (w v e a : List ℕ) (p : Parts) (name bound from : ℕ) (at : L
   pub boundAt : getD at BINDINGS 0 ≡ bound
   pub baseAt : getD at BASE 0 ≡ from
   pub tagAt : getD at TAG 0 ≡ getD at BASE 0 + length (textOf (p .base) e a)
-  pub mainAt : getD at MAIN 0 ≡ getD at TAG 0 + length (textOf (p .tag) e a)
+  pub mainAt : getD at MAIN 0 ≡ getD at TAG 0 + length (tagOfOwn (p .tag) a)
   pub idAt : getD at ID 0 ≡ getD at MAIN 0 + length (textOf (p .main) e a)
   pub typeAt : getD at DATATYPE 0 ≡ getD at ID 0 + length (textOf (p .id) e a)
   pub tailAt : getD at TAIL 0 ≡ getD at DATATYPE 0 + length (textOf (p .datatype) e a)
   pub endAt : getD at END 0 ≡ getD at TAIL 0 + length (textOf (p .object) e a)
   pub wrote : Wrote w v (getD at BASE 0) (getD at END 0)
-      (textOf (p .base) e a ++ (textOf (p .tag) e a ++ (textOf (p .main) e a ++ (textOf (p .id) e a ++ (textOf (p .datatype) e a ++ textOf (p .object) e a)))))
+      (textOf (p .base) e a ++ (tagOfOwn (p .tag) a ++ (textOf (p .main) e a ++ (textOf (p .id) e a ++ (textOf (p .datatype) e a ++ textOf (p .object) e a)))))
   pub same : length v ≡ length w
 
 pub lays : {w w1 w2 w3 w4 w5 v : List ℕ} (e a : List ℕ) (p : Parts) {x0 x1 x2 x3 x4 x5 x6 x7 x8 : ℕ}
-    → Puts w w1 x2 x3 (textOf (p .base) e a) → Puts w1 w2 x3 x4 (textOf (p .tag) e a) → Puts w2 w3 x4 x5 (textOf (p .main) e a)
+    → Puts w w1 x2 x3 (textOf (p .base) e a) → Puts w1 w2 x3 x4 (tagOfOwn (p .tag) a) → Puts w2 w3 x4 x5 (textOf (p .main) e a)
     → Puts w3 w4 x5 x6 (textOf (p .id) e a) → Puts w4 w5 x6 x7 (textOf (p .datatype) e a) → Puts w5 v x7 x8 (textOf (p .object) e a)
     → Lays w v e a p x0 x1 x2 (x0 ∷ x1 ∷ x2 ∷ x3 ∷ x4 ∷ x5 ∷ x6 ∷ x7 ∷ x8 ∷ [])
 lays e a p b t m i d o =
@@ -147,9 +151,9 @@ bitOf false = 0
 
 abbrev pub marksOf : Parts → ℕ → List ℕ
 marksOf p first =
-    markOf (p .base) ∷ markOf (p .tag) ∷ bitOf (p .blank) ∷ markOf (p .id) ∷ markOf (p .datatype) ∷ p .what ∷ 0 ∷ first ∷ []
+    markOf (p .base) ∷ L.markOf (p .tag) ∷ bitOf (p .blank) ∷ markOf (p .id) ∷ markOf (p .datatype) ∷ p .what ∷ 0 ∷ first ∷ []
 
-pub marks-are : {a b c d e : ℕ} (p : Parts) (first : ℕ) → a ≡ markOf (p .base) → b ≡ markOf (p .tag) → c ≡ bitOf (p .blank) → d ≡ markOf (p .id) → e ≡ markOf (p .datatype)
+pub marks-are : {a b c d e : ℕ} (p : Parts) (first : ℕ) → a ≡ markOf (p .base) → b ≡ L.markOf (p .tag) → c ≡ bitOf (p .blank) → d ≡ markOf (p .id) → e ≡ markOf (p .datatype)
     → _≡_ {A = List ℕ} (a ∷ b ∷ c ∷ d ∷ e ∷ p .what ∷ 0 ∷ first ∷ []) (marksOf p first)
 marks-are p first x y z u v = rw (x, y, z, u, v)
 
@@ -168,6 +172,13 @@ module _ (e a : List ℕ) where
   empty-or (Own i n) x y h = refl
   empty-or (Made i n) x y h = refl
 
+-- the tag's likewise
+empty-own : (a : List ℕ) (o : said.Own) (x y : ℕ) → y ≡ x + length (tagOfOwn o a) → emptyOr (L.markOf o) x y ≡ true
+unfolding emptyOr tagOfOwn
+empty-own a Unsaid x y h = eq-eqb x y (omega arith)
+empty-own a Cleared x y h = refl
+empty-own a (Given i n) x y h = refl
+
 node-is : (b : Bool) (s : Bytes) → nodeOf (bitOf b) s ≡ nodeIs b s
 unfolding nodeOf nodeIs
 node-is true s = refl
@@ -182,9 +193,9 @@ abbrev pub frameIs : Parts → List ℕ → ℕ → Frame
 frameIs p at first = frameOf (p .kind) at (marksOf p first)
 
 module _ {w v e a : List ℕ} {p : Parts} {name bound from : ℕ} {at′ : List ℕ} (l : Lays w v e a p name bound from at′) (b : ℕ) where
-  pub lays-laid : Laid v (frameIs p at′ b) (textOf (p .base) e a) (textOf (p .tag) e a) (textOf (p .main) e a) (textOf (p .id) e a) (textOf (p .datatype) e a) (textOf (p .object) e a)
+  pub lays-laid : Laid v (frameIs p at′ b) (textOf (p .base) e a) (tagOfOwn (p .tag) a) (textOf (p .main) e a) (textOf (p .id) e a) (textOf (p .datatype) e a) (textOf (p .object) e a)
   lays-laid =
-      laid {f = frameIs p at′ b} (textOf (p .base) e a) (textOf (p .tag) e a) (textOf (p .main) e a) (textOf (p .id) e a) (textOf (p .datatype) e a) (textOf (p .object) e a)
+      laid {f = frameIs p at′ b} (textOf (p .base) e a) (tagOfOwn (p .tag) a) (textOf (p .main) e a) (textOf (p .id) e a) (textOf (p .datatype) e a) (textOf (p .object) e a)
       (l .wrote) (l .tagAt) (l .mainAt) (l .idAt) (l .typeAt) (l .tailAt) (l .endAt)
 
   pub lays-parts : partsOk (frameIs p at′ b) ≡ true
@@ -192,7 +203,7 @@ module _ {w v e a : List ℕ} {p : Parts} {name bound from : ℕ} {at′ : List 
   lays-parts =
       rw (
         empty-or e a (p .base) (getD at′ BASE 0) (getD at′ TAG 0) (l .tagAt),
-        empty-or e a (p .tag) (getD at′ TAG 0) (getD at′ MAIN 0) (l .mainAt),
+        empty-own a (p .tag) (getD at′ TAG 0) (getD at′ MAIN 0) (l .mainAt),
         empty-or e a (p .id) (getD at′ ID 0) (getD at′ DATATYPE 0) (l .typeAt),
         empty-or e a (p .datatype) (getD at′ DATATYPE 0) (getD at′ TAIL 0) (l .tailAt),
       )

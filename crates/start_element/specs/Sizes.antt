@@ -17,6 +17,9 @@ use Rattle.copy.specs.Texts.{after-drop}
 use Rattle.state_words.specs.declared.Kind.{Kind}
 use Rattle.state_words.specs.declared.Kind.the-variants.{Rdf, NodeElt, PropertyElt, ParseTypeCollectionPropertyElt, ParseTypeLiteralPropertyElt, ParseTypeOtherPropertyElt, Wrapper}
 use Rattle.state_words.specs.Words.{pick}
+use Rattle.copy.specs.Copy.{part-short}
+use Rattle.state.specs.Language.{tagOfOwn, tag-short, bytes-by}
+use Rattle.state.specs.declared.language.Own as said
 use Rattle.state.specs.Meaning.{objectOf}
 use Rattle.start_names.specs.Tag.{startAt, sizeAt, valueSizeAt, nameAt, valueAt, attributeAt, attributesFrom, attributesOf, attributes-all, attributes-more, attributes-end}
 use Rattle.start_names.specs.Declarations.{binding}
@@ -30,29 +33,28 @@ use Rattle.start_element.specs.Element.{textOf, maybe, nodeIs, propertyI
 -- all parts
 abbrev pub partsBytes : Parts → List ℕ → List ℕ → ℕ
 partsBytes p e a =
-    length (textOf (p .base) e a) + length (textOf (p .tag) e a) + length (textOf (p .main) e a) + length (textOf (p .id) e a) + length (textOf (p .datatype) e a) + length (textOf (p .object) e a)
+    length (textOf (p .base) e a) + length (tagOfOwn (p .tag) a) + length (textOf (p .main) e a) + length (textOf (p .id) e a) + length (textOf (p .datatype) e a) + length (textOf (p .object) e a)
 
 pub record Short (e a : List ℕ) : Type 0 where
   pub event : length e ≤ 65_536
   pub area : length a ≤ 65_536
 
-pub length-part-of : (w : List ℕ) (i n : ℕ) → length (part w i n) ≤ length w
-unfolding part
-length-part-of w i n = simp (length-take, length-drop) (omega arith)
-
 module _ {e a : List ℕ} (x : Short e a) where
   text-short : (s : Source) → length (textOf s e a) ≤ 65_536
   unfolding textOf
   text-short Missing = omega arith
-  text-short (Own i n) = omega (arith, length-part-of e i n)
-  text-short (Made i n) = omega (arith, length-part-of a i n)
+  text-short (Own i n) = omega (arith, part-short e i n)
+  text-short (Made i n) = omega (arith, part-short a i n)
 
   pub few-text : (s : Source) {n : ℕ} → n ≡ length (textOf s e a) → n ≤ 65_536
   few-text s {n} h = omega (arith, text-short s)
 
+  pub few-tag : (o : said.Own) {s : Bytes} → s ≡ tagOfOwn o a → length s ≤ 65_536
+  few-tag o h = omega (arith, ap length h, tag-short o a)
+
   pub few-parts : (p : Parts) {n : ℕ} → n ≡ partsBytes p e a → n ≤ 393_216
   few-parts p {n} h =
-      omega (arith, text-short (p .base), text-short (p .tag), text-short (p .main), text-short (p .id), text-short (p .datatype), text-short (p .object))
+      omega (arith, text-short (p .base), tag-short (p .tag) a, text-short (p .main), text-short (p .id), text-short (p .datatype), text-short (p .object))
 
 -- ---- the bytes of the bindings
 
@@ -80,7 +82,7 @@ module _ (e w : List ℕ) (j : ℕ) where
       short =
           let n = ap length (after-drop (ascii "xmlns:") (nameAt e w j)) in
           let d = length-drop (length (ascii "xmlns:")) (nameAt e w j) in
-          omega (arith, length-part-of e (startAt w j) (sizeAt w j), length-part-of e (startAt w j + sizeAt w j) (valueSizeAt w j))
+          omega (arith, part-short e (startAt w j) (sizeAt w j), part-short e (startAt w j + sizeAt w j) (valueSizeAt w j))
 
       go : (t : Bool) → (if t then bindingBytes (declares (attributeAt e w j)) else 0) ≤ 131_072
       go true = short
@@ -170,4 +172,4 @@ pub measured : (e w : List ℕ) (m k : ℕ) (a : List ℕ) (p : Parts) {t : Byte
     → b ≡ total bindingBytes (declared (attributesOf e w k)) → n ≡ partsBytes p e a → Measures e w m k a p (length t + b + n)
 unfolding newElement frameBytes part
 measured e w m k a p {t} {b} {n} f x y z =
-    record { bytes = λ s. omega (arith, ap length x, kind-size p e a s (p .kind) (f .lacks), maybe-size (p .base) e a, maybe-size (p .tag) e a) }
+    record { bytes = λ s. omega (arith, ap length x, kind-size p e a s (p .kind) (f .lacks), maybe-size (p .base) e a, bytes-by (p .tag) a) }

@@ -12,8 +12,10 @@ ghost use Rattle.start_element.specs.Element.{textOf, Fitting};
 ghost use Rattle.start_element.specs.Sizes.{Short, Measures, bytesIn, partsBytes};
 ghost use Rattle.start_element.specs.Rows.{Fits, BindsAt, Entered};
 ghost use Rattle.start_element.specs.Places.{Room, Puts, Spread, Lays, markOf, bitOf, marksOf};
-ghost use Rattle.start_element.specs.Laws.{Ready, Opens, Granted, Commits, CountsIf, NotesIf, NotesLiIf, isGiven};
+ghost use Rattle.start_element.specs.Laws.{Ready, Opens, Granted, Commits, CountsIf, NotesIf, NotesLiIf};
+ghost use Rattle.state.specs.Language.{isSaid};
 use state::Registers;
+use state::language::Own;
 use state_words::Frame;
 use state_words::Kind;
 
@@ -24,13 +26,13 @@ pub enum Source {
     Made(usize, usize),
 }
 
-// The parts of a new element. `base` and `tag` are its own xml:base and (lowercased) xml:lang; `main` is a node's subject, `blank` says
+// The parts of a new element. `base` is its own xml:base, and `tag` what it says of its language; `main` is a node's subject, `blank` says
 // whether it is a label, or a property's IRI; `what` is the object's kind: 0 none, 1 a named node, 2 a blank one.
 pub struct Parts {
     pub kind: Kind,
     pub blank: bool,
     pub base: Source,
-    pub tag: Source,
+    pub tag: Own,
     pub main: Source,
     pub id: Source,
     pub datatype: Source,
@@ -50,8 +52,8 @@ pub fn text<'a>(source: Source, scratch: &'a [u8], area: &'a [u8]) -> &'a [u8]
 {
     match source {
         Source::Missing => &scratch[0..0],
-        Source::Own(at, n) => start_names::piece(scratch, at, n),
-        Source::Made(at, n) => start_names::piece(area, at, n),
+        Source::Own(at, n) => copy::piece(scratch, at, n),
+        Source::Made(at, n) => copy::piece(area, at, n),
     }
 }
 
@@ -60,7 +62,7 @@ pub fn size(scratch: &[u8], spans: &[u32], m: usize, k: usize, area: &[u8], part
     requires { ⌜ (Short (now scratch) (now area)) × (k ≤ mostAttributes) × (Fitting parts) ⌝ }
     ensures { λ r. ⌜ Measures (now (scratch .entry)) (now (spans .entry)) m k (now (area .entry)) parts r ⌝ }
 {
-    let name = start_names::piece(scratch, 0, m).len();
+    let name = copy::piece(scratch, 0, m).len();
     let bound = declared_size(scratch, spans, k);
     name + bound + parts_size(scratch, area, parts)
 }
@@ -121,7 +123,7 @@ pub fn open<'a>(
     ensures { λ q. ⌜ Opens r (now (frames .entry)) (now (bindings .entry)) (now (work .entry)) (now (scratch .entry)) (now (spans .entry)) m k (now (area .entry)) parts q (now (frames .exit)) (now (bindings .exit)) (now (work .exit)) ⌝ }
 {
     let top = r.store.top;
-    let name = start_names::piece(scratch, 0, m);
+    let name = copy::piece(scratch, 0, m);
     copy::put(work, top, name);
     let from = Next {
         at: top + name.len(),
@@ -168,7 +170,7 @@ fn parts_size(scratch: &[u8], area: &[u8], parts: Parts) -> usize
     let datatype = parts.datatype;
     let object = parts.object;
     text_size(base, scratch, area)
-        + text_size(tag, scratch, area)
+        + tag.tag(area).len()
         + text_size(main, scratch, area)
         + text_size(id, scratch, area)
         + text_size(datatype, scratch, area)
@@ -181,8 +183,8 @@ fn text_size(source: Source, scratch: &[u8], area: &[u8]) -> usize
 {
     match source {
         Source::Missing => 0,
-        Source::Own(at, n) => start_names::piece(scratch, at, n).len(),
-        Source::Made(at, n) => start_names::piece(area, at, n).len(),
+        Source::Own(at, n) => copy::piece(scratch, at, n).len(),
+        Source::Made(at, n) => copy::piece(area, at, n).len(),
     }
 }
 
@@ -220,14 +222,14 @@ fn note_if<'a>(
     parts: Parts,
     li: bool,
 ) -> Registers
-    ensures { λ q. ⌜ NotesIf r (now (frames .entry)) (now (work .entry)) li (textOf (parts .main) (now (scratch .entry)) (now (area .entry))) (isGiven (parts .tag)) q (now (frames .exit)) (now (work .exit)) ⌝ }
+    ensures { λ q. ⌜ NotesIf r (now (frames .entry)) (now (work .entry)) li (textOf (parts .main) (now (scratch .entry)) (now (area .entry))) (isSaid (parts .tag)) q (now (frames .exit)) (now (work .exit)) ⌝ }
 {
     let main = parts.main;
     let tag = parts.tag;
     if !r.mode.xmp {
         return r;
     }
-    note_li_if(r, frames, li, is_given(tag));
+    note_li_if(r, frames, li, tag.is_said());
     state_stack::packets::note_about(r, frames, work, text(main, scratch, area))
 }
 
@@ -239,17 +241,6 @@ fn note_li_if(r: Registers, frames: &mut [u32], li: bool, carries: bool)
         return;
     }
     state_stack::packets::note_li(r, frames, carries);
-}
-
-// Is there such a part?
-fn is_given(source: Source) -> bool
-    ensures { λ r. ⌜ r ≡ isGiven source ⌝ }
-{
-    match source {
-        Source::Missing => false,
-        Source::Own(_, _) => true,
-        Source::Made(_, _) => true,
-    }
 }
 
 // The binding that attribute j declares.
@@ -297,7 +288,7 @@ fn lay<'a>(
     let datatype = parts.datatype;
     let object = parts.object;
     let tag_at = put_text(work, from, base, scratch, area);
-    let main_at = put_text(work, tag_at, tag, scratch, area);
+    let main_at = append(work, tag_at, tag.tag(area));
     let id_at = put_text(work, main_at, main, scratch, area);
     let datatype_at = put_text(work, id_at, id, scratch, area);
     let tail_at = put_text(work, datatype_at, datatype, scratch, area);
@@ -348,7 +339,7 @@ fn marks(parts: Parts, first: usize) -> [u32; Frame::MARKS]
     let datatype = parts.datatype;
     [
         mark(base),
-        mark(tag),
+        tag.mark(),
         bit(parts.blank),
         mark(id),
         mark(datatype),

@@ -12,6 +12,7 @@ use Rattle.spec.specs.Bytes.{Bytes, ascii, if_then_else_, same}
 use Rattle.spec.specs.NTriples.{Subject, named, node, Term, Triple, triple, line, write}
 use Rattle.spec.specs.Rdf.{rdf}
 use Rattle.spec.specs.Namespaces.{xmlName}
+use Rattle.spec.specs.XmlLang.{written, Language}
 use Rattle.spec.specs.StartTag.{property, roleNumber, propertyAttributes, Tag}
 use Rattle.spec.specs.Productions.{literalOf, attributeLines, typeLine, tagLines, elementType}
 use Rattle.writer.specs.Put.{Put, most, puts, put-as, put-none}
@@ -19,6 +20,7 @@ use Rattle.ntriples.specs.declared.Term.the-variants as term-kind
 use Rattle.ntriples.specs.declared.Term as K
 use Rattle.ntriples.specs.Terms.{termOf, inRdf, idOf as given}
 use Rattle.ntriples.specs.Lines.{write-one}
+use Rattle.state.specs.Language.{languageOf}
 use Rattle.start_names.specs.declared.Class.{Class}
 use Rattle.start_names.specs.Tag.{valueAt}
 use Rattle.start_names.specs.Classes.{classAt, spaceBy}
@@ -26,14 +28,24 @@ use Rattle.start_attributes.specs.Reads.{meaningsOf, Roles}
 use Rattle.start_attributes.specs.Properties.{spaceAt, localAt, propertiesFrom, properties, properties-end}
 
 -- a text, with a tag where there is one
-unfoldable pub literalKind : Bool → K.Term
-literalKind true = term-kind.Tagged
-literalKind false = term-kind.Plain
+unfoldable pub literalKind : Bytes → K.Term
+literalKind [] = term-kind.Plain
+literalKind (c ∷ l) = term-kind.Tagged
 
-literal-kind : (t : Bool) (v l : Bytes) → termOf (literalKind t) v l ≡ literalOf none (given t l) v
-unfolding literalKind termOf given literalOf
-literal-kind true v l = refl
-literal-kind false v l = refl
+pub kind-plain : (l : Bytes) → length l ≡ 0 → term-kind.Plain ≡ literalKind l
+unfolding literalKind
+kind-plain [] h = refl
+kind-plain (c ∷ l) h = absurd (omega arith)
+
+pub kind-tagged : (l : Bytes) → (length l ≡ 0 → ⊥) → term-kind.Tagged ≡ literalKind l
+unfolding literalKind
+kind-tagged [] h = absurd (h refl)
+kind-tagged (c ∷ l) h = refl
+
+literal-kind : (v l : Bytes) → termOf (literalKind l) v l ≡ literalOf none (languageOf l) v
+unfolding literalKind termOf languageOf literalOf written
+literal-kind v [] = refl
+literal-kind v (c ∷ l) = refl
 
 -- ---- lines in a row
 
@@ -42,7 +54,7 @@ unfolding write
 write-append [] us = refl
 write-append (t ∷ ts) us = rw (write-append ts us, append-assoc)
 
-lines-append : (s : Subject) (l : Option Bytes) (a b : List (Bytes × Bytes)) → attributeLines s l (a ++ b) ≡ attributeLines s l a ++ attributeLines s l b
+lines-append : (s : Subject) (l : Language) (a b : List (Bytes × Bytes)) → attributeLines s l (a ++ b) ≡ attributeLines s l a ++ attributeLines s l b
 unfolding attributeLines
 lines-append s l [] b = refl
 lines-append s l (x ∷ a) b = rw (lines-append s l a b)
@@ -67,7 +79,7 @@ module _ (e w v cs rs : List ℕ) (j : ℕ) where
   one h = rw h
 
 -- the tests of `emit_property_attr`; c is the class that was loaded, n its namespace
-module _ {on : Bool} {d : List ℕ} {at : ℕ} (s : Subject) (l : Option Bytes) (e w v cs rs : List ℕ) (j : ℕ) where
+module _ {on : Bool} {d : List ℕ} {at : ℕ} (s : Subject) (l : Language) (e w v cs rs : List ℕ) (j : ℕ) where
   pub no-line : eqb (getD rs j 0) (roleNumber property) ≡ false → at ≤ most → Put on d d at at (write (attributeLines s l (propertiesFrom e w v cs rs j 1)))
   unfolding attributeLines write
   no-line h m = rw (not-one e w v cs rs j h) (put-none m)
@@ -78,13 +90,13 @@ module _ {on : Bool} {d : List ℕ} {at : ℕ} (s : Subject) (l : Option Bytes) 
   one-line p h q r = put-as p (rw (r, q, one e w v cs rs j h) (write-one (triple s (spaceAt e v cs j ++ localAt e w j) (literalOf none l (valueAt e w j)))))
 
 -- what `property_line` writes, from what it has read
-pub property-text : (s : Subject) (n : Bytes) {x y : Bytes} {k : K.Term} (g : Bytes) (e w : List ℕ) (j : ℕ) (t : Bool) → x ≡ localAt e w j → y ≡ valueAt e w j → k ≡ literalKind t
-    → line (triple s (n ++ x) (termOf k (y ++ []) g)) ≡ line (triple s (n ++ localAt e w j) (literalOf none (given t g) (valueAt e w j)))
-property-text s n {x} {y} g e w j t p q r = rw (append-nil y, r, literal-kind t y g, p, q)
+pub property-text : (s : Subject) (n : Bytes) {x y : Bytes} {k : K.Term} (g : Bytes) (e w : List ℕ) (j : ℕ) → x ≡ localAt e w j → y ≡ valueAt e w j → k ≡ literalKind g
+    → line (triple s (n ++ x) (termOf k (y ++ []) g)) ≡ line (triple s (n ++ localAt e w j) (literalOf none (languageOf g) (valueAt e w j)))
+property-text s n {x} {y} g e w j p q r = rw (append-nil y, r, literal-kind y g, p, q)
 
 -- ---- all of them: the loop of `emit_property_attrs` has come to attribute j of k, and f is behind what it wrote
 
-pub record Emitting (on : Bool) (d f : List ℕ) (at to : ℕ) (s : Subject) (l : Option Bytes) (e w v cs rs : List ℕ) (k j : ℕ) : Type 0 where
+pub record Emitting (on : Bool) (d f : List ℕ) (at to : ℕ) (s : Subject) (l : Language) (e w v cs rs : List ℕ) (k j : ℕ) : Type 0 where
   pub upto : j ≤ k
   pub bytes : Bytes
   pub all : write (attributeLines s l (propertiesFrom e w v cs rs 0 k)) ≡ bytes ++ write (attributeLines s l (propertiesFrom e w v cs rs j (k - j)))
@@ -99,7 +111,7 @@ rest-split e w v cs rs k j h = let s : k - j ≡ suc (k - (j + 1)) = omega arith
     go true q = rw q
     go false q = rw q
 
-module _ {on : Bool} {d : List ℕ} {at : ℕ} {s : Subject} {l : Option Bytes} {e w v cs rs : List ℕ} {k : ℕ} where
+module _ {on : Bool} {d : List ℕ} {at : ℕ} {s : Subject} {l : Language} {e w v cs rs : List ℕ} {k : ℕ} where
   pub emitting-begins : at ≤ most → Emitting on d d at at s l e w v cs rs k 0
   emitting-begins m =
       let z : k - 0 ≡ k = omega arith in
@@ -142,12 +154,12 @@ element-type i q = rw q (go (same i (rdf "Description")))
     go false = refl
 
 module _ {e w v cs rs : List ℕ} {k : ℕ} (h : Roles e w v cs rs k) (s : Subject) (t : Tag) (a : t .attributes ≡ propertyAttributes (meaningsOf e w v cs k))
-    (tagged : Bool) (language : Bytes) (l : t .language ≡ given tagged language) (typed : Bool) (kind : Bytes) (y : t .type ≡ given typed kind) where
-  pub tag-lines : attributeLines s (given tagged language) (propertiesFrom e w v cs rs 0 k) ++ typeLine s (given typed kind) ≡ tagLines s t
+    (tag : Bytes) (l : t .language ≡ languageOf tag) (typed : Bool) (kind : Bytes) (y : t .type ≡ given typed kind) where
+  pub tag-lines : attributeLines s (languageOf tag) (propertiesFrom e w v cs rs 0 k) ++ typeLine s (given typed kind) ≡ tagLines s t
   unfolding tagLines
   tag-lines = rw (l, y, a, properties h)
 
   pub node-lines : (x : Bool) → x ≡ not (same (t .iri) (rdf "Description"))
-      → (attributeLines s (given tagged language) (propertiesFrom e w v cs rs 0 k) ++ typeLine s (given typed kind)) ++ typeLine s (given x (t .iri))
+      → (attributeLines s (languageOf tag) (propertiesFrom e w v cs rs 0 k) ++ typeLine s (given typed kind)) ++ typeLine s (given x (t .iri))
       ≡ tagLines s t ++ typeLine s (elementType (t .iri))
   node-lines x q = rw (tag-lines, element-type (t .iri) q)

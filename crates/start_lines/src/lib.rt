@@ -10,6 +10,7 @@ ghost use Rattle.spec.specs.StartTag.{property, roleNumber};
 ghost use Rattle.spec.specs.Productions.{literalOf, attributeLines, typeLine};
 ghost use Rattle.writer.specs.Put.{Put};
 ghost use Rattle.ntriples.specs.Terms.{subjectOf, idOf as given};
+ghost use Rattle.state.specs.Language.{languageOf};
 ghost use Rattle.start_names.specs.Tag.{valueAt};
 ghost use Rattle.start_attributes.specs.Properties.{localAt, propertiesFrom};
 ghost use Rattle.start_lines.specs.Lines.{literalKind};
@@ -19,14 +20,13 @@ use start_attributes::roles::Role;
 use start_names::Class;
 use start_names::XML;
 
-// The property attributes of the first k, a line each in written order; they take the language in force, where `tagged` says that there is one.
+// The property attributes of the first k, a line each in written order; they take the language in force, whose tag has no bytes where there is none.
 pub fn emit_property_attrs<'a>(
     out: &mut [u8],
     at: usize,
     on: bool,
     node: Node,
     subject: &[u8],
-    tagged: bool,
     language: &[u8],
     scratch: &'a [u8],
     spans: &[u32],
@@ -35,7 +35,7 @@ pub fn emit_property_attrs<'a>(
     classes: &[usize],
     roles: &[u8],
 ) -> usize
-    ensures { λ r. ⌜ Put on (now (out .entry)) (now (out .exit)) at r (write (attributeLines (subjectOf node (now (subject .entry))) (given tagged (now (language .entry))) (propertiesFrom (now (scratch .entry)) (now (spans .entry)) (now (work .entry)) (now (classes .entry)) (now (roles .entry)) 0 k))) ⌝ }
+    ensures { λ r. ⌜ Put on (now (out .entry)) (now (out .exit)) at r (write (attributeLines (subjectOf node (now (subject .entry))) (languageOf (now (language .entry))) (propertiesFrom (now (scratch .entry)) (now (spans .entry)) (now (work .entry)) (now (classes .entry)) (now (roles .entry)) 0 k))) ⌝ }
 {
     let mut to = at;
     let mut j = 0;
@@ -46,7 +46,6 @@ pub fn emit_property_attrs<'a>(
             on,
             node,
             subject,
-            tagged,
             language,
             scratch,
             spans,
@@ -67,7 +66,6 @@ pub fn tag_lines<'a>(
     on: bool,
     node: Node,
     subject: &[u8],
-    tagged: bool,
     language: &[u8],
     scratch: &'a [u8],
     spans: &[u32],
@@ -78,7 +76,7 @@ pub fn tag_lines<'a>(
     typed: bool,
     kind: &[u8],
 ) -> usize
-    ensures { λ r. ⌜ Put on (now (out .entry)) (now (out .exit)) at r (write (attributeLines (subjectOf node (now (subject .entry))) (given tagged (now (language .entry))) (propertiesFrom (now (scratch .entry)) (now (spans .entry)) (now (work .entry)) (now (classes .entry)) (now (roles .entry)) 0 k) ++ typeLine (subjectOf node (now (subject .entry))) (given typed (now (kind .entry))))) ⌝ }
+    ensures { λ r. ⌜ Put on (now (out .entry)) (now (out .exit)) at r (write (attributeLines (subjectOf node (now (subject .entry))) (languageOf (now (language .entry))) (propertiesFrom (now (scratch .entry)) (now (spans .entry)) (now (work .entry)) (now (classes .entry)) (now (roles .entry)) 0 k) ++ typeLine (subjectOf node (now (subject .entry))) (given typed (now (kind .entry))))) ⌝ }
 {
     let to = emit_property_attrs(
         out,
@@ -86,7 +84,6 @@ pub fn tag_lines<'a>(
         on,
         node,
         subject,
-        tagged,
         language,
         scratch,
         spans,
@@ -105,7 +102,6 @@ pub fn node_lines<'a>(
     on: bool,
     node: Node,
     subject: &[u8],
-    tagged: bool,
     language: &[u8],
     scratch: &'a [u8],
     spans: &[u32],
@@ -118,7 +114,7 @@ pub fn node_lines<'a>(
     named: bool,
     element: &[u8],
 ) -> usize
-    ensures { λ r. ⌜ Put on (now (out .entry)) (now (out .exit)) at r (write ((attributeLines (subjectOf node (now (subject .entry))) (given tagged (now (language .entry))) (propertiesFrom (now (scratch .entry)) (now (spans .entry)) (now (work .entry)) (now (classes .entry)) (now (roles .entry)) 0 k) ++ typeLine (subjectOf node (now (subject .entry))) (given typed (now (kind .entry)))) ++ typeLine (subjectOf node (now (subject .entry))) (given named (now (element .entry))))) ⌝ }
+    ensures { λ r. ⌜ Put on (now (out .entry)) (now (out .exit)) at r (write ((attributeLines (subjectOf node (now (subject .entry))) (languageOf (now (language .entry))) (propertiesFrom (now (scratch .entry)) (now (spans .entry)) (now (work .entry)) (now (classes .entry)) (now (roles .entry)) 0 k) ++ typeLine (subjectOf node (now (subject .entry))) (given typed (now (kind .entry)))) ++ typeLine (subjectOf node (now (subject .entry))) (given named (now (element .entry))))) ⌝ }
 {
     let to = tag_lines(
         out,
@@ -126,7 +122,6 @@ pub fn node_lines<'a>(
         on,
         node,
         subject,
-        tagged,
         language,
         scratch,
         spans,
@@ -176,7 +171,6 @@ fn emit_property_attr<'a>(
     on: bool,
     node: Node,
     subject: &[u8],
-    tagged: bool,
     language: &[u8],
     scratch: &'a [u8],
     spans: &[u32],
@@ -185,7 +179,7 @@ fn emit_property_attr<'a>(
     classes: &[usize],
     roles: &[u8],
 ) -> usize
-    ensures { λ r. ⌜ Put on (now (out .entry)) (now (out .exit)) at r (write (attributeLines (subjectOf node (now (subject .entry))) (given tagged (now (language .entry))) (propertiesFrom (now (scratch .entry)) (now (spans .entry)) (now (work .entry)) (now (classes .entry)) (now (roles .entry)) j 1))) ⌝ }
+    ensures { λ r. ⌜ Put on (now (out .entry)) (now (out .exit)) at r (write (attributeLines (subjectOf node (now (subject .entry))) (languageOf (now (language .entry))) (propertiesFrom (now (scratch .entry)) (now (spans .entry)) (now (work .entry)) (now (classes .entry)) (now (roles .entry)) j 1))) ⌝ }
 {
     if !is_property(roles, j) {
         return at;
@@ -198,7 +192,6 @@ fn emit_property_attr<'a>(
         node,
         subject,
         space,
-        tagged,
         language,
         scratch,
         spans,
@@ -214,17 +207,16 @@ fn property_line(
     node: Node,
     subject: &[u8],
     space: &[u8],
-    tagged: bool,
     language: &[u8],
     scratch: &[u8],
     spans: &[u32],
     j: usize,
 ) -> usize
-    ensures { λ r. ⌜ Put on (now (out .entry)) (now (out .exit)) at r (line (triple (subjectOf node (now (subject .entry))) (now (space .entry) ++ localAt (now (scratch .entry)) (now (spans .entry)) j) (literalOf none (given tagged (now (language .entry))) (valueAt (now (scratch .entry)) (now (spans .entry)) j)))) ⌝ }
+    ensures { λ r. ⌜ Put on (now (out .entry)) (now (out .exit)) at r (line (triple (subjectOf node (now (subject .entry))) (now (space .entry) ++ localAt (now (scratch .entry)) (now (spans .entry)) j) (literalOf none (languageOf (now (language .entry))) (valueAt (now (scratch .entry)) (now (spans .entry)) j)))) ⌝ }
 {
     let local = start_names::local_of(scratch, spans, j);
     let value = start_names::value_of(scratch, spans, j);
-    let term = literal_kind(tagged);
+    let term = literal_kind(language);
     ntriples::line_behind(
         out,
         at,
@@ -251,11 +243,11 @@ fn is_property(roles: &[u8], j: usize) -> bool
 }
 
 // A text, with a tag where there is one.
-fn literal_kind(tagged: bool) -> Term
-    ensures { λ r. ⌜ r ≡ literalKind tagged ⌝ }
+fn literal_kind(language: &[u8]) -> Term
+    ensures { λ r. ⌜ r ≡ literalKind (now (language .entry)) ⌝ }
 {
-    if tagged {
-        return Term::Tagged;
+    if language.len() == 0 {
+        return Term::Plain;
     }
-    Term::Plain
+    Term::Tagged
 }

@@ -138,17 +138,6 @@ module _ (e w : List ℕ) (j : ℕ) {c : ℕ} {n : Bytes} (p : n ≡ nameAt e w 
   pub back-read : backOf c n ≡ backOf (colonAt w j) (nameAt e w j)
   back-read = rw (p, q .is)
 
--- ---- a piece of a slice: what there is of it
-
-module _ (s : List ℕ) (at n : ℕ) where
-  pub piece-none : length s < at → [] ≡ part s at n
-  unfolding part
-  piece-none h = sym (rw (drop-of-length-le s {i = at} (omega arith)) (take-nil n))
-
-  pub piece-end : length s - at < n → take (length s - at) (drop at s) ≡ part s at n
-  unfolding part
-  piece-end h = rest-of s at ∙ sym (take-all n (drop at s) (rw length-drop (omega arith)))
-
 -- ---- a name in two
 
 module _ (n : Bytes) (c : ℕ) where

@@ -155,27 +155,13 @@ impl Class {
     }
 }
 
-// The `n` bytes of `s` from `at` on; of a piece that runs past the end, what there is of it.
-pub fn piece(s: &[u8], at: usize, n: usize) -> &[u8]
-    ensures { λ r. ⌜ now r ≡ part (now (s .entry)) at n ⌝ }
-{
-    if s.len() < at {
-        return &s[0..0];
-    }
-    if s.len() - at < n {
-        return &s[at..];
-    }
-    let to = at + n;
-    &s[at..to]
-}
-
 // The name of attribute j as written, and its value.
 pub fn name_of<'a, 'b>(scratch: &'a [u8], spans: &'b [u32], j: usize) -> &'a [u8]
     ensures { λ r. ⌜ now r ≡ nameAt (now (scratch .entry)) (now (spans .entry)) j ⌝ }
 {
     let at = attribute_word(spans, j, 0);
     let n = attribute_word(spans, j, 1);
-    piece(scratch, at, n)
+    copy::piece(scratch, at, n)
 }
 
 pub fn value_of<'a, 'b>(scratch: &'a [u8], spans: &'b [u32], j: usize) -> &'a [u8]
@@ -184,7 +170,7 @@ pub fn value_of<'a, 'b>(scratch: &'a [u8], spans: &'b [u32], j: usize) -> &'a [u
     let at = attribute_word(spans, j, 0);
     let n = attribute_word(spans, j, 1);
     let v = attribute_word(spans, j, 3);
-    piece(scratch, at + n, v)
+    copy::piece(scratch, at + n, v)
 }
 
 // What stands before a name's colon, and what stands behind it: c is the colon's place plus 1, or 0 where there is none.
@@ -194,7 +180,7 @@ pub fn front_of(name: &[u8], c: usize) -> &[u8]
     if c == 0 {
         return &name[0..0];
     }
-    piece(name, 0, c - 1)
+    copy::piece(name, 0, c - 1)
 }
 
 pub fn back_of(name: &[u8], c: usize) -> &[u8]
@@ -327,13 +313,13 @@ pub fn element(
         Found::Unknown => Found::Unknown,
         Found::Xml => Found::Xml,
         Found::Own(at, size) => {
-            if piece(scratch, at, size).len() == 0 {
+            if copy::piece(scratch, at, size).len() == 0 {
                 return Found::Unknown;
             }
             Found::Own(at, size)
         }
         Found::Held(at, size) => {
-            if piece(work, at, size).len() == 0 {
+            if copy::piece(work, at, size).len() == 0 {
                 return Found::Unknown;
             }
             Found::Held(at, size)
@@ -516,8 +502,8 @@ pub fn space_of<'a>(class: Class, scratch: &'a [u8], work: &'a [u8], xml: &'a [u
         Class::Unknown => &scratch[0..0],
         Class::Unprefixed => &scratch[0..0],
         Class::Xml => xml,
-        Class::Own(at, n) => piece(scratch, at, n),
-        Class::Held(at, n) => piece(work, at, n),
+        Class::Own(at, n) => copy::piece(scratch, at, n),
+        Class::Held(at, n) => copy::piece(work, at, n),
     }
 }
 
@@ -650,7 +636,7 @@ fn prefix_at<'a>(work: &'a [u8], bindings: &[u32], i: usize) -> &'a [u8]
         let from = i * 3;
         return stretch(work, wide(bindings[from]), wide(bindings[from + 1]));
     }
-    piece(work, row_word(bindings, i, 0), row_word(bindings, i, 1))
+    copy::piece(work, row_word(bindings, i, 0), row_word(bindings, i, 1))
 }
 
 // The same as a piece, where `at` and `n` are words: one test tells whether all of it is there.
@@ -662,7 +648,7 @@ fn stretch(s: &[u8], at: usize, n: usize) -> &[u8]
     if to <= s.len() {
         return &s[at..to];
     }
-    piece(s, at, n)
+    copy::piece(s, at, n)
 }
 
 // The namespace that row i binds it to.

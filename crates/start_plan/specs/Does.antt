@@ -9,6 +9,7 @@ use lib.Dec.{eqb}
 use lib.ListN.{take}
 use Rattle.spec.specs.Bytes.{Bytes, if_then_else_, orElse, isSome, isEmpty}
 use Rattle.spec.specs.NTriples.{Subject, named, blank, label}
+use Rattle.spec.specs.XmlLang.{unsaid}
 use Rattle.spec.specs.Document.{Object, noObject, nodeObject, default, collection, literal, other, Property}
 use Rattle.spec.specs.Document.{Kind as What, rdfRDF, wrapper, nodeElement, propertyElement, Part, ordinary, Frame as Element}
 use Rattle.spec.specs.Pyx.{Attribute}
@@ -21,6 +22,8 @@ use Rattle.state_words.specs.declared.Kind.the-variants.{Rdf, NodeElt, Property
 use Rattle.state_words.specs.Words.{pick}
 use Rattle.state.specs.Meaning.{objectOf}
 use Rattle.start_names.specs.Tag.{attributesOf}
+use Rattle.state.specs.declared.language.Own.the-variants.{Unsaid}
+use Rattle.state.specs.Language.{ownIn}
 use Rattle.start_element.specs.declared.Source.{Source}
 use Rattle.start_element.specs.declared.Source.the-variants.{Missing, Own, Made}
 use Rattle.start_element.specs.declared.Parts.{Parts}
@@ -33,8 +36,8 @@ use Rattle.start_plan.specs.Plan.{isThere, madeLabel, subjectIn, objectI
 use Rattle.start_plan.specs.Says.{Says, there-is, node-subject, objectBy, object-means, no-object}
 
 -- no object, no part of one
-lacking : (r n : Source) (u : Bool) → objectIn (record { base = Missing; tag = Missing; node = n; id = Missing; about = Missing; resource = r; datatype = Missing }) u .what ≡ 0
-    → objectIn (record { base = Missing; tag = Missing; node = n; id = Missing; about = Missing; resource = r; datatype = Missing }) u .source ≡ Missing
+lacking : (r n : Source) (u : Bool) → objectIn (record { base = Missing; tag = Unsaid; node = n; id = Missing; about = Missing; resource = r; datatype = Missing }) u .what ≡ 0
+    → objectIn (record { base = Missing; tag = Unsaid; node = n; id = Missing; about = Missing; resource = r; datatype = Missing }) u .source ≡ Missing
 unfolding objectIn
 lacking (Own x z) n u h = absurd (omega arith)
 lacking (Made x z) n u h = absurd (omega arith)
@@ -50,11 +53,11 @@ lacking-object g u = lacking (g .resource) (g .node) u
 -- ---- the wrapper of a packet: n is its name
 
 unfoldable pub wrapperElement : Bytes → List Attribute → Element
-wrapperElement n as′ = record { name = n; bindings = declared as′; ownBase = none; ownTag = none; kind = wrapper false; part = ordinary }
+wrapperElement n as′ = record { name = n; bindings = declared as′; ownBase = none; ownTag = unsaid; kind = wrapper false; part = ordinary }
 
 pub wrapper-element : (e v : List ℕ) (m k : ℕ) (a : List ℕ) (n : ℕ) (s : Subject)
     → newElement e v m k a (wrapperPlan n .parts) s ≡ wrapperElement (take m e) (attributesOf e v k)
-unfolding wrapperElement newElement maybe kindIs partIs
+unfolding wrapperElement newElement maybe ownIn kindIs partIs
 wrapper-element e v m k a n s = refl
 
 pub wrapper-fitting : (n : ℕ) → Fitting (wrapperPlan n .parts)

@@ -13,6 +13,8 @@ use Rattle.spec.specs.Document.{Part, Doc, Property, languageInForce}
 use Rattle.spec.specs.Productions.{attributeLines, typeLine, statement}
 use Rattle.spec.specs.Opening.{countLi, enter, onOpening}
 use Rattle.state_ids.specs.Ids.{roomFor}
+use Rattle.spec.specs.XmlLang.{Language, inForce}
+use Rattle.state.specs.Language.{ownOfCode, isSaid}
 use Rattle.state.specs.declared.Registers.{Registers}
 use Rattle.state.specs.Meaning.{subjectBelow}
 use Rattle.start_names.specs.Tag.{attributesOf}
@@ -20,7 +22,7 @@ use Rattle.ntriples.specs.Terms.{idOf as given}
 use Rattle.start_attributes.specs.Properties.{propertiesFrom}
 use Rattle.start_element.specs.declared.Source.{Source}
 use Rattle.start_element.specs.Element.{textOf, maybe, nodeIs, newElement}
-use Rattle.start_element.specs.Laws.{Granted, CountedBy, NotedBy, noting, isGiven}
+use Rattle.start_element.specs.Laws.{Granted, CountedBy, NotedBy, noting}
 use Rattle.start_plan.specs.declared.Lines.{Lines}
 use Rattle.start_plan.specs.declared.Lines.the-variants.{Nothing, Node, Object, Resource}
 use Rattle.start_plan.specs.declared.Start.{Start}
@@ -28,7 +30,7 @@ use Rattle.start_plan.specs.Plan.{isThere}
 
 -- the lines of a start tag: of its own node m, with its element's type; of its object o; the statement of property p, whose object its node is.
 -- l is the language in force, ty its rdf:type
-unfoldable pub told : Lines → Subject → Subject → Option Bytes → List (Bytes × Bytes) → Option Bytes → Option Bytes → Property → List Triple
+unfoldable pub told : Lines → Subject → Subject → Language → List (Bytes × Bytes) → Option Bytes → Option Bytes → Property → List Triple
 told Nothing m o l as′ ty el p = []
 told Node m o l as′ ty el p = (attributeLines m l as′ ++ typeLine m ty) ++ typeLine m el
 told Object m o l as′ ty el p = attributeLines o l as′ ++ typeLine o ty
@@ -48,7 +50,7 @@ propertyOf x e a s = record { subject = s; iri = textOf (x .property) e a; id = 
 -- its lines by the plan, about or in the subject s, in a document d whose state has the work store w; cs, rs: the classes and roles of its attributes
 abbrev pub linesBy : Start → Doc → Subject → List ℕ → List ℕ → List ℕ → ℕ → List ℕ → List ℕ → List ℕ → List Triple
 linesBy x d s w e v k a cs rs =
-    told (x .plan .lines) (mainOf x e a) (objectOf x e a) (orElse (maybe (x .plan .parts .tag) e a) (languageInForce (d .frames))) (propertiesFrom e v w cs rs 0 k) (maybe (x .kind) e a)
+    told (x .plan .lines) (mainOf x e a) (objectOf x e a) (inForce (ownOfCode (x .plan .parts .tag) a) (languageInForce (d .frames))) (propertiesFrom e v w cs rs 0 k) (maybe (x .kind) e a)
     (given (x .named) (textOf (x .iri) e a)) (propertyOf x e a s)
 
 -- the document behind it by the plan: its element has the IRI i, and h is noted in the one around it
@@ -70,6 +72,6 @@ pub record Goes (x : Start) (d : Doc) (r : Registers) (fs bs w e v : List ℕ) (
   pub steps : onOpening (take m e) (attributesOf e v k) d
       ≡ good (linesBy x d (subjectBelow fs w (r .counts .depth)) w e v k a cs rs, behindBy x d iri notes (subjectBelow fs w (r .counts .depth)) e v m k a)
   pub counted : CountedBy r fs iri (x .li)
-  pub noted : NotedBy notes (noting (r .mode .xmp) (x .li) (textOf (x .plan .parts .main) e a) (isGiven (x .plan .parts .tag))) (d .frames)
+  pub noted : NotedBy notes (noting (r .mode .xmp) (x .li) (textOf (x .plan .parts .main) e a) (isSaid (x .plan .parts .tag))) (d .frames)
   pub granted : Granted r fs bs w e v m k a (x .plan .parts) (x .li) (x .plan .labels)
   pub room : isThere (x .id) ≡ true → roomFor count used (length (textOf (x .id) e a)) ≡ true

@@ -7,6 +7,7 @@ use borrow.Author.Tests.{eq-eqb, ne-eqb}
 use Rattle.state_words.specs.declared.Kind.{Kind}
 use Rattle.state_words.specs.declared.Kind.the-variants.{Rdf, NodeElt, PropertyElt, ParseTypeCollectionPropertyElt, ParseTypeLiteralPropertyElt, ParseTypeOtherPropertyElt, Wrapper}
 use Rattle.state_words.specs.Words.{pick}
+use Rattle.state.specs.declared.language.Own.the-variants.{Unsaid}
 use Rattle.start_element.specs.declared.Source.{Source}
 use Rattle.start_element.specs.declared.Source.the-variants.{Missing, Own, Made}
 use Rattle.start_element.specs.declared.Parts.{Parts}
@@ -52,7 +53,7 @@ rootPlan g n labels =
 abbrev pub wrapperPlan : ℕ → Plan
 wrapperPlan labels =
     record {
-      parts = record { kind = Wrapper; blank = false; base = Missing; tag = Missing; main = Missing; id = Missing; datatype = Missing; what = 0; object = Missing };
+      parts = record { kind = Wrapper; blank = false; base = Missing; tag = Unsaid; main = Missing; id = Missing; datatype = Missing; what = 0; object = Missing };
       lines = Nothing;
       labels = labels;
     }

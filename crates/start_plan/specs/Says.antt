@@ -16,8 +16,10 @@ use Rattle.copy.specs.Copy.{part}
 use Rattle.state_words.specs.declared.Kind.{Kind}
 use Rattle.state_words.specs.declared.Kind.the-variants.{Rdf, NodeElt, PropertyElt, ParseTypeCollectionPropertyElt, ParseTypeLiteralPropertyElt, ParseTypeOtherPropertyElt, Wrapper}
 use Rattle.state_words.specs.Words.{pick}
+use Rattle.state.specs.Language.{ownOfCode}
 use Rattle.state.specs.Meaning.{objectOf}
 use Rattle.start_names.specs.Tag.{attributesOf}
+use Rattle.state.specs.declared.language.Own.the-variants.{Unsaid}
 use Rattle.start_element.specs.declared.Source.{Source}
 use Rattle.start_element.specs.declared.Source.the-variants.{Missing, Own, Made}
 use Rattle.start_element.specs.declared.Parts.{Parts}
@@ -30,7 +32,7 @@ use Rattle.start_plan.specs.Plan.{isThere, madeLabel, labelled, subjectI
 -- what the parts say is what the tag t says
 pub record Says (g : Given) (e a : List ℕ) (t : Tag) : Type 0 where
   pub base : maybe (g .base) e a ≡ t .ownBase
-  pub tag : maybe (g .tag) e a ≡ t .ownTag
+  pub tag : ownOfCode (g .tag) a ≡ t .ownTag
   pub node : maybe (g .node) e a ≡ t .nodeID
   pub id : maybe (g .id) e a ≡ t .id
   pub about : maybe (g .about) e a ≡ t .about
@@ -60,8 +62,8 @@ there-is (Made i n) e a = refl
 -- ---- a node's subject
 
 module _ (e a : List ℕ) (l : Bytes) (made : part a 6144 12 ≡ l) where
-  subject-cases : (i b n : Source) → nodeIs (eqb (subjectIn (record { base = Missing; tag = Missing; node = n; id = i; about = b; resource = Missing; datatype = Missing }) .what) 2)
-      (textOf (subjectIn (record { base = Missing; tag = Missing; node = n; id = i; about = b; resource = Missing; datatype = Missing }) .source) e a)
+  subject-cases : (i b n : Source) → nodeIs (eqb (subjectIn (record { base = Missing; tag = Unsaid; node = n; id = i; about = b; resource = Missing; datatype = Missing }) .what) 2)
+      (textOf (subjectIn (record { base = Missing; tag = Unsaid; node = n; id = i; about = b; resource = Missing; datatype = Missing }) .source) e a)
       ≡ subjectOf (orElse (maybe i e a) (maybe b e a)) (maybe n e a) l
   unfolding subjectIn nodeIs textOf maybe orElse subjectOf
   subject-cases (Own x y) b n = refl
@@ -87,8 +89,8 @@ objectBy none none true l = nodeObject (blank l)
 objectBy none none false l = noObject
 
 module _ (e a : List ℕ) (l : Bytes) (made : part a 6144 12 ≡ l) where
-  object-cases : (r n : Source) (t : Bool) → objectOf (objectIn (record { base = Missing; tag = Missing; node = n; id = Missing; about = Missing; resource = r; datatype = Missing }) t .what)
-      (textOf (objectIn (record { base = Missing; tag = Missing; node = n; id = Missing; about = Missing; resource = r; datatype = Missing }) t .source) e a)
+  object-cases : (r n : Source) (t : Bool) → objectOf (objectIn (record { base = Missing; tag = Unsaid; node = n; id = Missing; about = Missing; resource = r; datatype = Missing }) t .what)
+      (textOf (objectIn (record { base = Missing; tag = Unsaid; node = n; id = Missing; about = Missing; resource = r; datatype = Missing }) t .source) e a)
       ≡ objectBy (maybe r e a) (maybe n e a) t l
   unfolding objectIn objectOf textOf maybe objectBy
   object-cases (Own x y) n t = refl
@@ -106,8 +108,8 @@ module _ (e a : List ℕ) (l : Bytes) (made : part a 6144 12 ≡ l) where
 -- the same as a subject, where there is one; l is the label made, where one is taken
 module _ (e a : List ℕ) (l : Bytes) where
   node-cases : (r n : Source) (t : Bool) → (isThere r || isThere n || t) ≡ true → (isThere r ≡ false → isThere n ≡ false → part a 6144 12 ≡ l)
-      → nodeIs (eqb (objectIn (record { base = Missing; tag = Missing; node = n; id = Missing; about = Missing; resource = r; datatype = Missing }) t .what) 2)
-      (textOf (objectIn (record { base = Missing; tag = Missing; node = n; id = Missing; about = Missing; resource = r; datatype = Missing }) t .source) e a)
+      → nodeIs (eqb (objectIn (record { base = Missing; tag = Unsaid; node = n; id = Missing; about = Missing; resource = r; datatype = Missing }) t .what) 2)
+      (textOf (objectIn (record { base = Missing; tag = Unsaid; node = n; id = Missing; about = Missing; resource = r; datatype = Missing }) t .source) e a)
       ≡ subjectOf (maybe r e a) (maybe n e a) l
   unfolding objectIn nodeIs textOf maybe subjectOf
   node-cases (Own x y) n t h m = refl
@@ -127,7 +129,7 @@ module _ (e a : List ℕ) (l : Bytes) where
       rw (← (s .resource), ← (s .node)) (node-cases (g .resource) (g .node) u (rw (← x, ← y) h) (λ p q. m (x ∙ p) (y ∙ q)))
 
 -- is there one?
-object-there : (r n : Source) (t : Bool) → eqb (objectIn (record { base = Missing; tag = Missing; node = n; id = Missing; about = Missing; resource = r; datatype = Missing }) t .what) 0
+object-there : (r n : Source) (t : Bool) → eqb (objectIn (record { base = Missing; tag = Unsaid; node = n; id = Missing; about = Missing; resource = r; datatype = Missing }) t .what) 0
     ≡ not (isThere r || isThere n || t)
 unfolding objectIn
 object-there (Own x y) n t = refl

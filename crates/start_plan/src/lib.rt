@@ -4,12 +4,14 @@ ghost use Rattle.start_plan.specs.Plan.{subjectIn, objectIn, rootPlan, w
 use start_element::Parts;
 use start_element::Source;
 use start_references::reference::Area;
+use state::language::Own;
 use state_words::Kind;
 
-// What a start tag says, each thing where it stands: own xml:base and xml:lang, rdf:nodeID; resolved rdf:ID, rdf:about, rdf:resource, rdf:datatype.
+// What a start tag says, each thing where it stands: own xml:base, its language, rdf:nodeID; resolved rdf:ID, rdf:about, rdf:resource,
+// rdf:datatype.
 pub struct Given {
     pub base: Source,
-    pub tag: Source,
+    pub tag: Own,
     pub node: Source,
     pub id: Source,
     pub about: Source,
@@ -81,7 +83,7 @@ pub fn wrapper(labels: u64) -> Plan
             kind: Kind::Wrapper,
             blank: false,
             base: Source::Missing,
-            tag: Source::Missing,
+            tag: Own::Unsaid,
             main: Source::Missing,
             id: Source::Missing,
             datatype: Source::Missing,

@@ -129,7 +129,7 @@ fn base_of<'a>(
     if j < k {
         return start_names::value_of(scratch, spans, j);
     }
-    start_names::piece(work, f.at, f.len)
+    copy::piece(work, f.at, f.len)
 }
 
 // rdf:ID (11, 12), then the others (11), among which the order does not show.
@@ -204,7 +204,7 @@ fn is_used(
             starts,
             sizes,
             ids,
-            start_names::piece(area, Area::ID, n),
+            copy::piece(area, Area::ID, n),
         ),
     }
 }

@@ -5,9 +5,9 @@ use mathlib.Core.Bool.{Bool, true, false, false≢true, not}
 use mathlib.Core.Option.{Option, none, some}
 use mathlib.Core.List.{List, [], _∷_, _++_}
 use native.Mathlib.Omega.{arith}
-use lib.Dec.{leb, ltb}
-use lib.ListN.{length, getD}
-use borrow.Author.Tests.{le-leb, lt-leb, leb-true, leb-false, lt-ltb, le-ltb, not-true, not-false}
+use lib.Dec.{eqb, leb, ltb}
+use lib.ListN.{length, getD, take, drop}
+use borrow.Author.Tests.{eq-eqb, ne-eqb, eqb-true, le-leb, lt-leb, leb-true, leb-false, lt-ltb, le-ltb, not-true, not-false}
 use Rattle.spec.specs.Bytes.{Bytes, isSome, present}
 use Rattle.spec.specs.Limits.{mostNameBytes, mostHeldBytes}
 use Rattle.spec.proofs.Booleans.{and-left, and-right}
@@ -15,6 +15,8 @@ use Rattle.spec.specs.Numbers.{Answer, refuse, good}
 use Rattle.spec.specs.Document.{Doc}
 use Rattle.spec.specs.StartTag as S
 use Rattle.copy.specs.Copy.{part}
+use Rattle.state.specs.Language.{saidIf, ownOfCode}
+use Rattle.state.specs.declared.language.Own as code
 use Rattle.state_words.specs.Words.{pick}
 use Rattle.state_words.specs.Kept.{Kept}
 use Rattle.start_names.specs.Tag.{startAt, sizeAt, valueSizeAt, valueAt}
@@ -29,7 +31,7 @@ use Rattle.start_plan.specs.declared.Given.{Given}
 use Rattle.start_plan.specs.Plan.{isThere}
 use Rattle.start_plan.specs.Says.{Says}
 use Rattle.start_tag.specs.declared.reading.Tag.{Tag}
-use Rattle.start_tag.specs.Made.{shortIf, refers-short}
+use Rattle.start_tag.specs.Made.{shortIf, refers-short, tag-says}
 use Rattle.start_tag.specs.Tag.{Tells}
 
 abbrev pub madeAt : ℕ → Reference → Source
@@ -41,12 +43,9 @@ madeAt at (reference.Made n) = Made at n
 unfoldable pub valueAtPlace : List ℕ → ℕ → ℕ → Source
 valueAtPlace w j k = pick (ltb j k) (Own (startAt w j + sizeAt w j) (valueSizeAt w j)) Missing
 
-unfoldable pub tagAtPlace : List ℕ → List ℕ → ℕ → ℕ → Source
-tagAtPlace e w j k = pick (ltb j k) (Made 6224 (length (valueAt e w j))) Missing
-
-pub record Gives (t : Tag) (e w : List ℕ) (k : ℕ) (g : Given) : Type 0 where
+pub record Gives (t : Tag) (w : List ℕ) (k : ℕ) (g : Given) : Type 0 where
   pub base : g .base ≡ valueAtPlace w (t .base) k
-  pub tag : g .tag ≡ tagAtPlace e w (t .language) k
+  pub tag : g .tag ≡ t .language
   pub node : g .node ≡ valueAtPlace w (t .node) k
   pub id : g .id ≡ madeAt 0 (t .id)
   pub about : g .about ≡ madeAt 1024 (t .about)
@@ -91,15 +90,6 @@ unfolding valueIf given isSome
 value-given e w k j = go (ltb j k)
   where
     go : (t : Bool) → isSome (pick t (some (valueAt e w j)) none) ≡ t
-    go true = refl
-    go false = refl
-
--- the language
-pub tag-says : (e a w : List ℕ) (j k : ℕ) → maybe (tagAtPlace e w j k) e a ≡ given (ltb j k) (part a 6224 (length (valueAt e w j)))
-unfolding maybe tagAtPlace given
-tag-says e a w j k = go (ltb j k)
-  where
-    go : (t : Bool) → maybe (pick t (Made 6224 (length (valueAt e w j))) Missing) e a ≡ pick t (some (part a 6224 (length (valueAt e w j)))) none
     go true = refl
     go false = refl
 
@@ -170,13 +160,13 @@ module _ {t : Tag} {e w : List ℕ} {m k : ℕ} {v cs rs a : List ℕ} {d : Doc}
   all-short : Shorts (y .is)
   all-short = shorts (y .is) (sym (y .short) ∙ short)
 
-  pub given-says : {g : Given} → Gives t e w k g → Says g e b (y .is)
+  pub given-says : {g : Given} → Gives t w k g → Says g e b (y .is)
   unfolding mostHeldBytes
   given-says {g} x =
       let z = all-short in
       record {
         base = ap (λ (s : Source). maybe s e b) (x .base) ∙ (value-says e b w (t .base) k ∙ sym (y .ownBase));
-        tag = ap (λ (s : Source). maybe s e b) (x .tag) ∙ (tag-says e b w (t .language) k ∙ (kept-tag ∙ sym (y .ownTag)));
+        tag = ap (λ (o : code.Own). ownOfCode o b) (x .tag ∙ y .said) ∙ (tag-says e b w (y .place) k ∙ (kept-tag ∙ sym (y .ownTag)));
         node = ap (λ (s : Source). maybe s e b) (x .node) ∙ (value-says e b w (t .node) k ∙ sym (y .nodeID));
         id = ap (λ (s : Source). maybe s e b) (x .id) ∙ reference-says e 0 (y .is .id) (t .id) (y .id) kp (omega arith) (z .id);
         about = ap (λ (s : Source). maybe s e b) (x .about) ∙ reference-says e 1024 (y .is .about) (t .about) (y .about) kp (omega arith) (z .about);
@@ -184,8 +174,8 @@ module _ {t : Tag} {e w : List ℕ} {m k : ℕ} {v cs rs a : List ℕ} {d : Doc}
         datatype = ap (λ (s : Source). maybe s e b) (x .datatype) ∙ reference-says e 3072 (y .is .datatype) (t .datatype) (y .datatype) kp (omega arith) (z .datatype);
       }
     where
-      kept-tag : given (ltb (t .language) k) (part b 6224 (length (valueAt e w (t .language)))) ≡ given (ltb (t .language) k) (part a 6224 (length (valueAt e w (t .language))))
-      kept-tag = ap (given (ltb (t .language) k)) (kp .behind .parts 6224 (length (valueAt e w (t .language))) (omega arith) (omega (arith, kp .room, value-most e w (t .language), ev)))
+      kept-tag : saidIf (ltb (y .place) k) (part b 6224 (length (valueAt e w (y .place)))) ≡ saidIf (ltb (y .place) k) (part a 6224 (length (valueAt e w (y .place))))
+      kept-tag = ap (saidIf (ltb (y .place) k)) (kp .behind .parts 6224 (length (valueAt e w (y .place))) (omega arith) (omega (arith, kp .room, value-most e w (y .place), ev)))
 
   -- and so do its rdf:type and its element's IRI
   pub kind-says : maybe (madeAt 4096 (t .kind)) e b ≡ y .is .type
@@ -207,11 +197,3 @@ module _ (e w : List ℕ) (j k : ℕ) where
   pub value-there : {a b c : ℕ} → j < k → a ≡ startAt w j → b ≡ sizeAt w j → c ≡ valueSizeAt w j → Own (a + b) c ≡ valueAtPlace w j k
   unfolding valueAtPlace
   value-there h p q s = rw (lt-ltb j k h, p, q, s)
-
-  pub no-tag : k ≤ j → Missing ≡ tagAtPlace e w j k
-  unfolding tagAtPlace
-  no-tag h = rw (le-ltb j k h)
-
-  pub tag-there : {s : Bytes} → j < k → s ≡ valueAt e w j → Made 6224 (length s) ≡ tagAtPlace e w j k
-  unfolding tagAtPlace
-  tag-there h q = rw (lt-ltb j k h, q)

@@ -26,6 +26,9 @@ use Rattle.spec.specs.Xmp.{startsWrapper, keeps, newPart, noted}
 use Rattle.spec.specs.Opening.{enter, opened, modeRules, underRules, onOpening}
 use Rattle.spec.specs.RdfXml.{onEvent}
 use Rattle.state_ids.specs.Ids.{idsOf, roomFor}
+use Rattle.spec.specs.XmlLang.{Own, inForce}
+use Rattle.state.specs.Language.{ownOfCode, isSaid}
+use Rattle.state.specs.declared.language.Own as code
 use Rattle.state.specs.declared.Registers.{Registers}
 use Rattle.state.specs.Meaning.{subjectBelow, elementsOf, docOf}
 use Rattle.state.specs.Valid.{stands}
@@ -38,7 +41,7 @@ use Rattle.start_element.specs.declared.Source.{Source}
 use Rattle.start_element.specs.declared.Source.the-variants as source
 use Rattle.start_element.specs.Element.{textOf, maybe, newElement, Fitting}
 use Rattle.start_element.specs.Sizes.{Measures}
-use Rattle.start_element.specs.Laws.{ready-valid, Counts, CountedBy, NotedBy, noting, isGiven}
+use Rattle.start_element.specs.Laws.{ready-valid, Counts, CountedBy, NotedBy, noting}
 use Rattle.state_stack.specs.Change.{flat}
 use Rattle.start_plan.specs.declared.Start.{Start}
 use Rattle.start_plan.specs.declared.Plan.{Plan}
@@ -191,7 +194,7 @@ short-id {s} z i q = leb-true (length i) mostNameBytes (sym (ap shortIf q) ∙ z
 
 module _ {t : Tag} {r : Registers} {count used : ℕ} {fs bs is w ia il st e v : List ℕ} {m k : ℕ} {cs rs a : List ℕ} (y : Known t r count used fs bs is w ia il st e v m k cs rs a)
     (kept : keeps (r .mode .xmp) (elementsOf r fs bs is w) (y .tells .is) ≡ true) {o : Opened} (pr : productionIn (placeIn (elementsOf r fs bs is w)) (y .tells .is) (r .counts .labels) ≡ good o) (short : t .short ≡ true)
-    {b : List ℕ} (kp : Keeps a b) (ev : length e ≤ 32_768) {g : Given} (gv : Gives t e v k g) {p : Plan} (pb : p .parts .base ≡ g .base) (pt : p .parts .tag ≡ g .tag)
+    {b : List ℕ} (kp : Keeps a b) (ev : length e ≤ 32_768) {g : Given} (gv : Gives t v k g) {p : Plan} (pb : p .parts .base ≡ g .base) (pt : p .parts .tag ≡ g .tag)
     (d : Does p e b (subjectBelow fs w (r .counts .depth)) o (newPart (r .mode .xmp) (placeIn (elementsOf r fs bs is w)) (y .tells .is .iri))) where
   says : Says g e b (y .tells .is)
   says = given-says (y .tells) short kp ev gv
@@ -199,8 +202,8 @@ module _ {t : Tag} {r : Registers} {count used : ℕ} {fs bs is w ia il st e v :
   base-says : maybe (p .parts .base) e b ≡ y .tells .is .ownBase
   base-says = ap (λ (s : Source). maybe s e b) pb ∙ says .base
 
-  tag-says-own : maybe (p .parts .tag) e b ≡ y .tells .is .ownTag
-  tag-says-own = ap (λ (s : Source). maybe s e b) pt ∙ says .tag
+  tag-says-own : ownOfCode (p .parts .tag) b ≡ y .tells .is .ownTag
+  tag-says-own = ap (λ (o : code.Own). ownOfCode o b) pt ∙ says .tag
 
   id-says : maybe (madeAt 0 (t .id)) e b ≡ y .tells .is .id
   id-says = ap (λ (s : Source). maybe s e b) (sym (gv .id)) ∙ says .id
@@ -209,7 +212,7 @@ module _ {t : Tag} {r : Registers} {count used : ℕ} {fs bs is w ia il st e v :
   unfolding newElement
   element-is = made (y .tells .name) (y .tells .bindings) (sym base-says) (sym tag-says-own) (sym (d .kind)) (sym (d .part))
     where
-      made : {n₁ n₂ : Bytes} {b₁ b₂ : List Binding} {x₁ x₂ z₁ z₂ : Option Bytes} {k₁ k₂ : What} {q₁ q₂ : Part} → n₁ ≡ n₂ → b₁ ≡ b₂ → x₁ ≡ x₂ → z₁ ≡ z₂ → k₁ ≡ k₂ → q₁ ≡ q₂
+      made : {n₁ n₂ : Bytes} {b₁ b₂ : List Binding} {x₁ x₂ : Option Bytes} {z₁ z₂ : Own} {k₁ k₂ : What} {q₁ q₂ : Part} → n₁ ≡ n₂ → b₁ ≡ b₂ → x₁ ≡ x₂ → z₁ ≡ z₂ → k₁ ≡ k₂ → q₁ ≡ q₂
           → _≡_ {A = Element} (record { name = n₁; bindings = b₁; ownBase = x₁; ownTag = z₁; kind = k₁; part = q₁ }) (record { name = n₂; bindings = b₂; ownBase = x₂; ownTag = z₂; kind = k₂; part = q₂ })
       made p₁ p₂ p₃ p₄ p₅ p₆ = rw (p₁, p₂, p₃, p₄, p₅, p₆)
 
@@ -217,7 +220,7 @@ module _ {t : Tag} {r : Registers} {count used : ℕ} {fs bs is w ia il st e v :
   pub record Carries (li named : Bool) (property : Source) : Type 0 where
     pub typed : named ≡ not (same (y .tells .is .iri) (rdf "Description"))
     pub counted : CountedBy r fs (y .tells .is .iri) li
-    pub noted : NotedBy (noted (r .mode .xmp) (y .tells .is)) (noting (r .mode .xmp) li (textOf (p .parts .main) e b) (isGiven (p .parts .tag))) (elementsOf r fs bs is w)
+    pub noted : NotedBy (noted (r .mode .xmp) (y .tells .is)) (noting (r .mode .xmp) li (textOf (p .parts .main) e b) (isSaid (p .parts .tag))) (elementsOf r fs bs is w)
     pub brief : r .mode .xmp ≡ true → length (textOf (p .parts .main) e b) ≤ 1_024
     pub numbered : li ≡ true → Counts r fs
     pub few : p .labels ≤ 99_999_999
@@ -234,7 +237,7 @@ module _ {t : Tag} {r : Registers} {count used : ℕ} {fs bs is w ia il st e v :
       made (c .lines ∙ written) element-is (sym (d .labels)) (ap (λ (i : Option Bytes). enter i (idsOf ia il st count)) (sym id-says))
     where
       written : told (p .lines) (mainOf (startBy p t li named property) e b) (objectOf (startBy p t li named property) e b) (y .tells .is .language) (y .tells .is .attributes) (y .tells .is .type) (elementType (y .tells .is .iri)) (propertyOf (startBy p t li named property) e b (subjectBelow fs w (r .counts .depth)))
-          ≡ told (p .lines) (mainOf (startBy p t li named property) e b) (objectOf (startBy p t li named property) e b) (orElse (maybe (p .parts .tag) e b) (languageInForce (elementsOf r fs bs is w))) (propertiesFrom e v w cs rs 0 k) (maybe (madeAt 4096 (t .kind)) e b) (given named (textOf (madeAt 5120 (t .iri)) e b)) (propertyOf (startBy p t li named property) e b (subjectBelow fs w (r .counts .depth)))
+          ≡ told (p .lines) (mainOf (startBy p t li named property) e b) (objectOf (startBy p t li named property) e b) (inForce (ownOfCode (p .parts .tag) b) (languageInForce (elementsOf r fs bs is w))) (propertiesFrom e v w cs rs 0 k) (maybe (madeAt 4096 (t .kind)) e b) (given named (textOf (madeAt 5120 (t .iri)) e b)) (propertyOf (startBy p t li named property) e b (subjectBelow fs w (r .counts .depth)))
       written =
           let typed : given named (textOf (madeAt 5120 (t .iri)) e b) ≡ elementType (y .tells .is .iri) = ap (given named) (text-of (madeAt 5120 (t .iri)) e b (iri-says (y .tells) short kp ev)) ∙ element-type (y .tells .is .iri) (c .typed) in
           rw (typed, kind-says (y .tells) short kp ev, tag-says-own, y .tells .language, y .tells .attributes ∙ properties (y .tells .roles))

@@ -3,11 +3,11 @@ use Prim.Native.Nat.{ℕ, _+_, _-_, _<_, _≤_}
 use mathlib.Core.Path.{_≡_, refl, sym, ap, _∙_}
 use mathlib.Core.Bool.{Bool, true, false, _&&_, not, false≢true}
 use mathlib.Core.Option.{Option, none, some}
-use mathlib.Core.List.{List, _++_, map}
+use mathlib.Core.List.{List, [], _∷_, _++_, map}
 use native.Mathlib.Omega.{arith}
-use lib.Dec.{leb, ltb}
-use lib.ListN.{length, drop, length-append, length-take, length-map}
-use borrow.Author.Tests.{le-leb, lt-leb, lt-ltb, le-ltb, leb-true, leb-false}
+use lib.Dec.{eqb, leb, ltb}
+use lib.ListN.{length, take, drop, length-append, length-take, length-map}
+use borrow.Author.Tests.{eq-eqb, ne-eqb, eqb-true, le-leb, lt-leb, lt-ltb, le-ltb, leb-true, leb-false}
 use Rattle.spec.specs.Bytes.{Bytes, every}
 use Rattle.spec.specs.Numbers.{Answer, refuse, good}
 use Rattle.spec.specs.declared.Refusal.the-variants.{NoNamespace}
@@ -16,6 +16,11 @@ use Rattle.spec.specs.Abnf.{lower}
 use Rattle.spec.specs.Namespaces.{xmlName}
 use Rattle.spec.specs.StartTag.{xml-base, xml-lang, rdf-nodeID, rdf-parseType, property}
 use Rattle.copy.specs.Copy.{part, Put, Wrote, put-fits, then as row, wrote-part}
+use Rattle.spec.specs.XmlLang.{unsaid}
+use Rattle.state.specs.Language.{saidAs, saidIf, ownIn, tagOfOwn, ownOfCode, isSaid}
+use Rattle.state.specs.declared.language.Own as code
+use Rattle.state.specs.declared.language.Own.the-variants.{Unsaid, Cleared, Given}
+use Rattle.state_words.specs.Words.{pick}
 use Rattle.state_words.specs.Kept.{Kept, kept-all, kept-before, kept-then, kept-less}
 use Rattle.start_names.specs.declared.Found.{Found}
 use Rattle.start_names.specs.declared.Found.the-variants.{Unknown, Xml, Own, Held}
@@ -112,27 +117,68 @@ pub record RoomToMake (e area : List ℕ) : Type 0 where
   pub event : length e ≤ 32_768
   pub room : mostHeldBytes ≤ length area
 
--- xml:lang is at place j of k
-pub record Lowered (e w : List ℕ) (k j : ℕ) (area after : List ℕ) : Type 0 where
+-- what the code says of xml:lang at place j of k: its value in lower case is at 6224
+unfoldable pub tagAtPlace : List ℕ → List ℕ → ℕ → ℕ → code.Own
+tagAtPlace e w j k = pick (ltb j k) (pick (eqb (length (valueAt e w j)) 0) Cleared (Given 6224 (length (valueAt e w j)))) Unsaid
+
+pub record MadeLanguage (e w : List ℕ) (k j : ℕ) (area after : List ℕ) (o : code.Own) : Type 0 where
+  pub own : o ≡ tagAtPlace e w j k
   pub tag : j < k → part after 6224 (length (valueAt e w j)) ≡ map lower (valueAt e w j)
   pub before : Kept area after 0 6224
   pub same : length after ≡ length area
 
-pub no-language : (e w : List ℕ) {k j : ℕ} {area : List ℕ} → k ≤ j → Lowered e w k j area area
-no-language e w h = record { tag = λ l. absurd (omega arith); before = kept-all; same = refl }
+module _ (e w : List ℕ) {k j : ℕ} {area : List ℕ} where
+  pub language-unsaid : k ≤ j → MadeLanguage e w k j area area Unsaid
+  unfolding tagAtPlace
+  language-unsaid h = record { own = rw (le-ltb j k h); tag = λ l. absurd (omega arith); before = kept-all; same = refl }
 
-pub language-lowered : (e w : List ℕ) {k j : ℕ} {area after : List ℕ} {s : Bytes} {t : Bool} → RoomToMake e area → s ≡ valueAt e w j → Put area 6224 (map lower s) after t
-    → Lowered e w k j area after
-unfolding mostHeldBytes
-language-lowered e w {k} {j} {area} {after} {s} m q p =
-    let z : length (map lower s) ≡ length s = length-map s lower in
-    let y : length s ≡ length (valueAt e w j) = ap length q in
-    let wr = put-fits p (omega (arith, m .event, m .room, value-most e w j)) in
-    record {
-      tag = λ l. rw (← y, ← z) (wrote-part wr ∙ rw q);
-      before = kept-before wr;
-      same = p .same;
-    }
+  pub language-cleared : {s : Bytes} → j < k → s ≡ valueAt e w j → length s ≡ 0 → MadeLanguage e w k j area area Cleared
+  unfolding tagAtPlace part
+  language-cleared {s} h q z =
+      record {
+        own = rw (lt-ltb j k h, ← q, eq-eqb (length s) 0 z);
+        tag = λ l. rw (← q) (nothing s z);
+        before = kept-all;
+        same = refl;
+      }
+    where
+      nothing : (s : Bytes) → length s ≡ 0 → take (length s) (drop 6224 area) ≡ map lower s
+      nothing [] z = refl
+      nothing (c ∷ s) z = absurd (omega arith)
+
+  pub language-lowered : {after : List ℕ} {s : Bytes} {t : Bool} → RoomToMake e area → j < k → s ≡ valueAt e w j → (length s ≡ 0 → ⊥) → Put area 6224 (map lower s) after t
+      → MadeLanguage e w k j area after (Given 6224 (length s))
+  unfolding tagAtPlace mostHeldBytes
+  language-lowered {after} {s} m h q n p =
+      let z : length (map lower s) ≡ length s = length-map s lower in
+      let y : length s ≡ length (valueAt e w j) = ap length q in
+      let wr = put-fits p (omega (arith, m .event, m .room, value-most e w j)) in
+      record {
+        own = rw (lt-ltb j k h, ← q, ne-eqb (length s) 0 n);
+        tag = λ l. rw (← y, ← z) (wrote-part wr ∙ rw q);
+        before = kept-before wr;
+        same = p .same;
+      }
+
+-- what it says, in the definitions' words
+pub tag-says : (e a w : List ℕ) (j k : ℕ) → ownOfCode (tagAtPlace e w j k) a ≡ saidIf (ltb j k) (part a 6224 (length (valueAt e w j)))
+unfolding tagAtPlace ownIn tagOfOwn saidIf part
+tag-says e a w j k = go (ltb j k) (eqb (length (valueAt e w j)) 0) refl
+  where
+    go : (t z : Bool) → eqb (length (valueAt e w j)) 0 ≡ z
+        → ownOfCode (pick t (pick z Cleared (Given 6224 (length (valueAt e w j)))) Unsaid) a ≡ pick t (saidAs (take (length (valueAt e w j)) (drop 6224 a))) unsaid
+    go true true e = rw (eqb-true (length (valueAt _ w j)) 0 e)
+    go true false e = refl
+    go false z e = refl
+
+pub said-there : (e w : List ℕ) (j k : ℕ) → isSaid (tagAtPlace e w j k) ≡ ltb j k
+unfolding tagAtPlace
+said-there e w j k = go (ltb j k) (eqb (length (valueAt e w j)) 0)
+  where
+    go : (t z : Bool) → isSaid (pick t (pick z Cleared (Given 6224 (length (valueAt e w j)))) Unsaid) ≡ t
+    go true true = refl
+    go true false = refl
+    go false z = refl
 
 -- ---- is all of it short?
 
@@ -159,7 +205,7 @@ refers-short area at o (Made n) h =
 pub record Finished (f : Found) (name : Bytes) (c : ℕ) (e w : List ℕ) (k : ℕ) (v cs rs : List ℕ) (r : References) (area after : List ℕ) (t : Tag) : Type 0 where
   pub iri : Refers (t .iri) after 5120 (iriOf (foundBytes e v f) (backOf c name))
   pub base : t .base ≡ firstIn rs k xml-base
-  pub language : t .language ≡ firstIn rs k xml-lang
+  pub language : t .language ≡ tagAtPlace e w (firstIn rs k xml-lang) k
   pub node : t .node ≡ firstIn rs k rdf-nodeID
   pub parse : t .parse ≡ firstIn rs k rdf-parseType
   pub properties : t .properties ≡ ltb (firstIn rs k property) k
@@ -169,23 +215,23 @@ pub record Finished (f : Found) (name : Bytes) (c : ℕ) (e w : List ℕ) (k : �
   pub datatype : t .datatype ≡ r .others .datatype
   pub kind : t .kind ≡ r .others .kind
   pub short : t .short ≡ shortBy (t .iri) (every (shortAt e w v cs) (places 0 k)) (valueIf e w k (t .base)) r
-  pub lowered : t .language < k → part after 6224 (length (valueAt e w (t .language))) ≡ map lower (valueAt e w (t .language))
+  pub lowered : firstIn rs k xml-lang < k → part after 6224 (length (valueAt e w (firstIn rs k xml-lang))) ≡ map lower (valueAt e w (firstIn rs k xml-lang))
   pub before : Kept area after 0 5120
   pub same : length after ≡ length area
 
 -- from what each part made
 pub finished : {f : Found} {name : Bytes} {c : ℕ} {e w : List ℕ} {k : ℕ} {v cs rs : List ℕ} {r : References} {area b after : List ℕ} {iri : Reference}
-    {base language node parse other : ℕ} {short : Bool}
-    → Resolves (iriOf (foundBytes e v f) (backOf c name)) area b 5120 iri → Lowered e w k language b after
-    → base ≡ firstIn rs k xml-base → language ≡ firstIn rs k xml-lang → node ≡ firstIn rs k rdf-nodeID → parse ≡ firstIn rs k rdf-parseType → other ≡ firstIn rs k property
+    {base place node parse other : ℕ} {language : code.Own} {short : Bool}
+    → Resolves (iriOf (foundBytes e v f) (backOf c name)) area b 5120 iri → MadeLanguage e w k place b after language
+    → base ≡ firstIn rs k xml-base → place ≡ firstIn rs k xml-lang → node ≡ firstIn rs k rdf-nodeID → parse ≡ firstIn rs k rdf-parseType → other ≡ firstIn rs k property
     → short ≡ shortBy iri (every (shortAt e w v cs) (places 0 k)) (valueIf e w k base) r
     → Finished f name c e w k v cs rs r area after
     (record {
       iri = iri;
       base = base;
-      language = language;
       node = node;
       parse = parse;
+      language = language;
       id = r .id;
       about = r .others .about;
       resource = r .others .resource;
@@ -198,7 +244,7 @@ finished {f} {name} {c} {e} {w} {k} {v} {iri = iri} i l p q s t u z =
     record {
       iri = refers-kept 5120 (iriOf (foundBytes e v f) (backOf c name)) iri (i .is) (l .before) (omega arith) (l .same);
       base = p;
-      language = q;
+      language = rw q at (l .own);
       node = s;
       parse = t;
       properties = rw u;
@@ -208,7 +254,7 @@ finished {f} {name} {c} {e} {w} {k} {v} {iri = iri} i l p q s t u z =
       datatype = refl;
       kind = refl;
       short = z;
-      lowered = l .tag;
+      lowered = rw q at (l .tag);
       before = kept-then (i .before) (kept-less (l .before) (omega arith) (omega arith));
       same = l .same ∙ i .same;
     }

@@ -30,6 +30,8 @@ use Rattle.spec.specs.Productions.{Opened, tagLines, elementType, isLi, openNod
 use Rattle.copy.specs.Copy.{part, Wrote, wrote-part, wrote-same}
 use Rattle.state_words.specs.Kept.{kept-before, kept-behind, kept-less}
 use Rattle.state_words.specs.Words.{pick}
+use Rattle.spec.specs.XmlLang.{carries}
+use Rattle.state.specs.Language.{isSaid, carries-by}
 use Rattle.state.specs.declared.Registers.{Registers}
 use Rattle.state.specs.Meaning.{subjectBelow, elementsOf}
 use Rattle.state.specs.Valid.{stands}
@@ -42,7 +44,7 @@ use Rattle.start_attributes.specs.Judgment.{said}
 use Rattle.start_rules.specs.Judged.{NodeTag, NodeJudged, nodeSubject, nodeOpened, node-reserved}
 use Rattle.start_element.specs.declared.Source.the-variants.{Missing}
 use Rattle.start_element.specs.Element.{textOf, partIs}
-use Rattle.start_element.specs.Laws.{Counts, CountedBy, NotedBy, noting, isGiven}
+use Rattle.start_element.specs.Laws.{Counts, CountedBy, NotedBy, noting}
 use Rattle.start_plan.specs.declared.Plan.{Plan}
 use Rattle.start_plan.specs.declared.Given.{Given}
 use Rattle.start_plan.specs.declared.Start.{Start}
@@ -59,7 +61,7 @@ use Rattle.start_tag.specs.Names.{iriText, node-name, description-name, 
 use Rattle.start_tag.specs.Rules.{isReserved, node-free}
 use Rattle.start_tag.specs.Packets as P
 use Rattle.start_tag.specs.Packets.{nodePart}
-use Rattle.start_tag.specs.Remembered.{inNode, node-part, given-is, noted-base, noted-so, main-about, main-short, Unnamed, unnamed}
+use Rattle.start_tag.specs.Remembered.{inNode, node-part, noted-base, noted-so, main-about, main-short, Unnamed, unnamed}
 use Rattle.start_tag.specs.Judges.{Known, Waits, Drafted, Measurable, startBy, reserved-stops, broken-stops, production-stops, long-stops, waits}
 
 -- what is asked of the scratch, the words and the area
@@ -75,7 +77,7 @@ pub record Ready (e v : List ℕ) (k : ℕ) (a : List ℕ) : Type 0 where
 -- its label, in b; kind: what it is in a packet
 pub record MakesNode (x : Start) (t : Tag) (kind : ℕ) (named wrapped : Bool) (labels : ℕ) (e v : List ℕ) (k : ℕ) (a b : List ℕ) : Type 0 where
   pub parts : Given
-  pub gives : Gives t e v k parts
+  pub gives : Gives t v k parts
   pub is : x ≡ startBy (nodePlan parts kind (labels + 1)) t wrapped named Missing
   pub wrote : Wrote a b 6144 6156 (label (labels + 1))
 
@@ -219,14 +221,14 @@ module _ {t : Tag} {r : Registers} {fs w e v : List ℕ} {k : ℕ} {a : List ℕ
               nameless : r .mode .xmp ≡ true → Unnamed (y .tells .is)
               nameless z = unnamed (elementsOf r fs bs is w) (y .tells .is) (sym (ap (λ (o : Bool). X.keeps o (elementsOf r fs bs is w) (y .tells .is)) z) ∙ kept y)
 
-              noted-is : NotedBy (noted (r .mode .xmp) (y .tells .is)) (noting (r .mode .xmp) wrapped (textOf (subjectIn (mk .parts) .source) e b) (isGiven (mk .parts .tag))) (elementsOf r fs bs is w)
+              noted-is : NotedBy (noted (r .mode .xmp) (y .tells .is)) (noting (r .mode .xmp) wrapped (textOf (subjectIn (mk .parts) .source) e b) (isSaid (mk .parts .tag))) (elementsOf r fs bs is w)
               noted-is = by-profile (r .mode .xmp) refl
                 where
-                  by-profile : (o : Bool) → r .mode .xmp ≡ o → NotedBy (noted (r .mode .xmp) (y .tells .is)) (noting (r .mode .xmp) wrapped (textOf (subjectIn (mk .parts) .source) e b) (isGiven (mk .parts .tag))) (elementsOf r fs bs is w)
-                  by-profile false z = noted-base (y .tells .is) (elementsOf r fs bs is w) wrapped (textOf (subjectIn (mk .parts) .source) e b) (isGiven (mk .parts .tag)) z
+                  by-profile : (o : Bool) → r .mode .xmp ≡ o → NotedBy (noted (r .mode .xmp) (y .tells .is)) (noting (r .mode .xmp) wrapped (textOf (subjectIn (mk .parts) .source) e b) (isSaid (mk .parts .tag))) (elementsOf r fs bs is w)
+                  by-profile false z = noted-base (y .tells .is) (elementsOf r fs bs is w) wrapped (textOf (subjectIn (mk .parts) .source) e b) (isSaid (mk .parts .tag)) z
                   by-profile true z =
                       let u = nameless z in
-                      noted-so (y .tells .is) wrapped (textOf (subjectIn (mk .parts) .source) e b) (given-is (mk .parts .tag) e b ∙ ap isSome (says .tag)) (y .lawful .valid) (y .level) (ws .counted)
+                      noted-so (y .tells .is) wrapped (textOf (subjectIn (mk .parts) .source) e b) (sym (carries-by (mk .parts .tag) b) ∙ ap carries (says .tag)) (y .lawful .valid) (y .level) (ws .counted)
                       (λ n d h x q. main-about e b (mk .parts) says (u .id) (u .nodeID) x q) (r .mode .xmp) (kept y)
 
               brief : r .mode .xmp ≡ true → length (textOf (subjectIn (mk .parts) .source) e b) ≤ 1_024
@@ -259,7 +261,7 @@ pub label-asks : {e v : List ℕ} {k : ℕ} {a : List ℕ} {n : ℕ} → Ready e
 unfolding mostHeldBytes
 label-asks rd l = (l, omega (arith, rd .room))
 
-pub node-made : {x : Start} {t : Tag} {kind : ℕ} {named wrapped : Bool} {labels n : ℕ} {e v : List ℕ} {k : ℕ} {a b : List ℕ} {g : Given} {p : Plan} → Gives t e v k g → p ≡ nodePlan g kind n → (n ≡ labels + 1) × Wrote a b 6144 (6144 + 12) (label (labels + 1))
+pub node-made : {x : Start} {t : Tag} {kind : ℕ} {named wrapped : Bool} {labels n : ℕ} {e v : List ℕ} {k : ℕ} {a b : List ℕ} {g : Given} {p : Plan} → Gives t v k g → p ≡ nodePlan g kind n → (n ≡ labels + 1) × Wrote a b 6144 (6144 + 12) (label (labels + 1))
     → x ≡ startBy p t wrapped named Missing → MakesNode x t kind named wrapped labels e v k a b
 node-made {t = t} {named = named} {wrapped = wrapped} gv q w h =
     record { parts = _; gives = gv; is = h ∙ ap (λ (y : Plan). startBy y t wrapped named Missing) (q ∙ ap (nodePlan _ _) (w .0)); wrote = w .1 }

@@ -23,6 +23,9 @@ use Rattle.state_words.specs.declared.Kind.{Kind}
 use Rattle.state_words.specs.declared.Kind.the-variants.{Rdf, NodeElt, PropertyElt, ParseTypeCollectionPropertyElt, ParseTypeLiteralPropertyElt, ParseTypeOtherPropertyElt, Wrapper}
 use Rattle.state_words.specs.declared.Frame.{Frame}
 use Rattle.state_words.specs.Words.{pick, frameAt, loadFrame, load-frame}
+use Rattle.spec.specs.XmlLang.{carries}
+use Rattle.state.specs.Language.{isSaid, carries-if}
+use Rattle.start_tag.specs.Made.{said-there}
 use Rattle.state.specs.declared.Registers.{Registers}
 use Rattle.state.specs.Meaning.{at, has, count, span, whatOf, partOf, elementOf, framesOf, innersOf, elementsOf, docOf}
 use Rattle.state.specs.Valid.{notedBy, notedOf, notedIn, Valid}
@@ -342,7 +345,7 @@ record Seen (t : S.Tag) (i : Bytes) (ab : Reference) (a : List ℕ) (o : Bool) :
   described : same i (rdf "Description") ≡ same (t .iri) (rdf "Description")
   item : isLi i ≡ same (t .iri) (rdf "li")
   about : Refers ab a 1024 (good (t .about))
-  tagged : o ≡ isSome (t .ownTag)
+  tagged : o ≡ carries (t .ownTag)
 
 -- rdf:RDF: g says that it is none of a packet, p what it has noted
 part-top : (t : S.Tag) (g : Bool) (p : Option Bytes) {d x : Bool} → d ≡ same (t .iri) (rdf "Description") → x ≡ X.sameAbout p (t .about)
@@ -352,7 +355,7 @@ part-top t true p h q = refl
 part-top t false p h q = rw (h, q)
 
 -- a node: n is what it is in a packet, l whether this is an rdf:li
-part-alternatives : (t : S.Tag) (n : ℕ) {l o : Bool} → l ≡ same (t .iri) (rdf "li") → o ≡ isSome (t .ownTag)
+part-alternatives : (t : S.Tag) (n : ℕ) {l o : Bool} → l ≡ same (t .iri) (rdf "li") → o ≡ carries (t .ownTag)
     → pick (eqb n 3) (pick o true (not l)) true ≡ X.keepsPart (pick (eqb n 0) ordinary (alternatives (pick (eqb n 1) none (some (eqb n 3))))) t
 unfolding X.keepsPart X.carriesToo
 part-alternatives t n {l} {o} h q = by-word (eqb n 0) refl (eqb n 1) refl (eqb n 3) refl
@@ -416,12 +419,7 @@ module _ {t : S.Tag} {i : Bytes} {ab : Reference} {a : List ℕ} {o : Bool} (s :
 -- ---- a tag that was read
 
 module _ {t : Tag} {e v : List ℕ} {m k : ℕ} {w cs rs a : List ℕ} {d : Doc} (y : Tells t e v m k w cs rs a d) where
-  given-there : (g : Bool) (s : Bytes) → g ≡ isSome (given g s)
-  unfolding given isSome
-  given-there true s = refl
-  given-there false s = refl
-
-  seen : Seen (y .is) (iriText (t .iri) a) (t .about) a (ltb (t .language) k)
+  seen : Seen (y .is) (iriText (t .iri) a) (t .about) a (isSaid (t .language))
   unfolding isLi
   seen =
       record {
@@ -429,7 +427,7 @@ module _ {t : Tag} {e v : List ℕ} {m k : ℕ} {w cs rs a : List ℕ} {d : Doc}
         described = description-name a (y .is .iri) (t .iri) (y .iri);
         item = li-name a (y .is .iri) (t .iri) (y .iri);
         about = y .about;
-        tagged = given-there (ltb (t .language) k) (part a 6224 (length (valueAt e v (t .language)))) ∙ ap isSome (sym (y .ownTag));
+        tagged = ap isSaid (y .said) ∙ (said-there e v (y .place) k ∙ sym (ap carries (y .ownTag) ∙ carries-if (ltb (y .place) k) (part a 6224 (length (valueAt e v (y .place))))));
       }
 
   none-means : noneOutBy t e v k ≡ X.hasNoneOut (y .is)
@@ -467,10 +465,10 @@ module _ {t : Tag} {r : Registers} {fs w e v : List ℕ} {k : ℕ} {a : List ℕ
     pub keeps-not : b ≡ true → Keeps false t r fs w e v k a
     keeps-not q = record { is = λ ids x z y. one-out (elementsOf r fs _ _ w) (y .is) h (sym (none-means y) ∙ (no-twice (noneOutBy t e v k) n ∙ ap not q)) }
 
-    pub keeps-so : {c : Bool} {i : Bytes} → b ≡ false → i ≡ iriText (t .iri) a → c ≡ aroundBy (r .counts .depth) fs w i (t .about) a (ltb (t .language) k) → Keeps c t r fs w e v k a
+    pub keeps-so : {c : Bool} {i : Bytes} → b ≡ false → i ≡ iriText (t .iri) a → c ≡ aroundBy (r .counts .depth) fs w i (t .about) a (isSaid (t .language)) → Keeps c t r fs w e v k a
     keeps-so {c} {i} q j l =
         record {
           is = λ ids x z y.
               in-packet (elementsOf r fs _ _ w) (y .is) h (sym (none-means y) ∙ (no-twice (noneOutBy t e v k) n ∙ ap not q))
-              (l ∙ (ap (λ (u : Bytes). aroundBy (r .counts .depth) fs w u (t .about) a (ltb (t .language) k)) j ∙ around-means (seen y) x z));
+              (l ∙ (ap (λ (u : Bytes). aroundBy (r .counts .depth) fs w u (t .about) a (isSaid (t .language))) j ∙ around-means (seen y) x z));
         }

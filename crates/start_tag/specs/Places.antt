@@ -27,6 +27,8 @@ use Rattle.state_words.specs.declared.Kind.{Kind}
 use Rattle.state_words.specs.declared.Kind.the-variants.{Rdf, NodeElt, PropertyElt, ParseTypeCollectionPropertyElt, ParseTypeLiteralPropertyElt, ParseTypeOtherPropertyElt, Wrapper}
 use Rattle.state_words.specs.Kept.{kept-all}
 use Rattle.state_words.specs.Words.{pick, frameAt, loadFrame, load-frame}
+use Rattle.spec.specs.XmlLang.{carries}
+use Rattle.state.specs.Language.{isSaid, carries-by}
 use Rattle.state.specs.declared.Registers.{Registers}
 use Rattle.state.specs.Meaning.{subjectBelow, subjectOf, elementsOf, count}
 use Rattle.state.specs.Valid.{Valid, isWrapper, isRootIn, stands}
@@ -39,7 +41,6 @@ use Rattle.event.specs.Place.{placeOf, placeAt, placeIs, place-read}
 use Rattle.start_rules.specs.Judged.{root-rdf, root-node}
 use Rattle.start_element.specs.declared.Source.the-variants.{Missing}
 use Rattle.start_element.specs.Element.{textOf, Fitting}
-use Rattle.start_element.specs.Laws.{isGiven}
 use Rattle.start_element.specs.Sizes.{Short}
 use Rattle.start_plan.specs.declared.Given.{Given}
 use Rattle.start_plan.specs.declared.Plan.{Plan}
@@ -52,7 +53,7 @@ use Rattle.start_tag.specs.Giving.{Gives, Keeps, given-says}
 use Rattle.start_tag.specs.Rules.{isReserved, root-free}
 use Rattle.start_tag.specs.Packets as K
 use Rattle.start_tag.specs.Packets.{rdfPart}
-use Rattle.start_tag.specs.Remembered.{inNode, root-part, top-is-frame, given-is, noted-so}
+use Rattle.start_tag.specs.Remembered.{inNode, root-part, top-is-frame, noted-so}
 use Rattle.state_ids.specs.Ids.{idsOf}
 use Rattle.start_form.specs.Order.{productionIn}
 use Rattle.start_tag.specs.declared.judging.Opens.{Opens}
@@ -121,7 +122,7 @@ module _ {t : Tag} {r : Registers} {fs w e v : List ℕ} {k : ℕ} {a : List ℕ
     pub root-long : {wrapped : Bool} → t .short ≡ false → JudgesRoot (Stop OverLimit) t r wrapped fs w e v k a
     root-long s = record { cases = λ ids used m bs is ia il st cs rs rd y at z ws ro. long-stops y (kept y) (opens y at z) s; measurable = tt }
 
-    module _ {wrapped : Bool} {g : Given} {n : ℕ} {p : Plan} {x : Start} (s : t .short ≡ true) (gv : Gives t e v k g) (pt : n ≡ rdfPart (r .mode .xmp)) (pl : p ≡ rootPlan g n (r .counts .labels)) (is-so : x ≡ startBy p t wrapped true Missing) where
+    module _ {wrapped : Bool} {g : Given} {n : ℕ} {p : Plan} {x : Start} (s : t .short ≡ true) (gv : Gives t v k g) (pt : n ≡ rdfPart (r .mode .xmp)) (pl : p ≡ rootPlan g n (r .counts .labels)) (is-so : x ≡ startBy p t wrapped true Missing) where
       made : x ≡ startBy (rootPlan g (rdfPart (r .mode .xmp)) (r .counts .labels)) t wrapped true Missing
       made = is-so ∙ ap (λ (y : Plan). startBy y t wrapped true Missing) (pl ∙ ap (λ (m : ℕ). rootPlan g m (r .counts .labels)) pt)
 
@@ -139,7 +140,7 @@ module _ {t : Tag} {r : Registers} {fs w e v : List ℕ} {k : ℕ} {a : List ℕ
             typed = sym (ap not (rdf-no-description (y .tells .is .iri) z));
             counted = ws .counted;
             noted =
-                noted-so (y .tells .is) wrapped [] (ap isGiven refl ∙ (given-is (g .tag) e a ∙ ap isSome (given-says (y .tells) s all-kept (rd .event) gv .tag))) (y .lawful .valid) (y .level) (ws .counted)
+                noted-so (y .tells .is) wrapped [] (sym (carries-by (g .tag) a) ∙ (ap carries (given-says (y .tells) s all-kept (rd .event) gv .tag))) (y .lawful .valid) (y .level) (ws .counted)
                 (λ n d h b q. absurd (root-no-rdf fs (r .counts .depth) n ro d h)) (r .mode .xmp) (kept y);
             brief = λ o. omega arith;
             numbered = ws .counts;

@@ -35,6 +35,8 @@ use Rattle.state_words.specs.Kept.{Kept, kept-all, kept-then, kept-before, kept
 use Rattle.state_words.specs.declared.Frame.{Frame}
 use Rattle.state_words.specs.Words.{pick, frameAt}
 use Rattle.state_ids.specs.Ids.{idsOf}
+use Rattle.spec.specs.XmlLang.{carries}
+use Rattle.state.specs.Language.{isSaid, carries-by}
 use Rattle.state.specs.declared.Registers.{Registers}
 use Rattle.state.specs.Meaning.{subjectBelow, elementsOf, count}
 use Rattle.state_stack.specs.Calls.{topFrame, sameKind}
@@ -54,7 +56,7 @@ use Rattle.ntriples.specs.Terms as N
 use Rattle.start_element.specs.declared.Source.{Source}
 use Rattle.start_element.specs.declared.Source.the-variants.{Made}
 use Rattle.start_element.specs.Element.{textOf, maybe, nodeIs, Fitting}
-use Rattle.start_element.specs.Laws.{Counts, CountedBy, isGiven, isOuter, stands-in}
+use Rattle.start_element.specs.Laws.{Counts, CountedBy, isOuter, stands-in}
 use Rattle.start_plan.specs.declared.Given.{Given}
 use Rattle.start_plan.specs.declared.Plan.{Plan}
 use Rattle.start_plan.specs.declared.Start.{Start}
@@ -73,7 +75,7 @@ use Rattle.start_tag.specs.Made.{shortIf}
 use Rattle.start_tag.specs.Rules.{isReserved, property-free}
 use Rattle.start_tag.specs.Packets as K
 use Rattle.start_tag.specs.Packets.{part-few}
-use Rattle.start_tag.specs.Remembered.{top-is-frame, given-is, noted-so}
+use Rattle.start_tag.specs.Remembered.{top-is-frame, noted-so}
 use Rattle.start_tag.specs.Judges.{Known, Waits, Drafted, Measurable, startBy, text-of, reserved-stops, broken-stops, production-stops, long-stops, waits}
 use Rattle.start_tag.specs.Nodes.{Ready, refused-good, label-made}
 
@@ -98,7 +100,7 @@ no-wrapper parse.Other g p u n = refl
 -- takes: is a label made for it? c: how many rdf:li its node has had
 pub record MakesProperty (x : Start) (t : Tag) (q : ParseType) (takes li : Bool) (c labels : ℕ) (e v : List ℕ) (k : ℕ) (a b : List ℕ) : Type 0 where
   pub parts : Given
-  pub gives : Gives t e v k parts
+  pub gives : Gives t v k parts
   pub property : Source
   pub is : x ≡ startBy (propertyPlan q parts property (t .properties) (pick takes (labels + 1) labels)) t li true property
   pub keeps : Keeps a b
@@ -395,7 +397,7 @@ module _ {t : Tag} {r : Registers} {fs w e v : List ℕ} {k : ℕ} {a : List ℕ
               counted = counted-so;
               noted =
                   noted-so (y .tells .is) li (textOf (the-plan .parts .main) e b)
-                  (ap isGiven (tag-of p (mk .parts) (mk .property) (t .properties) _) ∙ (given-is (mk .parts .tag) e b ∙ ap isSome (says .tag)))
+                  (ap isSaid (tag-of p (mk .parts) (mk .property) (t .properties) _) ∙ (sym (carries-by (mk .parts .tag) b) ∙ ap carries (says .tag)))
                   (y .lawful .valid) (y .level) counted-so in-node (r .mode .xmp) (kept y);
               brief = λ z. main-brief;
               numbered = λ u. inl (record { kind = kd; few = numbers u });
@@ -517,7 +519,7 @@ pub both-left : {reserved li : Bool} {c : ℕ} {p : ParseType} {resource nodeID 
 both-left jg h tk = record { label = λ u. label-left jg h (sym tk ∙ u); number = λ u. li-left jg h u }
 
 pub property-made : {x : Start} {t : Tag} {q : ParseType} {takes li : Bool} {c labels n : ℕ} {e v : List ℕ} {k : ℕ} {a d b : List ℕ} {g : Given} {s : Source} {p : Plan} → Ready e v k a
-    → Labels takes labels a d n → Numbers li c (t .iri) d b s → Gives t e v k g → p ≡ propertyPlan q g s (t .properties) n → x ≡ startBy p t li true s
+    → Labels takes labels a d n → Numbers li c (t .iri) d b s → Gives t v k g → p ≡ propertyPlan q g s (t .properties) n → x ≡ startBy p t li true s
     → MakesProperty x t q takes li c labels e v k a b
 property-made {t = t} {q = q} {li = li} {labels = labels} {e = e} {a = a} {g = g} {s = s} rd lb nu gv pp h =
     record {

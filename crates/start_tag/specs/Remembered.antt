@@ -26,6 +26,8 @@ use Rattle.state_words.specs.declared.Kind.the-variants.{Rdf, NodeElt, Property
 use Rattle.state_words.specs.declared.Frame.{Frame}
 use Rattle.state_words.specs.Words.{pick, frameAt, load-frame}
 use Rattle.state_words.specs.Parts.{PART}
+use Rattle.spec.specs.XmlLang.{carries}
+use Rattle.state.specs.declared.language.Own.the-variants.{Unsaid}
 use Rattle.state.specs.declared.Registers.{Registers}
 use Rattle.state.specs.Meaning.{has, whatOf, partOf, elementOf, framesOf, innersOf, elementsOf}
 use Rattle.state.specs.Valid.{Valid}
@@ -34,7 +36,7 @@ use Rattle.state_stack.specs.Packets.{noteLi, noteAbout}
 use Rattle.start_element.specs.declared.Source.{Source}
 use Rattle.start_element.specs.declared.Source.the-variants.{Missing, Own, Made}
 use Rattle.start_element.specs.Element.{textOf, maybe, partIs}
-use Rattle.start_element.specs.Laws.{CountedBy, NotedBy, noting, isGiven}
+use Rattle.start_element.specs.Laws.{CountedBy, NotedBy, noting}
 use Rattle.start_plan.specs.declared.Given.{Given}
 use Rattle.start_plan.specs.Plan.{subjectIn, rootPlan, nodePlan}
 use Rattle.start_plan.specs.Says.{Says}
@@ -113,7 +115,7 @@ pick-same x true = refl
 pick-same x false = refl
 
 -- what the element of frame f, of this kind, notes: a is the text of the child's main part, c whether it has xml:lang
-module _ (t : S.Tag) (li : Bool) (a : Bytes) {c : Bool} (cp : c ≡ isSome (t .ownTag)) where
+module _ (t : S.Tag) (li : Bool) (a : Bytes) {c : Bool} (cp : c ≡ carries (t .ownTag)) where
   note-about : (p : Option Bytes) → X.isTopLevel p t ≡ true → ((b : Bytes) → t .about ≡ some b → a ≡ b) → X.withChild t (topLevel p) ≡ noteAbout a (topLevel p)
   unfolding X.withChild noteAbout X.isTopLevel X.sameAbout
   note-about (some s) k h = refl
@@ -200,13 +202,6 @@ pub noted-base : (t : S.Tag) (es : List Element) {p : Bool} (li : Bool) (a : Byt
 unfolding noted noting
 noted-base t es li a c h f es′ q = rw h
 
--- is a part there?
-pub given-is : (s : Source) (e b : List ℕ) → isGiven s ≡ isSome (maybe s e b)
-unfolding isGiven isSome maybe
-given-is Missing e b = refl
-given-is (Own i n) e b = refl
-given-is (Made i n) e b = refl
-
 -- ---- the text that is noted of a node: its rdf:about, or the label made for it
 
 unfoldable textOr : Option Bytes → Bytes → Bytes
@@ -215,7 +210,7 @@ textOr (some x) l = x
 
 module _ (e b : List ℕ) where
   subject-text : (i a n : Source) (o : Option Bytes) → maybe i e b ≡ none → maybe n e b ≡ none → maybe a e b ≡ o
-      → textOf (subjectIn (record { base = Missing; tag = Missing; node = n; id = i; about = a; resource = Missing; datatype = Missing }) .source) e b ≡ textOr o (part b 6144 12)
+      → textOf (subjectIn (record { base = Missing; tag = Unsaid; node = n; id = i; about = a; resource = Missing; datatype = Missing }) .source) e b ≡ textOr o (part b 6144 12)
   unfolding subjectIn textOf maybe textOr
   subject-text (Own x y) a n o h q p = absurd (let z : _≡_ {A = ℕ} 0 1 = cc in omega arith)
   subject-text (Made x y) a n o h q p = absurd (let z : _≡_ {A = ℕ} 0 1 = cc in omega arith)

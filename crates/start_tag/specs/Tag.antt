@@ -17,10 +17,15 @@ use Rattle.spec.specs.Abnf.{lower}
 use Rattle.spec.specs.Pyx.{Attribute}
 use Rattle.spec.specs.Namespaces.{declared, namespace, expandElement, expandedNames}
 use Rattle.spec.specs.Document.{Doc, inScope, languageInForce, baseInForce}
-use Rattle.spec.specs.StartTag.{Meaning, meaning, first, xml-base, xml-lang, rdf-nodeID, rdf-parseType, property, propertyAttributes, lowercased, resolved, withHash, isUnused, readTag, allShort, isShort}
+use Rattle.spec.specs.StartTag.{Meaning, meaning, first, xml-base, xml-lang, rdf-nodeID, rdf-parseType, property, propertyAttributes, resolved, withHash, isUnused, readTag, allShort, isShort}
 use Rattle.spec.specs.StartTag as S
 use Rattle.copy.specs.Copy.{part}
 use Rattle.state_words.specs.Kept.{Kept}
+use Rattle.spec.specs.XmlLang.{ownOf}
+use Rattle.spec.specs.XmlLang as X
+use Rattle.theorems.specs.Always.{always-good}
+use Rattle.theorems.specs.Subjects.{Of?, GoodTag, AllFair, first-tag, each-fair}
+use Rattle.state.specs.Language.{saidAs, saidIf, said-kept}
 use Rattle.state.specs.declared.Registers.{Registers}
 use Rattle.state.specs.Meaning.{startOf, elementsOf, docOf}
 use Rattle.state.specs.Valid.{Valid}
@@ -51,7 +56,7 @@ use Rattle.start_attributes.specs.Short.{short-means}
 use Rattle.start_tag.specs.declared.reading.Tag.{Tag}
 use Rattle.start_tag.specs.declared.reading.Read.{Read}
 use Rattle.start_tag.specs.declared.reading.Read.the-variants.{Stop, Wrapper, Good}
-use Rattle.start_tag.specs.Made.{isUnknown, iriOf, Known, known-space, unknown-space, shortIf, shortBy, refers-short, Finished}
+use Rattle.start_tag.specs.Made.{tagAtPlace, isUnknown, iriOf, Known, known-space, unknown-space, shortIf, shortBy, refers-short, Finished}
 
 -- what is asked: e and w are the decoded event and its words, v the work store, bs the bindings, of which n are in scope
 pub record Asks (e w : List ℕ) (m c k : ℕ) (v bs : List ℕ) (n : ℕ) (cs rs area : List ℕ) : Type 0 where
@@ -72,8 +77,11 @@ pub record Tells (t : Tag) (e w : List ℕ) (m k : ℕ) (v cs rs area : List ℕ
   pub iri : Refers (t .iri) area 5120 (good (some (is .iri)))
   pub bindings : is .bindings ≡ declared (attributesOf e w k)
   pub ownBase : is .ownBase ≡ valueIf e w k (t .base)
-  pub ownTag : is .ownTag ≡ given (ltb (t .language) k) (part area 6224 (length (valueAt e w (t .language))))
-  pub language : is .language ≡ orElse (is .ownTag) (languageInForce (d .frames))
+  -- xml:lang is at this place, if there is one
+  pub place : ℕ
+  pub said : t .language ≡ tagAtPlace e w place k
+  pub ownTag : is .ownTag ≡ saidIf (ltb place k) (part area 6224 (length (valueAt e w place)))
+  pub language : is .language ≡ X.inForce (is .ownTag) (languageInForce (d .frames))
   pub nodeID : is .nodeID ≡ valueIf e w k (t .node)
   pub parseType : is .parseType ≡ valueIf e w k (t .parse)
   pub attributes : is .attributes ≡ propertyAttributes (meaningsOf e w v cs k)
@@ -109,9 +117,11 @@ tells-kept {t} {e} {w} {m} {k} h l p q s =
       iri = refers-kept 5120 (good (some (h .is .iri))) (t .iri) (h .iri) p (omega arith) s;
       bindings = h .bindings;
       ownBase = h .ownBase;
+      place = h .place;
+      said = h .said;
       ownTag =
           h .ownTag
-          ∙ ap (given (ltb (t .language) k)) (sym (q .parts 6224 (length (valueAt e w (t .language))) (omega arith) (omega (arith, value-most e w (t .language)))));
+          ∙ ap (saidIf (ltb (h .place) k)) (sym (q .parts 6224 (length (valueAt e w (h .place))) (omega arith) (omega (arith, value-most e w (h .place)))));
       language = h .language;
       nodeID = h .nodeID;
       parseType = h .parseType;
@@ -135,8 +145,8 @@ tagFrom n as′ d i ms x =
       bindings = declared as′;
       names = expandedNames (declared as′ ++ inScope (d .frames)) as′;
       ownBase = first xml-base ms;
-      ownTag = lowercased (first xml-lang ms);
-      language = orElse (lowercased (first xml-lang ms)) (languageInForce (d .frames));
+      ownTag = ownOf (first xml-lang ms);
+      language = X.inForce (ownOf (first xml-lang ms)) (languageInForce (d .frames));
       nodeID = first rdf-nodeID ms;
       parseType = first rdf-parseType ms;
       attributes = propertyAttributes ms;
@@ -268,11 +278,15 @@ module _ {e w v cs rs : List ℕ} {k : ℕ} (h : Roles e w v cs rs k) where
 
   -- l is the place of xml:lang
   language-is : {l : ℕ} (area : List ℕ) → l ≡ firstIn rs k xml-lang → (l < k → part area 6224 (length (valueAt e w l)) ≡ map lower (valueAt e w l))
-      → lowercased (first xml-lang (meaningsOf e w v cs k)) ≡ given (ltb l k) (part area 6224 (length (valueAt e w l)))
-  unfolding lowercased valueIf given
-  language-is {l} area q made =
-      ap lowercased (first-value h xml-lang)
-      ∙ rw (← q) (by (ltb l k) (λ y. rw y (ap some (sym (made (ltb-true l k y))))) (λ y. rw y))
+      → Of? GoodTag (first xml-lang (meaningsOf e w v cs k)) → ownOf (first xml-lang (meaningsOf e w v cs k)) ≡ saidIf (ltb l k) (part area 6224 (length (valueAt e w l)))
+  unfolding valueIf given saidIf ownOf
+  language-is {l} area q made allowed =
+      let f : first xml-lang (meaningsOf e w v cs k) ≡ given (ltb l k) (valueAt e w l) = first-value h xml-lang ∙ rw q in
+      ap ownOf f ∙ go (ltb l k) refl (rw f at allowed)
+    where
+      go : (t : Bool) → ltb l k ≡ t → Of? GoodTag (given t (valueAt e w l)) → ownOf (given t (valueAt e w l)) ≡ saidIf t (part area 6224 (length (valueAt e w l)))
+      go true y g = said-kept (valueAt e w l) g ∙ ap saidAs (sym (made (ltb-true l k y)))
+      go false y g = refl
 
   value-is : {l : ℕ} (r : S.Role) → l ≡ firstIn rs k r → first r (meaningsOf e w v cs k) ≡ valueIf e w k l
   value-is r q = first-value h r ∙ rw q
@@ -326,6 +340,13 @@ module _ (r : Registers) (fs bs v : List ℕ) (count : ℕ) (at len store : List
     module _ {rs : List ℕ} {j : Judgment} (o : R.Reads e w v cs k rs₀ rs j) (g : j ≡ Fine) where
       roles-are : Roles e w v cs rs k
       roles-are = o .roles g
+
+      -- xml:lang was not refused
+      allowed : Of? GoodTag (first xml-lang (meaningsOf e w v cs k))
+      allowed =
+          first-tag (meaningsOf e w v cs k)
+          (always-good AllFair (each-fair (scope e w k v bs (r .counts .bindings)) (attributesOf e w k))
+          (reads-mean (a .classified) (a .splits) o ∙ ap (λ (q : Judgment). said q (meaningsOf e w v cs k)) g))
 
       -- what the code resolves is what `readTag` does
       same-references : {is : List ℕ} {used : ℕ} (x : Valid r fs bs is v) → ValidIds count used at len store
@@ -390,7 +411,9 @@ module _ (r : Registers) (fs bs v : List ℕ) (count : ℕ) (at len store : List
                 iri = element-iri;
                 bindings = refl;
                 ownBase = value-is roles-are xml-base (fin .base);
-                ownTag = language-is roles-are after (fin .language) (fin .lowered);
+                place = firstIn rs k xml-lang;
+                said = fin .language;
+                ownTag = language-is roles-are after refl (fin .lowered) allowed;
                 language = refl;
                 nodeID = value-is roles-are rdf-nodeID (fin .node);
                 parseType = value-is roles-are rdf-parseType (fin .parse);

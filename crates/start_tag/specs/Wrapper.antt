@@ -27,6 +27,8 @@ use Rattle.spec.specs.Xmp.{wrapperName, namesWrapper, startsWrapper, wrapped, o
 use Rattle.spec.specs.Opening.{Step, countLi, enter, onOpening}
 use Rattle.spec.specs.RdfXml.{onEvent}
 use Rattle.copy.specs.Copy.{part}
+use Rattle.spec.specs.XmlLang.{unsaid}
+use Rattle.state.specs.Language.{tagOfOwn}
 use Rattle.state.specs.declared.Registers.{Registers}
 use Rattle.state_ids.specs.Ids.{idsOf, length-ids, total-ids}
 use Rattle.state.specs.Meaning.{subjectBelow, startOf, elementsOf, docOf}
@@ -259,7 +261,7 @@ none-there : {f : Element} {es : List Element} → _≡_ {A = List Element} [] (
 none-there h = let z : _≡_ {A = ℕ} 0 1 = cc in omega arith
 
 wrapper-as : (e v : List ℕ) (m k : ℕ) (a : List ℕ) (n : ℕ) (s : Subject)
-    → record { name = take m e; bindings = declared (attributesOf e v k); ownBase = none; ownTag = none; kind = wrapper false; part = ordinary } ≡ newElement e v m k a (wrapperPlan n .parts) s
+    → record { name = take m e; bindings = declared (attributesOf e v k); ownBase = none; ownTag = unsaid; kind = wrapper false; part = ordinary } ≡ newElement e v m k a (wrapperPlan n .parts) s
 unfolding wrapperElement
 wrapper-as e v m k a n s = sym (wrapper-element e v m k a n s)
 
@@ -272,7 +274,7 @@ starts-empty true n as′ (f ∷ es) h = absurd (false≢true h)
 
 -- its parts have no bytes
 no-parts : (n : ℕ) (e b : List ℕ) → partsBytes (wrapperPlan n .parts) e b ≡ 0
-unfolding textOf
+unfolding textOf tagOfOwn
 no-parts n e b = refl
 
 wrapper-measures : (e v : List ℕ) (m k : ℕ) (b : List ℕ) (n : ℕ) → Measures e v m k b (wrapperPlan n .parts) (wrapperBytes e v m k)
@@ -314,7 +316,7 @@ module _ {r : Registers} {count used : ℕ} {fs bs is w ia il st e v : List ℕ}
     unfolding _>>_ require_or_ wrapped docOf told countLi enter maybe
     steps = opens (tested ∙ rw (known, short, empty) (ap (λ (f : Element). good ([], record { mode = r .mode; startBase = startOf r w; frames = f ∷ []; rooted = true; labels = r .counts .labels; ids = idsOf ia il st count })) element))
       where
-        element : record { name = take m e; bindings = declared (attributesOf e v k); ownBase = none; ownTag = none; kind = wrapper false; part = ordinary } ≡ newElement e v m k b (wrapperPlan (r .counts .labels) .parts) (subjectBelow fs w (r .counts .depth))
+        element : record { name = take m e; bindings = declared (attributesOf e v k); ownBase = none; ownTag = unsaid; kind = wrapper false; part = ordinary } ≡ newElement e v m k b (wrapperPlan (r .counts .labels) .parts) (subjectBelow fs w (r .counts .depth))
         element = wrapper-as e v m k b (r .counts .labels) (subjectBelow fs w (r .counts .depth))
 
     held-is : heldBytes (step .1) ≡ r .store .top - r .store .noted + wrapperBytes e v m k

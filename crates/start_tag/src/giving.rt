@@ -2,7 +2,7 @@
 ghost use mathlib.Core.Path.{_≡_};
 ghost use Prim.Native.Nat.{_*_, _≤_};
 ghost use lib.ListN.{length};
-ghost use Rattle.start_tag.specs.Giving.{madeAt, valueAtPlace, Gives, tagAtPlace};
+ghost use Rattle.start_tag.specs.Giving.{madeAt, valueAtPlace, Gives};
 use crate::reading::Tag;
 use copy::words::wide;
 use start_element::Source;
@@ -11,16 +11,16 @@ use start_references::reference::Area;
 use start_references::reference::Reference;
 
 // The parts that a plan is made of.
-pub fn given(t: Tag, scratch: &[u8], spans: &[u32], k: usize) -> Given
+pub fn given(t: Tag, spans: &[u32], k: usize) -> Given
     requires { ⌜ k * 4 ≤ length (now spans) ⌝ }
-    ensures { λ g. ⌜ Gives t (now (scratch .entry)) (now (spans .entry)) k g ⌝ }
+    ensures { λ g. ⌜ Gives t (now (spans .entry)) k g ⌝ }
 {
     let named = t.id;
     let described = t.about;
     let object = t.resource;
     let typed = t.datatype;
     let base = value(spans, t.base, k);
-    let tag = language(scratch, spans, t.language, k);
+    let tag = t.language;
     let node = value(spans, t.node, k);
     let id = made(Area::ID, named);
     let about = made(Area::ABOUT, described);
@@ -60,14 +60,4 @@ fn value(spans: &[u32], j: usize, k: usize) -> Source
     let from = j * 4;
     let at = wide(spans[from]) + wide(spans[from + 1]);
     Source::Own(at, wide(spans[from + 3]))
-}
-
-// The language of the tag in lower case, where attribute j is its xml:lang.
-fn language(scratch: &[u8], spans: &[u32], j: usize, k: usize) -> Source
-    ensures { λ s. ⌜ s ≡ tagAtPlace (now (scratch .entry)) (now (spans .entry)) j k ⌝ }
-{
-    if k <= j {
-        return Source::Missing;
-    }
-    Source::Made(Area::TAG, start_names::value_of(scratch, spans, j).len())
 }

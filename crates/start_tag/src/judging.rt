@@ -102,7 +102,7 @@ fn draft(
     let iri = t.iri;
     let place = event::place_at(r, frames);
     let wrapped = is_wrapped(place, r.counts.depth);
-    let g = crate::giving::given(t, scratch, spans, k);
+    let g = crate::giving::given(t, spans, k);
     let kept = crate::packets::keeps(t, r, frames, work, scratch, spans, k, area);
     match opened_at(place, iri_text(iri, area)) {
         Opens::Rdf => judge_root(
@@ -180,7 +180,7 @@ fn judge_root(
     k: usize,
     area: &[u8],
 ) -> Verdict
-    requires { ⌜ Gives t (now scratch) (now spans) k g
+    requires { ⌜ Gives t (now spans) k g
         × Keeps kept t r (now frames) (now work) (now scratch) (now spans) k (now area) ⌝ }
     ensures { λ q. ⌜ JudgesRoot q t r wrapped (now (frames .entry)) (now (work .entry)) (now (scratch .entry)) (now (spans .entry)) k (now (area .entry)) ⌝ }
 {
@@ -209,7 +209,7 @@ fn judge_node(
     k: usize,
     area: &mut [u8],
 ) -> Verdict
-    requires { ⌜ Ready (now scratch) (now spans) k (now area) × Gives t (now scratch) (now spans) k g
+    requires { ⌜ Ready (now scratch) (now spans) k (now area) × Gives t (now spans) k g
         × Keeps kept t r (now frames) (now work) (now scratch) (now spans) k (now area) ⌝ }
     ensures { λ q. ⌜ JudgesNode q t r wrapped (now (frames .entry)) (now (work .entry)) (now (scratch .entry)) (now (spans .entry)) k (now (area .entry)) (now (area .exit)) ⌝ }
 {
@@ -264,7 +264,7 @@ fn judge_property(
     k: usize,
     area: &mut [u8],
 ) -> Verdict
-    requires { ⌜ Ready (now scratch) (now spans) k (now area) × Gives t (now scratch) (now spans) k g
+    requires { ⌜ Ready (now scratch) (now spans) k (now area) × Gives t (now spans) k g
         × Keeps kept t r (now frames) (now work) (now scratch) (now spans) k (now area) ⌝ }
     ensures { λ q. ⌜ JudgesProperty q t r (now (frames .entry)) (now (work .entry)) (now (scratch .entry)) (now (spans .entry)) k (now (area .entry)) (now (area .exit)) ⌝ }
 {
@@ -335,7 +335,7 @@ fn make_property(
     k: usize,
     area: &mut [u8],
 ) -> Start
-    requires { ⌜ Ready (now scratch) (now spans) k (now area) × Gives t (now scratch) (now spans) k g × Left takes li labels numbers ⌝ }
+    requires { ⌜ Ready (now scratch) (now spans) k (now area) × Gives t (now spans) k g × Left takes li labels numbers ⌝ }
     ensures { λ x. ⌜ MakesProperty x t parse takes li numbers labels (now (scratch .entry)) (now (spans .entry)) k (now (area .entry)) (now (area .exit)) ⌝ }
 {
     let iri = t.iri;
@@ -410,7 +410,7 @@ fn make_node(
     k: usize,
     area: &mut [u8],
 ) -> Start
-    requires { ⌜ Ready (now scratch) (now spans) k (now area) × Gives t (now scratch) (now spans) k g × (labels < mostLabels) ⌝ }
+    requires { ⌜ Ready (now scratch) (now spans) k (now area) × Gives t (now spans) k g × (labels < mostLabels) ⌝ }
     ensures { λ x. ⌜ MakesNode x t part named wrapped labels (now (scratch .entry)) (now (spans .entry)) k (now (area .entry)) (now (area .exit)) ⌝ }
 {
     let behind = start_rules::make_label(area, Area::LABEL, labels);
@@ -447,7 +447,7 @@ pub fn iri_text(iri: Reference, area: &[u8]) -> &[u8]
         Reference::Missing => &area[0..0],
         Reference::Bad => &area[0..0],
         Reference::Long => &area[0..0],
-        Reference::Made(n) => start_names::piece(area, Area::IRI, n),
+        Reference::Made(n) => copy::piece(area, Area::IRI, n),
     }
 }
 
@@ -494,11 +494,7 @@ fn id_fits(id: Source, count: usize, used: usize, scratch: &[u8], area: &[u8]) -
 {
     match id {
         Source::Missing => true,
-        Source::Own(at, n) => state_ids::room(
-            count,
-            used,
-            start_names::piece(scratch, at, n).len(),
-        ),
-        Source::Made(at, n) => state_ids::room(count, used, start_names::piece(area, at, n).len()),
+        Source::Own(at, n) => state_ids::room(count, used, copy::piece(scratch, at, n).len()),
+        Source::Made(at, n) => state_ids::room(count, used, copy::piece(area, at, n).len()),
     }
 }

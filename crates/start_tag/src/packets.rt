@@ -32,6 +32,7 @@ pub fn keeps(
     }
     let iri = t.iri;
     let about = t.about;
+    let language = t.language;
     let name = crate::judging::iri_text(iri, area);
     keeps_around(
         r.counts.depth,
@@ -40,7 +41,7 @@ pub fn keeps(
         name,
         about,
         area,
-        t.language < k,
+        language.is_said(),
     )
 }
 
@@ -177,8 +178,8 @@ fn same_about(f: Frame, work: &[u8], about: Reference, area: &[u8]) -> bool
             let from = wide(at[Frame::TAIL]);
             let size = state_stack::nodes::minus(wide(at[Frame::END]), from);
             copy::equal(
-                start_names::piece(area, Area::ABOUT, n),
-                start_names::piece(work, from, size),
+                copy::piece(area, Area::ABOUT, n),
+                copy::piece(work, from, size),
             )
         }
     }

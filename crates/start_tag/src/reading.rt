@@ -14,7 +14,7 @@ ghost use Rattle.start_references.specs.Values.{valueIf};
 ghost use Rattle.start_attributes.specs.Places.{places};
 ghost use Rattle.start_attributes.specs.Short.{shortAt};
 ghost use Rattle.state_ids.specs.Ids.{SpansIn};
-ghost use Rattle.start_tag.specs.Made.{isUnknown, iriOf, Lowered, shortIf, shortBy, RoomToMake, Finished};
+ghost use Rattle.start_tag.specs.Made.{isUnknown, iriOf, MadeLanguage, shortIf, shortBy, RoomToMake, Finished};
 ghost use Rattle.start_tag.specs.Tag.{Asks};
 ghost use Rattle.start_tag.specs.Reading.{ReadsTag};
 use resolve::Resolved;
@@ -28,17 +28,19 @@ use start_references::Resolutions;
 use start_references::reference::Area;
 use start_references::reference::Reference;
 use state::Registers;
+use state::language::Own;
 use state_ids::IdTable;
 
 // What a tag says. Some attributes are told by their places, which are k where there is none; what is made stands in the area.
 pub struct Tag {
     // The expanded name.
     pub iri: Reference,
-    // The places of xml:base, xml:lang, rdf:nodeID and rdf:parseType.
+    // The places of xml:base, rdf:nodeID and rdf:parseType.
     pub base: usize,
-    pub language: usize,
     pub node: usize,
     pub parse: usize,
+    // What it says of its language.
+    pub language: Own,
     // rdf:ID, rdf:about, rdf:resource, rdf:datatype and rdf:type, resolved.
     pub id: Reference,
     pub about: Reference,
@@ -80,7 +82,7 @@ pub fn read_tag<'a>(
     requires { ⌜ Asks (now scratch) (now spans) m c k (now work) (now bindings) (r .counts .bindings) (now classes) (now roles) (now area) × SpansIn count (now starts) (now sizes) (now ids) ⌝ }
     ensures { λ t. ⌜ ReadsTag r (now (frames .entry)) (now (bindings .entry)) (now (work .entry)) count (now (starts .entry)) (now (sizes .entry)) (now (ids .entry)) (now (scratch .entry)) (now (spans .entry)) m k (now (classes .entry)) (now (roles .entry)) (now (area .entry)) (now (roles .exit)) (now (area .exit)) t ⌝ }
 {
-    let name = start_names::piece(scratch, 0, m);
+    let name = copy::piece(scratch, 0, m);
     let found = start_names::element(
         name,
         c,
@@ -169,15 +171,15 @@ fn tag_of<'a>(
     let kind = others.kind;
     let iri = make_iri(found, name, c, scratch, work, area);
     let base = start_attributes::first_in(roles, k, Role::XmlBase);
-    let language = start_attributes::first_in(roles, k, Role::XmlLang);
-    make_lower(scratch, spans, k, language, area);
+    let place = start_attributes::first_in(roles, k, Role::XmlLang);
+    let language = make_language(scratch, spans, k, place, area);
     let property = start_attributes::first_in(roles, k, Role::Property);
     Tag {
         iri,
         base,
-        language,
         node: start_attributes::first_in(roles, k, Role::NodeId),
         parse: start_attributes::first_in(roles, k, Role::ParseType),
+        language,
         id,
         about,
         resource,
@@ -226,15 +228,20 @@ fn join(space: &[u8], local: &[u8], area: &mut [u8]) -> Reference
     Reference::Made(n + local.len())
 }
 
-// xml:lang, at place j of k, in lower case.
-fn make_lower(scratch: &[u8], spans: &[u32], k: usize, j: usize, area: &mut [u8])
+// What xml:lang, at place j of k, says of the language: its value in lower case, and where that is empty, none.
+fn make_language(scratch: &[u8], spans: &[u32], k: usize, j: usize, area: &mut [u8]) -> Own
     requires { ⌜ RoomToMake (now scratch) (now area) ⌝ }
-    ensures { λ _. ⌜ Lowered (now (scratch .entry)) (now (spans .entry)) k j (now (area .entry)) (now (area .exit)) ⌝ }
+    ensures { λ o. ⌜ MadeLanguage (now (scratch .entry)) (now (spans .entry)) k j (now (area .entry)) (now (area .exit)) o ⌝ }
 {
     if k <= j {
-        return;
+        return Own::Unsaid;
     }
-    langtag::lowercase_into(area, Area::TAG, start_names::value_of(scratch, spans, j));
+    let value = start_names::value_of(scratch, spans, j);
+    if value.len() == 0 {
+        return Own::Cleared;
+    }
+    langtag::lowercase_into(area, Area::TAG, value);
+    Own::Given(Area::TAG, value.len())
 }
 
 // "any expanded name, IRI or base 1,024 bytes"; the tag's own base is at place j.

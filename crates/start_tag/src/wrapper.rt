@@ -108,8 +108,7 @@ fn fits(store: Store, scratch: &[u8], spans: &[u32], m: usize, k: usize) -> bool
     if held > Registers::MOST_HELD {
         return false;
     }
-    let n = start_names::piece(scratch, 0, m).len()
-        + start_element::declared_size(scratch, spans, k);
+    let n = copy::piece(scratch, 0, m).len() + start_element::declared_size(scratch, spans, k);
     n <= Registers::MOST_HELD - held
 }
 

@@ -11,6 +11,7 @@ use borrow.Author.Tests.{eqb-true}
 use Rattle.spec.specs.Limits.{workStoreBytes}
 use Rattle.spec.specs.Bytes.{Bytes, total, sizeOf}
 use Rattle.spec.specs.Namespaces.{Binding}
+use Rattle.spec.specs.XmlLang.{unsaid, ownBytes}
 use Rattle.spec.specs.NTriples.{Subject, named, blank}
 use Rattle.spec.specs.Document.{Frame as Element, noObject, nodeObject, textObject, subjectBytes, objectBytes, valueBytes, kindBytes, bindingBytes, frameBytes, heldBytes}
 use Rattle.spec.proofs.Booleans.{and-left, and-right}
@@ -20,6 +21,7 @@ use Rattle.state_words.specs.declared.Kind.{Kind}
 use Rattle.state_words.specs.declared.Kind.the-variants.{Rdf, NodeElt, PropertyElt, ParseTypeCollectionPropertyElt, ParseTypeLiteralPropertyElt, ParseTypeOtherPropertyElt, Wrapper}
 use Rattle.state_words.specs.declared.Frame.{Frame}
 use Rattle.state_words.specs.Words.{pick, frameAt, rowAt}
+use Rattle.state.specs.Language.{saidAs, ownIn, bytes-said}
 use Rattle.state.specs.declared.Registers.{Registers}
 use Rattle.state.specs.Meaning.{at, has, count, first, span, optional, nodeOf, objectOf, childSize, childFrom, childOf, childrenOf, bindingOf, bindingsOf, subjectOf, propertyOf, whatOf, elementOf, subjectBelow, framesOf, innerOf, innersOf, startOf, elementsOf, docOf}
 use Rattle.state.specs.Valid.{notedBy, notedOf, notedIn, emptyOr, partsOk, chained, childrenOk, kindOk, framesOk, innersOk, ceiling, Rising, Valid, rising, top-sound, rest-ok, top-inside, inners-rest}
@@ -46,6 +48,14 @@ size-optional w h a b e u l = go (eqb h 0) e
     go : (t : Bool) → pick t (eqb a b) true ≡ true → a + sizeOf (pick t none (some (span w a b))) ≡ b
     go true x = omega (arith, eqb-true a b x)
     go false x = length-span w a b u l
+
+size-own : (w : List ℕ) (h a b : ℕ) → emptyOr h a b ≡ true → a ≤ b → b ≤ length w → a + ownBytes (ownIn h (span w a b)) ≡ b
+unfolding ownIn emptyOr ownBytes
+size-own w h a b e u l = go (eqb h 0) e
+  where
+    go : (t : Bool) → pick t (eqb a b) true ≡ true → a + ownBytes (pick t unsaid (saidAs (span w a b))) ≡ b
+    go true x = omega (arith, eqb-true a b x)
+    go false x = omega (arith, bytes-said (span w a b), length-span w a b u l)
 
 size-object : (w : List ℕ) (h a b : ℕ) → emptyOr h a b ≡ true → a ≤ b → b ≤ length w → a + objectBytes (objectOf h (span w a b)) ≡ b
 unfolding objectOf emptyOr objectBytes subjectBytes
@@ -151,7 +161,7 @@ module _ (w : List ℕ) (f : Frame) (r : Rising f) (p : Parts f) (l : at f END �
         arith,
         length-span w (at f NAME) (at f BINDINGS) (omega arith) (omega arith),
         size-optional w (has f BASED) (at f BASE) (at f TAG) (p .base) (omega arith) (omega arith),
-        size-optional w (has f TAGGED) (at f TAG) (at f MAIN) (p .tag) (omega arith) (omega arith),
+        size-own w (has f TAGGED) (at f TAG) (at f MAIN) (p .tag) (omega arith) (omega arith),
         size-kind (f .kind) s h,
       )
 
@@ -171,7 +181,7 @@ size-frames fs bs w base (suc n) top b h l =
     )
 
 size-inners : (is bs w : List ℕ) (outer n low b : ℕ) → innersOk is bs outer n low b ≡ true → length w ≡ 65_536 → low + total frameBytes (innersOf is bs w n b) ≡ 65_536
-unfolding innersOf innerOf total frameBytes kindBytes sizeOf innersOk workStoreBytes
+unfolding innersOf innerOf total frameBytes kindBytes sizeOf ownBytes innersOk workStoreBytes
 size-inners is bs w outer zero low b h l = omega (arith, eqb-true low 65_536 (and-left (eqb low 65_536) _ h))
 size-inners is bs w outer (suc n) low b h l =
     let s = top-inside is bs outer n low b h in

@@ -7,6 +7,7 @@ use lib.Dec.{eqb}
 use lib.ListN.{getD}
 use Rattle.spec.specs.Bytes.{Bytes}
 use Rattle.spec.specs.Namespaces.{Binding}
+use Rattle.spec.specs.XmlLang.{unsaid}
 use Rattle.spec.specs.NTriples.{Subject, named, blank}
 use Rattle.spec.specs.Document.{Object, noObject, nodeObject, textObject, default, collection, literal, other, Property, Doc}
 use Rattle.spec.specs.Document.{Kind as What, rdfRDF, wrapper, nodeElement, propertyElement, xmlElement, Part, ordinary, topLevel, alternatives, Frame as Element}
@@ -18,6 +19,7 @@ use Rattle.state_words.specs.declared.Frame.{Frame}
 use Rattle.state_words.specs.declared.Row.{Row}
 use Rattle.state_words.specs.Words.{pick, frameAt, rowAt}
 use Rattle.state.specs.declared.Registers.{Registers}
+use Rattle.state.specs.Language.{ownIn}
 
 -- ---- the parts of a frame
 
@@ -115,7 +117,7 @@ elementOf f bound w s =
       name = span w (at f NAME) (at f BINDINGS);
       bindings = bound;
       ownBase = optional (has f BASED) (span w (at f BASE) (at f TAG));
-      ownTag = optional (has f TAGGED) (span w (at f TAG) (at f MAIN));
+      ownTag = ownIn (has f TAGGED) (span w (at f TAG) (at f MAIN));
       kind = whatOf (f .kind) f w s;
       part = partOf (f .kind) f w;
     }
@@ -135,7 +137,7 @@ framesOf fs bs w (suc n) b =
 -- ---- open elements inside Literal content
 
 unfoldable pub innerOf : Row → List Binding → List ℕ → Element
-innerOf r bound w = record { name = part w (r .at) (r .name); bindings = bound; ownBase = none; ownTag = none; kind = xmlElement; part = ordinary }
+innerOf r bound w = record { name = part w (r .at) (r .name); bindings = bound; ownBase = none; ownTag = unsaid; kind = xmlElement; part = ordinary }
 
 -- n elements, whose bindings end before b: innermost first
 unfoldable pub innersOf : List ℕ → List ℕ → List ℕ → ℕ → ℕ → List Element

@@ -10,6 +10,9 @@ ghost use Rattle.state_words.specs.Words.{pick};
 ghost use Rattle.state.specs.Meaning.{at, childSize};
 ghost use Rattle.state.specs.Valid.{notedOf, notedIn, notedOk, rises, emptyOr, partsOk, chained, childrenOk, kindOk, isNode, nodeBelow, isWrapper, isRootIn, stands, elementOk, framesOk, ceiling, innersOk, countsOk, lengthsOk, validState};
 ghost use Rattle.state.specs.Live.{startedWith};
+
+pub mod language;
+
 use copy::words::byte;
 use copy::words::wide;
 use label::BlankNodeIdGenerator;

@@ -17,6 +17,8 @@ use Rattle.state_words.specs.Words.{pick, loadFrame, loadRow, StoredRow}
 use Rattle.state.specs.declared.Registers.{Registers}
 use Rattle.state.specs.Meaning.{at, has}
 use Rattle.state.specs.Tests.{positive}
+use Rattle.state.specs.declared.language.Language.{Language}
+use Rattle.state.specs.declared.language.Language.the-variants.{None, Tag}
 use Rattle.state_stack.specs.declared.Changed.{Changed}
 use Rattle.state_stack.specs.declared.Found.{Found}
 use Rattle.state_stack.specs.Change.{insideTo}
@@ -66,14 +68,27 @@ innermostIn fs mark place (suc n) =
 unfoldable pub baseIn : Registers → List ℕ → Found
 baseIn r fs = pick (innermostIn fs BASED BASE (r .counts .depth) .there) (innermostIn fs BASED BASE (r .counts .depth)) (record { there = r .flags .based; at = 0; len = r .store .base })
 
-unfoldable pub languageIn : Registers → List ℕ → Found
-languageIn r fs = innermostIn fs TAGGED TAG (r .counts .depth)
+-- the tag of an element: one of no bytes clears
+unfoldable pub tagFound : Found → Language
+tagFound f = pick (eqb (f .len) 0) None (Tag (f .at) (f .len))
+
+unfoldable pub languageIn : Registers → List ℕ → Language
+languageIn r fs = tagFound (innermostIn fs TAGGED TAG (r .counts .depth))
 
 -- where the numbers are not a valid state's, all of the store
 unfoldable pub heldIn : Registers → ℕ
 heldIn r = pick (leb (r .store .low) workStoreBytes && leb (r .store .top) (r .store .low)) (r .store .top - r .store .noted + (workStoreBytes - r .store .low)) workStoreBytes
 
 -- ---- how the calls come to their answers
+
+module _ {f : Found} (g : Found) (e : f ≡ g) where
+  pub tag-none : f .len ≡ 0 → None ≡ tagFound g
+  unfolding tagFound
+  tag-none h = rw (← e, eq-eqb (f .len) 0 h)
+
+  pub tag-some : (f .len ≡ 0 → ⊥) → Tag (f .at) (f .len) ≡ tagFound g
+  unfolding tagFound
+  tag-some h = rw (← e, ne-eqb (f .len) 0 h)
 
 differ : {A : Type 0} {b : Bool} → b ≡ true → b ≡ false → A
 differ p q = absurd (false≢true (sym q ∙ p))

@@ -6,7 +6,7 @@ use mathlib.Core.Option.{Option, none, some}
 use mathlib.Core.List.{List, [], _∷_, _++_}
 use native.Mathlib.Omega.{arith}
 use lib.Dec.{eqb, leb, ltb}
-use lib.ListN.{length}
+use lib.ListN.{length, take, drop}
 use borrow.Author.Tests.{eqb-true, eqb-false, leb-true, ltb-true, eq-eqb, ne-eqb}
 use Rattle.spec.specs.Limits as L
 use Rattle.spec.proofs.Booleans.{and-left, and-right}
@@ -25,17 +25,28 @@ use Rattle.state.specs.Tests.{positive}
 use Rattle.spec.specs.Limits.{workStoreBytes}
 use Rattle.state.specs.Held.{room}
 use Rattle.state.specs.Held as Held
+use Rattle.spec.specs.XmlLang.{unsaid, inForce}
+use Rattle.state.specs.Language.{saidAs, ownIn, languageOf, tagOfLanguage, in-force-said}
+use Rattle.state.specs.declared.language.Language.the-variants.{None, Tag}
 use Rattle.state_stack.specs.declared.Changed.{Changed}
 use Rattle.state_stack.specs.declared.Found.{Found}
 use Rattle.state_stack.specs.Change.{Holds, flat, inside-opened, inside-closed, inside-element}
 use Rattle.state_stack.specs.Laws.{Bound, by}
-use Rattle.state_inner.specs.Calls.{Opens, mayOpen, Closes, ceilingIn, stretch, nameIn, innermostIn, baseIn, languageIn, heldIn, held-is}
+use Rattle.state_inner.specs.Calls.{Opens, mayOpen, Closes, ceilingIn, stretch, nameIn, innermostIn, baseIn, tagFound, languageIn, heldIn, held-is}
 
 -- the bytes that were found
 unfoldable pub found : Found → List ℕ → Option Bytes
 found f w = pick (f .there) (some (part w (f .at) (f .len))) none
 
 -- ---- reads
+
+tag-found : (w : List ℕ) (f : Found) → tagOfLanguage (tagFound f) w ≡ part w (f .at) (f .len)
+unfolding tagFound tagOfLanguage part
+tag-found w f = go (eqb (f .len) 0) refl
+  where
+    go : (t : Bool) → eqb (f .len) 0 ≡ t → tagOfLanguage (pick t None (Tag (f .at) (f .len))) w ≡ take (f .len) (drop (f .at) w)
+    go true e = rw (eqb-true (f .len) 0 e)
+    go false e = refl
 
 module _ (fs bs w : List ℕ) where
   -- own xml:base of the innermost of n elements that has one
@@ -52,17 +63,18 @@ module _ (fs bs w : List ℕ) where
       go true e = e
       go false e = refl
 
-  tag-frames : (n b : ℕ) → n * FRAME ≤ length fs → found (innermostIn fs TAGGED TAG n) w ≡ languageInForce (framesOf fs bs w n b)
-  unfolding innermostIn found orElse languageInForce framesOf elementOf optional span
+  tag-frames : (n b : ℕ) → n * FRAME ≤ length fs
+      → languageOf (part w (innermostIn fs TAGGED TAG n .at) (innermostIn fs TAGGED TAG n .len)) ≡ languageInForce (framesOf fs bs w n b)
+  unfolding innermostIn languageOf part inForce ownIn span languageInForce framesOf elementOf
   tag-frames zero b h = refl
   tag-frames (suc n) b h =
       rw (load-frame fs n (omega arith)) (go (eqb (has (frameAt fs n) TAGGED) 0) (tag-frames n (first (frameAt fs n)) (omega arith)))
     where
-      go : (t : Bool) → found (innermostIn fs TAGGED TAG n) w ≡ languageInForce (framesOf fs bs w n (first (frameAt fs n)))
-          → found (pick t (innermostIn fs TAGGED TAG n) (stretch (at (frameAt fs n) TAG) (at (frameAt fs n) MAIN))) w
-          ≡ orElse (pick t none (some (part w (at (frameAt fs n) TAG) (at (frameAt fs n) MAIN - at (frameAt fs n) TAG)))) (languageInForce (framesOf fs bs w n (first (frameAt fs n))))
+      go : (t : Bool) → languageOf (part w (innermostIn fs TAGGED TAG n .at) (innermostIn fs TAGGED TAG n .len)) ≡ languageInForce (framesOf fs bs w n (first (frameAt fs n)))
+          → languageOf (part w (pick t (innermostIn fs TAGGED TAG n) (stretch (at (frameAt fs n) TAG) (at (frameAt fs n) MAIN)) .at) (pick t (innermostIn fs TAGGED TAG n) (stretch (at (frameAt fs n) TAG) (at (frameAt fs n) MAIN)) .len))
+          ≡ inForce (pick t unsaid (saidAs (part w (at (frameAt fs n) TAG) (at (frameAt fs n) MAIN - at (frameAt fs n) TAG)))) (languageInForce (framesOf fs bs w n (first (frameAt fs n))))
       go true e = e
-      go false e = refl
+      go false e = sym (in-force-said (part w (at (frameAt fs n) TAG) (at (frameAt fs n) MAIN - at (frameAt fs n) TAG)) _)
 
 -- elements inside Literal content say nothing of base and language
 base-inners : (is bs w : List ℕ) (n b : ℕ) (start : Option Bytes) (es : List Element) → baseInForce start (innersOf is bs w n b ++ es) ≡ baseInForce start es
@@ -71,7 +83,7 @@ base-inners is bs w zero b start es = refl
 base-inners is bs w (suc n) b start es = base-inners is bs w n (rowAt is n .more) start es
 
 tag-inners : (is bs w : List ℕ) (n b : ℕ) (es : List Element) → languageInForce (innersOf is bs w n b ++ es) ≡ languageInForce es
-unfolding languageInForce innersOf innerOf orElse
+unfolding languageInForce innersOf innerOf inForce
 tag-inners is bs w zero b es = refl
 tag-inners is bs w (suc n) b es = tag-inners is bs w n (rowAt is n .more) es
 
@@ -94,9 +106,9 @@ module _ {r : Registers} {fs bs is w : List ℕ} (x : Valid r fs bs is w) where
       rw (base-inners is bs w (r .counts .inner) (r .counts .bindings) (startOf r w) (framesOf fs bs w (r .counts .depth) (r .counts .outer)), ← base-frames fs bs w (r .counts .depth) (r .counts .outer) (startOf r w) tables)
       (chosen r w (innermostIn fs BASED BASE (r .counts .depth)))
 
-  pub language-read : found (languageIn r fs) w ≡ languageInForce (elementsOf r fs bs is w)
+  pub language-read : languageOf (tagOfLanguage (languageIn r fs) w) ≡ languageInForce (elementsOf r fs bs is w)
   unfolding languageIn elementsOf
-  language-read = rw (tag-inners is bs w (r .counts .inner) (r .counts .bindings) (framesOf fs bs w (r .counts .depth) (r .counts .outer))) (tag-frames fs bs w (r .counts .depth) (r .counts .outer) tables)
+  language-read = ap languageOf (tag-found w (innermostIn fs TAGGED TAG (r .counts .depth))) ∙ rw (tag-inners is bs w (r .counts .inner) (r .counts .bindings) (framesOf fs bs w (r .counts .depth) (r .counts .outer))) (tag-frames fs bs w (r .counts .depth) (r .counts .outer) tables)
 
   pub held-read : (ids : List Bytes) → heldIn r ≡ heldBytes (docOf r fs bs is w ids)
   held-read ids = sym (held-is r (room x .low) (x .apart)) ∙ sym (Held.held x ids)
@@ -176,7 +188,7 @@ pub record Written (r : Registers) (bs w cs v : List ℕ) (a n b : ℕ) (name : 
 
 pub open-holds : {r : Registers} {fs bs is w js cs v : List ℕ} {a n b : ℕ} {c : Changed} {name : Bytes} {bound : List Binding}
     → Valid r fs bs is w → Opens r is a n b c js → c .ok ≡ true → Written r bs w cs v a n b name bound
-    → Holds (c .registers) fs cs js v (r .mode) (startOf r w) (record { name = name; bindings = bound; ownBase = none; ownTag = none; kind = xmlElement; part = ordinary } ∷ elementsOf r fs bs is w) (r .flags .rooted) (r .counts .labels)
+    → Holds (c .registers) fs cs js v (r .mode) (startOf r w) (record { name = name; bindings = bound; ownBase = none; ownTag = unsaid; kind = xmlElement; part = ordinary } ∷ elementsOf r fs bs is w) (r .flags .rooted) (r .counts .labels)
 unfolding innerOf
 open-holds {r} {fs} {bs} {is} {w} {js} {cs} {v} {a} {n} {b} {c} {name} {bound} x p y q =
     let m : mayOpen r is a n ≡ true = sym (p .answer) ∙ y in

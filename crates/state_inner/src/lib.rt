@@ -10,6 +10,7 @@ use copy::words::wide;
 use state::Counts;
 use state::Registers;
 use state::Store;
+use state::language::Language;
 use state_stack::Changed;
 use state_stack::Found;
 use state_words::Frame;
@@ -115,11 +116,15 @@ pub fn base_in_force(r: Registers, frames: &[u32]) -> Found
     }
 }
 
-// xml:lang in force.
-pub fn language_in_force(r: Registers, frames: &[u32]) -> Found
-    ensures { λ f. ⌜ f ≡ languageIn r (now (frames .entry)) ⌝ }
+// xml:lang in force: none where no element says one, or the innermost that does clears it.
+pub fn language_in_force(r: Registers, frames: &[u32]) -> Language
+    ensures { λ l. ⌜ l ≡ languageIn r (now (frames .entry)) ⌝ }
 {
-    innermost(frames, r.counts.depth, Frame::TAGGED, Frame::TAG)
+    let said = innermost(frames, r.counts.depth, Frame::TAGGED, Frame::TAG);
+    if said.len == 0 {
+        return Language::None;
+    }
+    Language::Tag(said.at, said.len)
 }
 
 // Held bytes: what is noted is stored, and not held.

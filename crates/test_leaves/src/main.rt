@@ -1,6 +1,6 @@
 // The verdict on each line of the files `iris` and `tags`.
-use langtag::Tag;
 use libc::STDOUT_FILENO;
+use spec::Verdict;
 
 fn main() {
     report_file(b"iris");
@@ -29,25 +29,27 @@ fn report_lines(text: &[u8]) {
 }
 
 fn report(line: &[u8]) {
-    if is_good(line) {
-        io::write_all(STDOUT_FILENO, b"good\t");
-    } else {
-        io::write_all(STDOUT_FILENO, b"bad\t");
+    match verdict_on(line) {
+        Verdict::Good => io::write_all(STDOUT_FILENO, b"good\t"),
+        Verdict::Clears => io::write_all(STDOUT_FILENO, b"clears\t"),
+        Verdict::Bad => io::write_all(STDOUT_FILENO, b"bad\t"),
     }
+    ;
     io::write_all(STDOUT_FILENO, line);
     io::write_all(STDOUT_FILENO, b"\n");
 }
 
 // Before an IRI or a reference to one stand its kind and a tab, before a language tag nothing.
-fn is_good(line: &[u8]) -> bool {
+fn verdict_on(line: &[u8]) -> Verdict {
     if copy::begins(line, b"iri\t") {
-        return iri::is_iri(&line[4..]);
+        return told(iri::is_iri(&line[4..]));
     }
     if copy::begins(line, b"ref\t") {
-        return iri::is_iri_reference(&line[4..]);
+        return told(iri::is_iri_reference(&line[4..]));
     }
-    match langtag::parse(line) {
-        Tag::Good => true,
-        Tag::Bad => false,
-    }
+    langtag::parse(line)
+}
+
+fn told(good: bool) -> Verdict {
+    if good { Verdict::Good } else { Verdict::Bad }
 }

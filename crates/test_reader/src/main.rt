@@ -9,6 +9,7 @@ fn main() {
     replay::replay_file(b"numbers", Mode::base());
     replay::replay_file(b"limits", Mode::base());
     replay::replay_file(b"w3c/tests", Mode::base());
+    replay::replay_file(b"languages", Mode::base());
     replay::replay_file(b"packets", Mode::xmp());
     calls::try_all();
 }

@@ -74,8 +74,8 @@ fn write_found(found: Found) {
     match found {
         Found::Unknown => text(b"unknown"),
         Found::Xml => text(&start_names::XML),
-        Found::Own(at, n) => text(start_names::piece(&TAG, at, n)),
-        Found::Held(at, n) => text(start_names::piece(&WORK, at, n)),
+        Found::Own(at, n) => text(copy::piece(&TAG, at, n)),
+        Found::Held(at, n) => text(copy::piece(&WORK, at, n)),
     }
 }
 
@@ -110,8 +110,8 @@ fn write_class(class: Class) {
         Class::Unknown => text(b"of an unknown prefix"),
         Class::Unprefixed => text(b"without a prefix"),
         Class::Xml => text(&start_names::XML),
-        Class::Own(at, n) => text(start_names::piece(&TAG, at, n)),
-        Class::Held(at, n) => text(start_names::piece(&WORK, at, n)),
+        Class::Own(at, n) => text(copy::piece(&TAG, at, n)),
+        Class::Held(at, n) => text(copy::piece(&WORK, at, n)),
     }
 }
 

@@ -6,6 +6,7 @@ use mathlib.Core.List.{List, [], _∷_}
 use Prim.Native.Nat.{ℕ, _+_}
 use lib.ListN.{length}
 use borrow.Author.Tests.{not-true}
+use Rattle.spec.specs.XmlLang.{Language, unsaid}
 use Rattle.spec.specs.Bytes.{Bytes, if_then_else_, All}
 use Rattle.spec.specs.Numbers.{Answer, refuse, good}
 use Rattle.spec.specs.Pyx.{Attribute, Event, opening, closing, text, instruction}
@@ -37,7 +38,7 @@ Produces xml t n o = ⊥
 
 -- an element in Literal content
 abbrev pub copy : Bytes → List Attribute → Frame
-copy n as′ = record { name = n; bindings = declared as′; ownBase = none; ownTag = none; kind = xmlElement; part = ordinary }
+copy n as′ = record { name = n; bindings = declared as′; ownBase = none; ownTag = unsaid; kind = xmlElement; part = ordinary }
 
 -- the lines of an accepted event, and the document behind it
 pub data Change (d : Doc) : List Triple → Doc → Type 0 where
@@ -61,7 +62,7 @@ pub data Change (d : Doc) : List Triple → Doc → Type 0 where
   ends-wrapper : (f : Frame) (fs : List Frame) (b : Bool) → d .frames ≡ f ∷ fs → f .kind ≡ wrapper b → Change d [] (withFrames fs d)
   ends-node : (f : Frame) (fs : List Frame) (s : Subject) (li : ℕ) → d .frames ≡ f ∷ fs → f .kind ≡ nodeElement s li
       → Change d [] (withFrames (changeValue (takesNode s) fs) d)
-  ends-property : (f : Frame) (fs : List Frame) (p : Property) (v : Value) (l : Option Bytes) (us : List Triple) (n : ℕ)
+  ends-property : (f : Frame) (fs : List Frame) (p : Property) (v : Value) (l : Language) (us : List Triple) (n : ℕ)
       → d .frames ≡ f ∷ fs → f .kind ≡ propertyElement p v → endValue p v l (withFrames fs d) ≡ good (us, withLabels n (withFrames fs d))
       → Change d us (withLabels n (withFrames fs d))
   ends-xml : (f : Frame) (fs : List Frame) (x : Bytes) → d .frames ≡ f ∷ fs → f .kind ≡ xmlElement
@@ -111,7 +112,7 @@ on-opening n as′ d = always-require (Changes d) _ _ _ λ a. always-require (Ch
 -- ---- end tags
 
 -- the end of a property changes nothing but the number of labels
-only-labels : (p : Property) (v : Value) (l : Option Bytes) (fs : List Frame) (d : Doc)
+only-labels : (p : Property) (v : Value) (l : Language) (fs : List Frame) (d : Doc)
     → Always (λ s. (n : ℕ) × (s .1 ≡ withLabels n (withFrames fs d))) (endValue p v l (withFrames fs d))
 unfolding endValue withFrames withLabels
 only-labels p (default t o) l fs d = (d .labels, refl)
@@ -120,14 +121,14 @@ only-labels p (literal x) l fs d = always-require _ _ _ _ λ e. (d .labels, refl
 only-labels p other l fs d = (d .labels, refl)
 
 module _ (d : Doc) (f : Frame) (fs : List Frame) (is : d .frames ≡ f ∷ fs) where
-  end-property : (p : Property) (v : Value) (l : Option Bytes) → f .kind ≡ propertyElement p v → Always (Changes d) (endValue p v l (withFrames fs d))
+  end-property : (p : Property) (v : Value) (l : Language) → f .kind ≡ propertyElement p v → Always (Changes d) (endValue p v l (withFrames fs d))
   end-property p v l k = go (endValue p v l (withFrames fs d)) refl (only-labels p v l fs d)
     where
       go : (a : Answer Step) → endValue p v l (withFrames fs d) ≡ a → Always (λ s. (n : ℕ) × (s .1 ≡ withLabels n (withFrames fs d))) a → Always (Changes d) a
       go (refuse r) e h = tt
       go (good (us, d′)) e (n, q) = subst (λ (x : Doc). Change d us x) (sym q) (ends-property f fs p v l us n is k (e ∙ ap (λ (x : Doc). good (us, x)) q))
 
-  end-kind : (k : Kind) (n : Bytes) (l : Option Bytes) → f .kind ≡ k → Always (Changes d) (C.endKind k n l (withFrames fs d))
+  end-kind : (k : Kind) (n : Bytes) (l : Language) → f .kind ≡ k → Always (Changes d) (C.endKind k n l (withFrames fs d))
   unfolding C.endKind addXml withFrames
   end-kind rdfRDF n l k = ends-root f fs is k
   end-kind (wrapper b) n l k = always-after (Changes d) _ _ (ends-wrapper f fs b is k)

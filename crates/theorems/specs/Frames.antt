@@ -8,13 +8,14 @@ use mathlib.Core.List.{List, [], _∷_, _++_}
 use Prim.Native.Nat.{ℕ, suc}
 use native.Mathlib.Omega.{arith}
 use lib.ListN.{length}
-use Rattle.spec.specs.Bytes.{Bytes, each, if_then_else_, orElse}
+use Rattle.spec.specs.Bytes.{Bytes, each, if_then_else_}
 use Rattle.spec.specs.Numbers.{Answer, good}
 use Rattle.spec.specs.Pyx.{Attribute, Event, opening, closing, text, instruction}
 use Rattle.spec.specs.Namespaces.{Binding, declared, expandElement}
 use Rattle.spec.specs.NTriples.{Subject}
 use Rattle.spec.specs.Document.{Value, default, collection, literal, other, Property, Kind, rdfRDF, wrapper, nodeElement, propertyElement, xmlElement, Part, Frame, Doc, withFrames, withLabels, inScope, languageInForce, Place, outside, nodes, nodesOrText, xml, properties, placeIn, changeValue, isXmlElement, onValue, withKind}
-use Rattle.spec.specs.StartTag.{Meaning, xml-lang, meaning, first, lowercased, Tag, readTag}
+use Rattle.spec.specs.XmlLang.{Language, ownOf, inForce}
+use Rattle.spec.specs.StartTag.{Meaning, xml-lang, meaning, first, Tag, readTag}
 use Rattle.spec.specs.Productions as O
 use Rattle.spec.specs.Productions.{Opened, openNode, openProperty, openRoot, ParseType, noParseType, asCollection, asResource, asLiteral, asOther}
 use Rattle.spec.specs.XmlLiteral.{takesXml, addXml, endTagXml}
@@ -117,8 +118,8 @@ scopeOf as′ d = declared as′ ++ inScope (d .frames)
 abbrev pub Read : Bytes → List Attribute → Doc → Tag → Type 0
 Read n as′ d t =
     (expandElement (scopeOf as′ d) n ≡ good (t .iri))
-    × ((ms : List Meaning) × (each (meaning (scopeOf as′ d)) as′ ≡ good ms) × (t .ownTag ≡ lowercased (first xml-lang ms)))
-    × (t .language ≡ orElse (t .ownTag) (languageInForce (d .frames)))
+    × ((ms : List Meaning) × (each (meaning (scopeOf as′ d)) as′ ≡ good ms) × (t .ownTag ≡ ownOf (first xml-lang ms)))
+    × (t .language ≡ inForce (t .ownTag) (languageInForce (d .frames)))
 
 pub tag-read : (n : Bytes) (as′ : List Attribute) (d : Doc) → Always (Read n as′ d) (readTag n as′ d)
 unfolding readTag
@@ -192,14 +193,14 @@ module _ (n : Bytes) (as′ : List Attribute) (d : Doc) where
 abbrev Leaves : Kind → Bytes → Doc → Step → Type 0
 Leaves k n d s = (s .1 .frames ≡ left k n (d .frames)) × (s .1 .startBase ≡ d .startBase)
 
-end-value : (p : Property) (v : Value) (n : Bytes) (l : Option Bytes) (d : Doc) → Always (Leaves (propertyElement p v) n d) (C.endValue p v l d)
+end-value : (p : Property) (v : Value) (n : Bytes) (l : Language) (d : Doc) → Always (Leaves (propertyElement p v) n d) (C.endValue p v l d)
 unfolding C.endValue withLabels
 end-value p (default t o) n l d = (refl, refl)
 end-value p (collection cs) n l d = always-after (Leaves (propertyElement p (collection cs)) n d) _ _ (refl, refl)
 end-value p (literal x) n l d = always-after (Leaves (propertyElement p (literal x)) n d) _ _ (refl, refl)
 end-value p other n l d = (refl, refl)
 
-end-kind : (k : Kind) (n : Bytes) (l : Option Bytes) (d : Doc) → Always (Leaves k n d) (C.endKind k n l d)
+end-kind : (k : Kind) (n : Bytes) (l : Language) (d : Doc) → Always (Leaves k n d) (C.endKind k n l d)
 unfolding C.endKind withFrames addXml
 end-kind rdfRDF n l d = (refl, refl)
 end-kind (wrapper b) n l d = always-after (Leaves (wrapper b) n d) _ _ (refl, refl)

@@ -13,6 +13,7 @@ use Rattle.spec.specs.Namespaces.{Binding}
 use Rattle.spec.specs.Pyx.{Event, opening, closing, text, instruction}
 use Rattle.spec.specs.NTriples.{Triple}
 use Rattle.spec.specs.Document.{Value, Kind, rdfRDF, wrapper, nodeElement, propertyElement, xmlElement, Part, Frame, Doc, withKind, withPart, isXmlElement, onValue, changeValue, inScope, languageInForce, baseInForce}
+use Rattle.spec.specs.XmlLang.{Language, noLanguage, inForce}
 use Rattle.spec.specs.Opening.{countLi}
 use Rattle.spec.specs.RdfXml.{next}
 use Rattle.spec.specs.Lists.{After, here, event}
@@ -116,9 +117,9 @@ said-again {d} {d′} c =
 
 -- ---- what is in force was said
 
-languageSaid : List Said → Option Bytes
-languageSaid [] = none
-languageSaid (x ∷ S) = orElse (x .3) (languageSaid S)
+languageSaid : List Said → Language
+languageSaid [] = noLanguage
+languageSaid (x ∷ S) = inForce (x .3) (languageSaid S)
 
 language-said : (fs : List Frame) → languageInForce fs ≡ languageSaid (said fs)
 unfolding languageInForce languageSaid said

@@ -8,7 +8,8 @@ use native.Mathlib.Omega.{arith}
 use lib.Dec.{leb}
 use lib.ListN.{length, length-append}
 use borrow.Author.Tests.{ltb-true, leb-true}
-use Rattle.spec.specs.Bytes.{Bytes, if_then_else_, same, isSome, orElse, present, total, All}
+use Rattle.spec.specs.XmlLang.{carries}
+use Rattle.spec.specs.Bytes.{Bytes, if_then_else_, same, orElse, present, total, All}
 use Rattle.spec.specs.Bytes as B
 use Rattle.spec.specs.Numbers.{Answer, refuse, good}
 use Rattle.spec.specs.Limits.{mostOpenElements, mostAttributes, mostBindings, mostNameBytes, mostIds, mostIdBytes, mostHeldBytes, mostLabels}
@@ -214,7 +215,7 @@ noted-short true t a (topLevel none) h = a
 noted-short true t a (topLevel (some b)) h = h
 noted-short true t a (alternatives none) h = go (same (t .iri) (rdf "li"))
   where
-    go : (b : Bool) → ShortPart (if b then alternatives (some (isSome (t .ownTag))) else alternatives none)
+    go : (b : Bool) → ShortPart (if b then alternatives (some (carries (t .ownTag))) else alternatives none)
     go true = tt
     go false = tt
 noted-short true t a (alternatives (some b)) h = tt

@@ -9,6 +9,7 @@ use native.Mathlib.Omega.{arith}
 use lib.ListN.{length}
 use borrow.Author.Tests.{leb-true}
 use Rattle.spec.specs.Bytes.{Bytes, if_then_else_}
+use Rattle.spec.specs.XmlLang.{written, Language, Own, unsaid, cleared, given}
 use Rattle.spec.specs.Numbers.{Answer, good}
 use Rattle.spec.specs.Pyx.{Event, closing}
 use Rattle.spec.specs.NTriples.{Subject, named, blank, Term, node, Triple, triple, label}
@@ -27,7 +28,7 @@ use Rattle.theorems.specs.Always.{Always, always-bind, always-require}
 use Rattle.spec.specs.Lists.{sameSubject, linesOf, After, here, event, Cell, Reads}
 use Rattle.spec.proofs.Bytes.{same-refl, same-false}
 use Rattle.theorems.specs.Labels.{label-inj, label-generated}
-use Rattle.theorems.specs.Subjects.{Rule, Of?, OfChildren, OfObject, OfValue, OfKind, OfFrames, OfLines, no-line, with-line, lines-append, Outcome, step, statement-lines, cell-lines}
+use Rattle.theorems.specs.Subjects.{Rule, OfOwn, OfChildren, OfObject, OfValue, OfKind, OfFrames, OfLines, no-line, with-line, lines-append, Outcome, step, statement-lines, cell-lines}
 
 -- ---- subjects that are not a given label
 
@@ -107,9 +108,10 @@ module _ (R S : Rule) (f : (s : Subject) → R .subj s → S .subj s) (g : (o : 
   value-map (literal x) c = tt
   value-map other c = tt
 
-  language-map : (o : Option Bytes) → Of? (R .lang) o → Of? (S .lang) o
-  language-map none c = tt
-  language-map (some l) c = h l c
+  language-map : (o : Own) → OfOwn (R .lang) o → OfOwn (S .lang) o
+  language-map unsaid c = tt
+  language-map cleared c = tt
+  language-map (given t) c = h (written t) c
 
   kind-map : (k : Kind) → OfKind R k → OfKind S k
   kind-map rdfRDF c = tt
@@ -132,9 +134,10 @@ trivial-children : (cs : List Subject) → OfChildren AnyRule cs
 trivial-children [] = tt
 trivial-children (c ∷ cs) = (tt, trivial-children cs)
 
-trivial-option : {A : Type 0} (o : Option A) → Of? (λ (a : A). Unit {0}) o
-trivial-option none = tt
-trivial-option (some a) = tt
+trivial-own : (o : Own) → OfOwn (λ t. Unit {0}) o
+trivial-own unsaid = tt
+trivial-own cleared = tt
+trivial-own (given t) = tt
 
 trivial-object : (o : Object) → OfObject AnyRule o
 trivial-object noObject = tt
@@ -156,7 +159,7 @@ trivial-kind xmlElement = tt
 
 trivial-frames : (fs : List Frame) → OfFrames AnyRule fs
 trivial-frames [] = tt
-trivial-frames (f ∷ fs) = (trivial-kind (f .kind), trivial-option (f .ownTag), trivial-frames fs)
+trivial-frames (f ∷ fs) = (trivial-kind (f .kind), trivial-own (f .ownTag), trivial-frames fs)
 
 -- a rule for each number of labels from lo on, which goes up with it, and which new labels obey
 pub record Family : Type 1 where
@@ -293,7 +296,7 @@ module _ (f : Frame) (p : Property) (cs : List Subject) (is : f .kind ≡ proper
   abbrev pub Closed : Step → Type 0
   Closed o = (o .0 ≡ cells n nil cs ++ statement p (node (headCell n nil cs))) × (o .1 ≡ behind) × (n + length cs < 100_000_000)
 
-  ends : (k : Kind) (w : Bytes) (l : Option Bytes) → k ≡ propertyElement p (collection cs) → Always Closed (C.endKind k w l (withFrames fs inCollection))
+  ends : (k : Kind) (w : Bytes) (l : Language) → k ≡ propertyElement p (collection cs) → Always Closed (C.endKind k w l (withFrames fs inCollection))
   unfolding C.endKind C.endValue withLabels withFrames mostLabels
   ends k w l e = rw e (always-require Closed _ _ _ λ g.
       (refl, refl, (let le : n + length cs ≤ 99_999_999 = leb-true (n + length cs) 99_999_999 g in omega arith)))

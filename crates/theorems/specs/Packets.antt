@@ -7,6 +7,7 @@ use Prim.Native.Nat.{ℕ, suc}
 use native.Mathlib.Omega.{arith}
 use lib.Dec.{eqb}
 use lib.ListN.{length}
+use Rattle.spec.specs.XmlLang.{Language}
 use Rattle.spec.specs.Bytes.{Bytes, if_then_else_, isEmpty, total, _>>=_, _>>_, require_or_}
 use Rattle.spec.specs.Numbers.{number, Answer, refuse, good}
 use Rattle.spec.specs.declared.Refusal.{Refusal}
@@ -185,7 +186,7 @@ on-opening n as′ d w =
 
 -- ---- end tags
 
-end-value : (p : Property) (v : Value) (l : Option Bytes) (d : Doc) → Follows (endValue p v l d) (endValue p v l (inBase d))
+end-value : (p : Property) (v : Value) (l : Language) (d : Doc) → Follows (endValue p v l d) (endValue p v l (inBase d))
 unfolding endValue inBase withLabels
 end-value p (default t o) l d = refl
 end-value p (collection cs) l d = follows-require _ _ LabelsSpent _ _ refl λ k. refl
@@ -197,7 +198,7 @@ changed : (g : Value → Value) (d : Doc) → withFrames (changeValue g (inBase 
 unfolding withFrames inBase
 changed g d = ap (λ (fs : List Frame). record { mode = baseMode; startBase = d .startBase; frames = fs; rooted = d .rooted; labels = d .labels; ids = d .ids }) (change-bare g (d .frames))
 
-end-kind : (k : Kind) (n : Bytes) (l : Option Bytes) (d : Doc) → Follows (endKind k n l d) (endKind k n l (inBase d))
+end-kind : (k : Kind) (n : Bytes) (l : Language) (d : Doc) → Follows (endKind k n l d) (endKind k n l (inBase d))
 unfolding endKind addXml
 end-kind rdfRDF n l d = refl
 end-kind (wrapper b) n l d = follows-require _ _ ProfileBroken _ _ refl λ k. refl

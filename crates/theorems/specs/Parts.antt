@@ -6,7 +6,8 @@ use mathlib.Core.Option.{Option, none, some}
 use mathlib.Core.List.{List, [], _∷_}
 use Prim.Native.Nat.{ℕ}
 use native.Mathlib.Omega.{arith}
-use Rattle.spec.specs.Bytes.{Bytes, if_then_else_, same, isSome, All}
+use Rattle.spec.specs.XmlLang.{carries}
+use Rattle.spec.specs.Bytes.{Bytes, if_then_else_, same, All}
 use Rattle.spec.specs.Rdf.{rdf}
 use Rattle.spec.specs.declared.Mode.{Mode}
 use Rattle.spec.specs.NTriples.{Subject, Triple}
@@ -53,8 +54,8 @@ unfolding withChild if_then_else_
 noted-alt t (some b) = (some b, refl)
 noted-alt t none = go (same (t .iri) (rdf "li"))
   where
-    go : (b : Bool) → (m : Option Bool) × ((if b then alternatives (some (isSome (t .ownTag))) else alternatives none) ≡ alternatives m)
-    go true = (some (isSome (t .ownTag)), refl)
+    go : (b : Bool) → (m : Option Bool) × ((if b then alternatives (some (carries (t .ownTag))) else alternatives none) ≡ alternatives m)
+    go true = (some (carries (t .ownTag)), refl)
     go false = (none, refl)
 
 noted-ordinary : (t : Tag) (q : Part) → q ≡ ordinary → withChild t q ≡ ordinary

@@ -10,6 +10,7 @@ use native.Mathlib.Omega.{arith}
 use lib.Dec.{eqb, leb}
 use lib.ListN.{length}
 use borrow.Author.Tests.{leb-false, lt-leb}
+use Rattle.spec.specs.XmlLang.{Language}
 use Rattle.spec.specs.Bytes.{Bytes, byte, same, member, if_then_else_, each, _>>=_, _>>_, require_or_}
 use Rattle.spec.specs.Numbers.{number, closes, Answer, refuse, good}
 use Rattle.spec.specs.declared.Refusal.{Refusal}
@@ -316,7 +317,7 @@ module _ (Q : Refusal → Type 0) (d : Doc) (j : Behind Q d) where
 
   -- ---- end tags and text
 
-  end-value : (p : Property) (v : Value) (l : Option Bytes) (d′ : Doc) → ((x : Bytes) → v ≡ literal x → Q EmptyLiteral)
+  end-value : (p : Property) (v : Value) (l : Language) (d′ : Doc) → ((x : Bytes) → v ≡ literal x → Q EmptyLiteral)
       → Given Q (C.endValue p v l d′)
   unfolding C.endValue
   end-value p (default t o) l d′ h = tt
@@ -324,7 +325,7 @@ module _ (Q : Refusal → Type 0) (d : Doc) (j : Behind Q d) where
   end-value p (literal x) l d′ h = on-require Q _ _ _ (h x refl) tt
   end-value p other l d′ h = tt
 
-  end-kind : (k : Kind) (m : Bytes) (l : Option Bytes) (d′ : Doc) → ((p : Property) (x : Bytes) → k ≡ propertyElement p (literal x) → Q EmptyLiteral)
+  end-kind : (k : Kind) (m : Bytes) (l : Language) (d′ : Doc) → ((p : Property) (x : Bytes) → k ≡ propertyElement p (literal x) → Q EmptyLiteral)
       → ((b : Bool) → k ≡ wrapper b → Q ProfileBroken) → Given Q (C.endKind k m l d′)
   unfolding C.endKind
   end-kind rdfRDF m l d′ h g = tt

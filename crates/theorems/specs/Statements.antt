@@ -6,6 +6,7 @@ use mathlib.Core.List.{List, [], _∷_, _++_}
 use Prim.Native.Nat.{_<_}
 use native.Mathlib.Omega.{arith}
 use lib.ListN.{length, length-append}
+use Rattle.spec.specs.XmlLang.{Language}
 use Rattle.spec.specs.Bytes.{Bytes, if_then_else_}
 use Rattle.spec.specs.Pyx.{Event, opening, closing, text, instruction}
 use Rattle.spec.specs.NTriples.{Subject, named, Term, Triple}
@@ -118,7 +119,7 @@ abbrev Ends : Property → Bool → List Triple → Type 0
 Ends p true us = us ≡ []
 Ends p false us = (ws : List Triple) × (o : Term) × (us ≡ ws ++ statement p o)
 
-end-value : (p : Property) (v : Value) (l : Option Bytes) (d : Doc) → Always (λ s. Ends p (isOther v) (s .0)) (C.endValue p v l d)
+end-value : (p : Property) (v : Value) (l : Language) (d : Doc) → Always (λ s. Ends p (isOther v) (s .0)) (C.endValue p v l d)
 unfolding C.endValue isOther
 end-value p (default t o) l d = ([], _, refl)
 end-value p (collection cs) l d = always-after (λ s. Ends p false (s .0)) _ _ (C.cells (d .labels) (named (rdf "nil")) cs, _, refl)

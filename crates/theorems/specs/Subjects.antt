@@ -9,7 +9,7 @@ use Prim.Native.Nat.{ℕ, suc, _+_, _≤_, _<_}
 use native.Mathlib.Omega.{arith}
 use lib.ListN.{length}
 use borrow.Author.Tests.{ltb-true, leb-true, not-true}
-use Rattle.spec.specs.Bytes.{Bytes, if_then_else_, each, orElse}
+use Rattle.spec.specs.Bytes.{Bytes, if_then_else_, isEmpty, each, orElse}
 use Rattle.spec.specs.Numbers.{Answer}
 use Rattle.spec.specs.Limits.{mostLabels}
 use Rattle.spec.proofs.Booleans.{and-left, and-right}
@@ -19,6 +19,8 @@ use Rattle.spec.specs.Namespaces.{Binding}
 use Rattle.spec.specs.NTriples.{Subject, named, blank, Term, node, plain, tagged, typed, Triple, triple, label}
 use Rattle.spec.specs.Abnf.{lower}
 use Rattle.spec.specs.Rfc5646.{isLanguageTag}
+use Rattle.spec.specs.declared.Verdict.the-variants.{Good, Clears, Bad}
+use Rattle.spec.specs.XmlLang.{tagOf, written, Language, noLanguage, language, verdict, isAllowed, Own, unsaid, cleared, given, saidBy, ownOf, inForce}
 use Rattle.spec.specs.Document.{Object, noObject, nodeObject, textObject, Value, default, collection, literal, other, Property, Kind, rdfRDF, wrapper, nodeElement, propertyElement, xmlElement, Part, Frame, Doc, withFrames, withLabels, withKind, withPart, languageInForce, Place, outside, nodes, nodesOrText, xml, properties, inValue, inKind, placeIn, changeValue, onValue, isXmlElement}
 use Rattle.spec.specs.StartTag as S
 use Rattle.spec.specs.StartTag.{Role, Meaning, means, sameRole, roleNumber, judge, isGenerated, endsInStop, Tag, readTag, nothing, xml-lang, xml-base, rdf-ID, rdf-bagID, rdf-nodeID, rdf-about, rdf-resource, rdf-datatype, rdf-parseType, rdf-type, forbidden, property}
@@ -53,6 +55,15 @@ abbrev pub Of? : {A : Type 0} → (A → Type 0) → Option A → Type 0
 Of? P none = Unit {0}
 Of? P (some a) = P a
 
+abbrev pub OfOwn : (Bytes → Type 0) → Own → Type 0
+OfOwn P unsaid = Unit {0}
+OfOwn P cleared = Unit {0}
+OfOwn P (given t) = P (written t)
+
+abbrev pub OfLanguage : (Bytes → Type 0) → Language → Type 0
+OfLanguage P noLanguage = Unit {0}
+OfLanguage P (language t) = P (written t)
+
 module _ (R : Rule) where
   abbrev pub OfChildren : List Subject → Type 0
   OfChildren [] = Unit {0}
@@ -78,7 +89,7 @@ module _ (R : Rule) where
 
   abbrev pub OfFrames : List Frame → Type 0
   OfFrames [] = Unit {0}
-  OfFrames (f ∷ fs) = OfKind (f .kind) × Of? (R .lang) (f .ownTag) × OfFrames fs
+  OfFrames (f ∷ fs) = OfKind (f .kind) × OfOwn (R .lang) (f .ownTag) × OfFrames fs
 
   pub data OfLines : List Triple → Type 0 where
     no-line : OfLines []
@@ -98,13 +109,13 @@ module _ (R : Rule) where
   abbrev pub Produced : ℕ → Opened → Type 0
   Produced n o = (n ≤ o .labels) × (o .labels < 100_000_000) × (New n (o .labels) → OfKind (o .kind) × OfLines (o .lines))
 
--- ---- attributes: every rdf:nodeID that is let past is a good label, every xml:lang a good tag
+-- ---- attributes: every rdf:nodeID that is let past is a good label, every xml:lang a good tag or empty
 
 abbrev pub GoodLabel : Bytes → Type 0
 GoodLabel l = (isNCName l ≡ true) × (isGenerated l ≡ false) × (endsInStop l ≡ false)
 
 abbrev pub GoodTag : Bytes → Type 0
-GoodTag v = isLanguageTag v ≡ true
+GoodTag v = isAllowed (verdict v) ≡ true
 
 abbrev pub Fair : Meaning → Type 0
 Fair (means q i v) = (sameRole rdf-nodeID q ≡ true → GoodLabel v) × (sameRole xml-lang q ≡ true → GoodTag v)
@@ -126,7 +137,7 @@ first-of P r (means q i v ∷ ms) g h = go (sameRole r q) refl (first-of P r ms 
 first-label : (ms : List Meaning) → AllFair ms → Of? GoodLabel (S.first rdf-nodeID ms)
 first-label ms = first-of GoodLabel rdf-nodeID ms λ q i v h. h .0
 
-first-tag : (ms : List Meaning) → AllFair ms → Of? GoodTag (S.first xml-lang ms)
+pub first-tag : (ms : List Meaning) → AllFair ms → Of? GoodTag (S.first xml-lang ms)
 first-tag ms = first-of GoodTag xml-lang ms λ q i v h. h .1
 
 neither : (q : Role) (i v : Bytes) → sameRole rdf-nodeID q ≡ false → sameRole xml-lang q ≡ false → Fair (means q i v)
@@ -157,7 +168,7 @@ meaning-fair bs (attribute n v) =
     always-if Fair _ _ _ (λ e. neither nothing n v refl refl) λ e.
     always-any Fair _ _ λ i. always-then (λ u. Fair (means (S.roleOf n i) i v)) Fair _ _ (judge-fair (S.roleOf n i) i v) λ u h. h
 
-each-fair : (bs : List Binding) (as′ : List Attribute) → Always AllFair (each (S.meaning bs) as′)
+pub each-fair : (bs : List Binding) (as′ : List Attribute) → Always AllFair (each (S.meaning bs) as′)
 unfolding each
 each-fair bs [] = tt
 each-fair bs (a ∷ as′) =
@@ -165,22 +176,29 @@ each-fair bs (a ∷ as′) =
 
 module _ (R : Rule) where
   abbrev pub FairTag : Tag → Type 0
-  FairTag t = Of? GoodLabel (t .nodeID) × Of? (R .lang) (t .ownTag) × Of? (R .lang) (t .language)
+  FairTag t = Of? GoodLabel (t .nodeID) × OfOwn (R .lang) (t .ownTag) × OfLanguage (R .lang) (t .language)
 
-  lowercased-tag : (o : Option Bytes) → Of? GoodTag o → Of? (R .lang) (S.lowercased o)
-  unfolding S.lowercased
-  lowercased-tag none h = tt
-  lowercased-tag (some v) h = R .tag-of v h
+  own-tag : (o : Option Bytes) → Of? GoodTag o → OfOwn (R .lang) (ownOf o)
+  unfolding ownOf saidBy verdict isAllowed tagOf written if_then_else_
+  own-tag none h = tt
+  own-tag (some v) h = go (isEmpty v) (isLanguageTag v) refl h
+    where
+      go : (e t : Bool) → isLanguageTag v ≡ t → isAllowed (if e then Clears else if t then Good else Bad) ≡ true
+          → OfOwn (R .lang) (saidBy (if e then Clears else if t then Good else Bad) v)
+      go true t q k = tt
+      go false true q k = R .tag-of v q
+      go false false q k = absurd (false≢true k)
 
-  or-else : (a b : Option Bytes) → Of? (R .lang) a → Of? (R .lang) b → Of? (R .lang) (orElse a b)
-  unfolding orElse
-  or-else none b h k = k
-  or-else (some a) b h k = h
+  in-force : (a : Own) (b : Language) → OfOwn (R .lang) a → OfLanguage (R .lang) b → OfLanguage (R .lang) (inForce a b)
+  unfolding inForce
+  in-force unsaid b h k = k
+  in-force cleared b h k = tt
+  in-force (given t) b h k = h
 
-  language-of : (fs : List Frame) → OfFrames R fs → Of? (R .lang) (languageInForce fs)
+  language-of : (fs : List Frame) → OfFrames R fs → OfLanguage (R .lang) (languageInForce fs)
   unfolding languageInForce
   language-of [] h = tt
-  language-of (f ∷ fs) h = or-else (f .ownTag) (languageInForce fs) (h .1) (language-of fs (h .2))
+  language-of (f ∷ fs) h = in-force (f .ownTag) (languageInForce fs) (h .1) (language-of fs (h .2))
 
   tag-fair : (n : Bytes) (as′ : List Attribute) (d : Doc) → OfFrames R (d .frames) → Always FairTag (readTag n as′ d)
   unfolding readTag
@@ -193,26 +211,26 @@ module _ (R : Rule) where
       always-any FairTag _ _ λ resource′.
       always-any FairTag _ _ λ datatype′.
       always-any FairTag _ _ λ type′.
-      (let g : Of? (R .lang) (S.lowercased (S.first xml-lang ms)) = lowercased-tag _ (first-tag ms fair) in
-      (first-label ms fair, g, or-else _ _ g (language-of (d .frames) h)))
+      (let g : OfOwn (R .lang) (ownOf (S.first xml-lang ms)) = own-tag _ (first-tag ms fair) in
+      (first-label ms fair, g, in-force _ _ g (language-of (d .frames) h)))
 
   -- ---- lines
 
   names : (i : Bytes) → R .obj (node (named i))
   names i = R .node-of (named i) (R .name i)
 
-  literal-of : (d l : Option Bytes) (v : Bytes) → Of? (R .lang) l → R .obj (O.literalOf d l v)
+  literal-of : (d : Option Bytes) (l : Language) (v : Bytes) → OfLanguage (R .lang) l → R .obj (O.literalOf d l v)
   unfolding O.literalOf
   literal-of (some d) l v h = R .typed-of v d
-  literal-of none (some l) v h = R .tagged-of v l h
-  literal-of none none v h = R .plain-of v
+  literal-of none (language t) v h = R .tagged-of v (written t) h
+  literal-of none noLanguage v h = R .plain-of v
 
   type-lines : (s : Subject) (o : Option Bytes) → R .subj s → OfLines R (typeLine s o)
   unfolding typeLine
   type-lines s none h = no-line
   type-lines s (some i) h = with-line h (names i) no-line
 
-  attribute-lines : (s : Subject) (l : Option Bytes) (as′ : List (Bytes × Bytes)) → R .subj s → Of? (R .lang) l → OfLines R (attributeLines s l as′)
+  attribute-lines : (s : Subject) (l : Language) (as′ : List (Bytes × Bytes)) → R .subj s → OfLanguage (R .lang) l → OfLines R (attributeLines s l as′)
   unfolding attributeLines
   attribute-lines s l [] h g = no-line
   attribute-lines s l (a ∷ as′) h g = with-line h (literal-of none l (a .1) g) (attribute-lines s l as′ h g)
@@ -426,13 +444,13 @@ module _ (R : Rule) where
   takes-node s g (literal x) h = h
   takes-node s g other h = h
 
-  object-term : (d l : Option Bytes) (o : Object) → Of? (R .lang) l → OfObject R o → R .obj (C.objectTerm d l o)
+  object-term : (d : Option Bytes) (l : Language) (o : Object) → OfLanguage (R .lang) l → OfObject R o → R .obj (C.objectTerm d l o)
   unfolding C.objectTerm
   object-term d l noObject h g = literal-of d l [] h
   object-term d l (nodeObject s) h g = g
   object-term d l (textObject t) h g = literal-of d l t h
 
-  end-value : (p : Property) (v : Value) (l : Option Bytes) (d : Doc) → R .subj (p .subject) → OfValue R v → Of? (R .lang) l → OfFrames R (d .frames) → d .labels < 100_000_000
+  end-value : (p : Property) (v : Value) (l : Language) (d : Doc) → R .subj (p .subject) → OfValue R v → OfLanguage (R .lang) l → OfFrames R (d .frames) → d .labels < 100_000_000
       → Always (Outcome R (d .labels)) (C.endValue p v l d)
   unfolding C.endValue withLabels mostLabels
   end-value p (default t o) l d k g f h le = (omega arith, le, λ new. (h, statement-lines p _ k (object-term t l o f g)))
@@ -448,7 +466,7 @@ module _ (R : Rule) where
       always-require (Outcome R (d .labels)) _ _ _ λ e. (omega arith, le, λ new. (h, statement-lines p _ k (R .typed-of x _)))
   end-value p other l d k g f h le = (omega arith, le, λ new. (h, no-line))
 
-  end-kind : (k : Kind) (m : Bytes) (l : Option Bytes) (d : Doc) → OfKind R k → Of? (R .lang) l → OfFrames R (d .frames) → d .labels < 100_000_000
+  end-kind : (k : Kind) (m : Bytes) (l : Language) (d : Doc) → OfKind R k → OfLanguage (R .lang) l → OfFrames R (d .frames) → d .labels < 100_000_000
       → Always (Outcome R (d .labels)) (C.endKind k m l d)
   unfolding C.endKind withFrames addXml
   end-kind rdfRDF m l d g f h le = (omega arith, le, λ new. (h, no-line))

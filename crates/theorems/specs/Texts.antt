@@ -9,6 +9,7 @@ use Prim.Native.String.{String}
 use native.Mathlib.Omega.{arith}
 use lib.Dec.{eqb}
 use borrow.Author.Tests.{ne-eqb}
+use Rattle.spec.specs.XmlLang.{Language, noLanguage, language}
 use Rattle.spec.specs.Bytes.{Bytes, ascii, byte, if_then_else_, same, those, every, orElse, isEmpty, All}
 use Rattle.spec.specs.Bytes as B
 use Rattle.spec.specs.Numbers.{Answer}
@@ -249,18 +250,18 @@ tag-text n as′ d t h k =
 
 -- ---- lines
 
-literal-text : (d l : Option Bytes) (v : Bytes) → Text? d → Text v → TextTerm (O.literalOf d l v)
+literal-text : (d : Option Bytes) (l : Language) (v : Bytes) → Text? d → Text v → TextTerm (O.literalOf d l v)
 unfolding O.literalOf
 literal-text (some d) l v h t = (t, h)
-literal-text none (some l) v h t = t
-literal-text none none v h t = t
+literal-text none (language m) v h t = t
+literal-text none noLanguage v h t = t
 
 type-lines : (s : Subject) (o : Option Bytes) → TextSubject s → Text? o → All TextTriple (typeLine s o)
 unfolding typeLine ascii every isAscii
 type-lines s none h t = tt
 type-lines s (some i) h t = ((h, rdf-text "type" refl, t), tt)
 
-attribute-lines : (s : Subject) (l : Option Bytes) (as′ : List (Bytes × Bytes)) → TextSubject s → All TextPair as′ → All TextTriple (attributeLines s l as′)
+attribute-lines : (s : Subject) (l : Language) (as′ : List (Bytes × Bytes)) → TextSubject s → All TextPair as′ → All TextTriple (attributeLines s l as′)
 unfolding attributeLines
 attribute-lines s l [] h t = tt
 attribute-lines s l (a ∷ as′) h t = ((h, t .0 .0, literal-text none l (a .1) tt (t .0 .1)), attribute-lines s l as′ h (t .1))
@@ -540,13 +541,13 @@ takes-node s g (collection cs) h = (g, h)
 takes-node s g (literal x) h = h
 takes-node s g other h = h
 
-object-term : (d l : Option Bytes) (o : Object) → Text? d → TextObject o → TextTerm (C.objectTerm d l o)
+object-term : (d : Option Bytes) (l : Language) (o : Object) → Text? d → TextObject o → TextTerm (C.objectTerm d l o)
 unfolding C.objectTerm
 object-term d l noObject h g = literal-text d l [] h empty-text
 object-term d l (nodeObject s) h g = g
 object-term d l (textObject t) h g = literal-text d l t h g
 
-end-value : (p : Property) (v : Value) (l : Option Bytes) (d : Doc) → TextProperty p → TextValue v → TextDoc d → Always TextStep (C.endValue p v l d)
+end-value : (p : Property) (v : Value) (l : Language) (d : Doc) → TextProperty p → TextValue v → TextDoc d → Always TextStep (C.endValue p v l d)
 unfolding C.endValue withLabels ascii every isAscii
 end-value p (default t o) l d h g k = (statement-lines p _ h (object-term t l o (g .0) (g .1)), k)
 end-value p (collection cs) l d h g k =
@@ -555,7 +556,7 @@ end-value p (collection cs) l d h g k =
 end-value p (literal x) l d h g k = always-require TextStep _ _ _ λ e. (statement-lines p _ h (g, rdf-text "XMLLiteral" refl), k)
 end-value p other l d h g k = (tt, k)
 
-end-kind : (k : Kind) (m : Bytes) (l : Option Bytes) (d : Doc) → TextKind k → Text m → TextDoc d → Always TextStep (C.endKind k m l d)
+end-kind : (k : Kind) (m : Bytes) (l : Language) (d : Doc) → TextKind k → Text m → TextDoc d → Always TextStep (C.endKind k m l d)
 unfolding C.endKind withFrames addXml
 end-kind rdfRDF m l d g t h = (tt, h)
 end-kind (wrapper b) m l d g t h = always-after TextStep _ _ (tt, h)

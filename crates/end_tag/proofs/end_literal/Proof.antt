@@ -3,7 +3,8 @@ use mathlib.Core.Path.{sym, _∙_}
 use borrow.Author.Tests.{not-true, not-false}
 use Rattle.state.specs.Tests.{yes, no}
 use Rattle.end_tag.specs.Ends.{tells-over, tells-full, tells-done}
-use Rattle.end_tag.specs.Kinds.{literal-tells, literal-empty, empty-is, empty-not}
+use Rattle.end_tag.specs.Kinds.{literal-tells, literal-empty}
+use Rattle.copy.specs.Texts.{empty-is, empty-not}
 use borrow.Author.Needs.{needs}
 use Rattle.end_tag.proofs.end_literal.Statement.{statement}
 use Rattle.end_tag.proofs.end_literal.Tie as tie

@@ -8,6 +8,7 @@ use Rattle.spec.specs.Bytes.{Bytes, ascii, byte}
 use Rattle.spec.specs.Limits.{mostLabels}
 use Rattle.spec.specs.NTriples.{named}
 use Rattle.spec.specs.Modes.{baseMode}
+use Rattle.spec.specs.XmlLang.{unsaid}
 use Rattle.spec.specs.Document.{nodeElement, ordinary, fresh}
 use Rattle.spec.specs.Calls.{State, isOpen, unlawful, noDocument, callStart, callStep, callFinish}
 use Rattle.spec.specs.Examples.{page, agree}
@@ -25,7 +26,7 @@ unfoldable pub inNode : ℕ → State
 inNode n = isOpen (record {
   mode = baseMode;
   startBase = none;
-  frames = record { name = ascii "rdf:Bag"; bindings = []; ownBase = none; ownTag = none; kind = nodeElement (named (ascii "a:b")) n; part = ordinary } ∷ [];
+  frames = record { name = ascii "rdf:Bag"; bindings = []; ownBase = none; ownTag = unsaid; kind = nodeElement (named (ascii "a:b")) n; part = ordinary } ∷ [];
   rooted = true;
   labels = 1;
   ids = [];

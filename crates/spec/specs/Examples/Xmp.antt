@@ -143,10 +143,11 @@ ruleTable =
     -- X16: rdf:li of any kind in an rdf:Alt; rdf:_1 is none
     (xmp (alt ++ ("(rdf:_1" ∷ "Axml:lang en" ∷ ")rdf:_1" ∷ "(rdf:li" ∷ [])), 0) ∷
     (xmp (alt ++ ("(rdf:li" ∷ "Axml:lang en" ∷ ")rdf:li" ∷ "(rdf:li" ∷ "Ardf:parseType Resource" ∷ [])), 19) ∷
-    -- X17: its own xml:lang, not the one in force; where the first has none the others are free (the empty value is 10 until request 2)
+    -- X17: its own xml:lang, not the one in force; where the first has none the others are free; the empty value counts too, by request 2
     (xmp (root ++ (top ++ ("Axml:lang en" ∷ "(e:q" ∷ "(rdf:Alt" ∷ "(rdf:li" ∷ ")rdf:li" ∷ "(rdf:li" ∷ "Axml:lang de" ∷ []))), 0) ∷
     (xmp (root ++ (top ++ ("Axml:lang en" ∷ "(e:q" ∷ "(rdf:Alt" ∷ "(rdf:li" ∷ "Axml:lang de" ∷ ")rdf:li" ∷ "(rdf:li" ∷ []))), 19) ∷
-    (xmp (alt ++ ("(rdf:li" ∷ "Axml:lang " ∷ ")rdf:li" ∷ "(rdf:li" ∷ [])), 10) ∷
+    (xmp (alt ++ ("(rdf:li" ∷ "Axml:lang " ∷ ")rdf:li" ∷ "(rdf:li" ∷ [])), 19) ∷
+    (xmp (alt ++ ("(rdf:li" ∷ "Axml:lang en" ∷ ")rdf:li" ∷ "(rdf:li" ∷ "Axml:lang " ∷ [])), 0) ∷
     -- another rdf:Alt in it is for itself, and a property rdf:Alt is none
     (xmp (alt ++ ("(rdf:li" ∷ "Axml:lang en" ∷ "(rdf:Alt" ∷ "(rdf:li" ∷ ")rdf:li" ∷ "(rdf:li" ∷ [])), 0) ∷
     (xmp (root ++ (top ++ ("(rdf:Alt" ∷ "Ardf:parseType Resource" ∷ "(rdf:li" ∷ "Axml:lang en" ∷ ")rdf:li" ∷ "(rdf:li" ∷ []))), 0) ∷

@@ -10,11 +10,8 @@ of-requires c κs = search needs
 text-requires : tie.Need-text-requires
 text-requires c κs = search needs
 
-is-tagged-requires : tie.Need-is-tagged-requires
-is-tagged-requires c κs = search needs
-
-language-of-requires : tie.Need-language-of-requires
-language-of-requires c κs = search needs
+tag-in-force-requires : tie.Need-tag-in-force-requires
+tag-in-force-requires c κs = search needs
 
 is-there-requires : tie.Need-is-there-requires
 is-there-requires c κs = search needs
@@ -32,7 +29,7 @@ same-length : tie.Need-same-length
 same-length c = c .before .out .given
 
 returns : tie.Need-returns
-returns c = node-told (c .before .before .before .before .before .before .before .before .before .before .before .before .before .before .before .before .before .before .before .before .args .x) _ _ _ _ _ _ _ _ (c .before .before .before .before .before .before .before .before .is-tagged .ensures) (c .before .before .before .before .before .before .before .language-of .ensures) (c .before .before .before .before .before .before .is-there .ensures) (c .before .before .before .before .before .text2 .ensures) (c .before .before .before .before .before .before .before .before .before .before .of .ensures) (c .before .before .before .before .before .before .before .before .before .text .ensures) (c .before .before .before .before .text3 .ensures) (c .before .before .node-lines .ensures)
+returns c = node-told (c .before .before .before .before .before .before .before .before .before .before .before .before .before .before .before .before .before .before .before .args .x) _ _ _ _ _ _ _ _ (c .before .before .before .before .before .before .before .tag-in-force .ensures) (c .before .before .before .before .before .before .is-there .ensures) (c .before .before .before .before .before .text2 .ensures) (c .before .before .before .before .before .before .before .before .before .of .ensures) (c .before .before .before .before .before .before .before .before .text .ensures) (c .before .before .before .before .text3 .ensures) (c .before .before .node-lines .ensures)
 
 pub tell-node-spec : {M : Type 1} → statement M
 tell-node-spec =
@@ -40,8 +37,7 @@ tell-node-spec =
     (tie.spec
     of-requires
     text-requires
-    is-tagged-requires
-    language-of-requires
+    tag-in-force-requires
     is-there-requires
     text-requires-2
     text-requires-3

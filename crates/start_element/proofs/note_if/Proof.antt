@@ -10,8 +10,8 @@ use Rattle.start_element.proofs.note_if.Tie as tie
 returns : tie.Need-returns
 returns c = notes-nothing (not-true _ (c .if1 .taken))
 
-is-given-requires : tie.Need-is-given-requires
-is-given-requires c κs = search needs
+is-said-requires : tie.Need-is-said-requires
+is-said-requires c κs = search needs
 
 note-li-if-requires : tie.Need-note-li-if-requires
 note-li-if-requires c κs = search needs
@@ -29,14 +29,14 @@ same-length-2 : tie.Need-same-length-2
 same-length-2 c = c .before .work .given
 
 returns-2 : tie.Need-returns-2
-returns-2 c = notes-child (not-false _ (c .before .before .before .before .before .before .before .before .before .before .before .before .before .if1 .left)) (rw (c .before .before .before .before .before .before .before .before .before .before .before .is-given .ensures) at (c .before .before .before .before .before .before .before .before .before .before .note-li-if .ensures)) (rw (c .before .before .before .before .before .text .ensures) at (c .before .before .before .before .note-about .ensures))
+returns-2 c = notes-child (not-false _ (c .before .before .before .before .before .before .before .before .before .before .before .before .before .if1 .left)) (rw (c .before .before .before .before .before .before .before .before .before .before .before .is-said .ensures) at (c .before .before .before .before .before .before .before .before .before .before .note-li-if .ensures)) (rw (c .before .before .before .before .before .text .ensures) at (c .before .before .before .before .note-about .ensures))
 
 pub note-if-spec : {M : Type 1} → statement M
 note-if-spec =
     tie.close
     (tie.spec
     returns
-    is-given-requires
+    is-said-requires
     note-li-if-requires
     text-requires
     note-about-requires

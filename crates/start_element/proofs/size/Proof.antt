@@ -2,7 +2,8 @@
 use mathlib.Core.Path.{ap}
 use lib.ListN.{length}
 use Rattle.spec.specs.Limits.{mostAttributes}
-use Rattle.start_element.specs.Sizes.{length-part-of, few-parts, few-declared, measured}
+use Rattle.start_element.specs.Sizes.{few-parts, few-declared, measured}
+use Rattle.copy.specs.Copy.{part-short}
 use native.Mathlib.Omega.{arith}
 use borrow.Author.Needs.{needs}
 use Rattle.start_element.proofs.size.Statement.{statement}
@@ -16,14 +17,14 @@ declared-size-requires c κs = search needs
 
 add-result : tie.Need-add-result
 unfolding mostAttributes
-add-result c = omega (arith, ap length (c .before .piece .ensures), length-part-of (c .before .before .before .before .before .args .scratch .now) 0 (c .before .before .before .before .before .args .m), few-declared (c .before .before .before .before .before .args .scratch .now) (c .before .before .before .before .before .pre .0 .event) (c .before .before .before .before .before .args .spans .now) 0 (c .before .before .before .before .before .args .k))
+add-result c = omega (arith, ap length (c .before .piece .ensures), part-short (c .before .before .before .before .before .args .scratch .now) 0 (c .before .before .before .before .before .args .m), few-declared (c .before .before .before .before .before .args .scratch .now) (c .before .before .before .before .before .pre .0 .event) (c .before .before .before .before .before .args .spans .now) 0 (c .before .before .before .before .before .args .k))
 
 parts-size-requires : tie.Need-parts-size-requires
 parts-size-requires c κs = search needs
 
 add-result-2 : tie.Need-add-result-2
 unfolding mostAttributes
-add-result-2 c = omega (arith, ap length (c .before .before .piece .ensures), length-part-of (c .before .before .before .before .before .before .args .scratch .now) 0 (c .before .before .before .before .before .before .args .m), few-declared (c .before .before .before .before .before .before .args .scratch .now) (c .before .before .before .before .before .before .pre .0 .event) (c .before .before .before .before .before .before .args .spans .now) 0 (c .before .before .before .before .before .before .args .k), few-parts (c .before .before .before .before .before .before .pre .0) (c .before .before .before .before .before .before .args .parts) (c .parts-size .ensures))
+add-result-2 c = omega (arith, ap length (c .before .before .piece .ensures), part-short (c .before .before .before .before .before .before .args .scratch .now) 0 (c .before .before .before .before .before .before .args .m), few-declared (c .before .before .before .before .before .before .args .scratch .now) (c .before .before .before .before .before .before .pre .0 .event) (c .before .before .before .before .before .before .args .spans .now) 0 (c .before .before .before .before .before .before .args .k), few-parts (c .before .before .before .before .before .before .pre .0) (c .before .before .before .before .before .before .args .parts) (c .parts-size .ensures))
 
 returns : tie.Need-returns
 returns c = measured _ _ _ _ _ _ (c .before .before .before .before .before .before .pre .2) (c .before .before .piece .ensures) (c .before .declared-size .ensures) (c .parts-size .ensures)

@@ -1,6 +1,7 @@
 -- `start_lines::emit_property_attrs` meets its contract. The loop's invariant: the lines of the first `j` attributes are written.
 use Rattle.start_lines.specs.Lines.{Emitting, emitting-begins, emitting-more, emitting-done}
-use Rattle.ntriples.specs.Terms.{subjectOf, idOf as given}
+use Rattle.ntriples.specs.Terms.{subjectOf}
+use Rattle.state.specs.Language.{languageOf}
 use Prim.Native.Nat.{_-_}
 use native.Mathlib.Omega.{arith}
 use borrow.Author.Needs.{needs}
@@ -8,10 +9,10 @@ use Rattle.start_lines.proofs.emit_property_attrs.Statement.{statement}
 use Rattle.start_lines.proofs.emit_property_attrs.Tie as tie
 
 abbrev Inv-loop : tie.InvT-loop
-Inv-loop out₀ at on node subject tagged language scratch spans k work classes roles to₀ j₀ out to j = Emitting on out₀ out at to (subjectOf node subject) (given tagged language) scratch spans work classes roles k j
+Inv-loop out₀ at on node subject language scratch spans k work classes roles to₀ j₀ out to j = Emitting on out₀ out at to (subjectOf node subject) (languageOf language) scratch spans work classes roles k j
 
 abbrev μ-loop : tie.MeasureT-loop
-μ-loop out₀ at on node subject tagged language scratch spans k work classes roles to₀ j₀ out to j = k - j
+μ-loop out₀ at on node subject language scratch spans k work classes roles to₀ j₀ out to j = k - j
 
 loop-holds : tie.Need-loop-holds Inv-loop μ-loop
 loop-holds c = emitting-begins (omega arith)

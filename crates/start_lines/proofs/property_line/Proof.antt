@@ -24,7 +24,7 @@ same-length : tie.Need-same-length
 same-length c = c .before .out .given
 
 returns : tie.Need-returns
-returns c = put-as (c .before .before .line-behind .ensures) (property-text _ (c .before .before .before .before .before .before .before .before .before .before .before .before .before .before .args .space .now) (c .before .before .before .before .before .before .before .before .before .before .before .before .before .before .args .language .now) (c .before .before .before .before .before .before .before .before .before .before .before .before .before .before .args .scratch .now) (c .before .before .before .before .before .before .before .before .before .before .before .before .before .before .args .spans .now) (c .before .before .before .before .before .before .before .before .before .before .before .before .before .before .args .j) _ (c .before .before .before .before .before .before .before .local-of .ensures) (c .before .before .before .before .before .before .value-of .ensures) (c .before .before .before .before .before .literal-kind .ensures))
+returns c = put-as (c .before .before .line-behind .ensures) (property-text _ (c .before .before .before .before .before .before .before .before .before .before .before .before .before .before .args .space .now) (c .before .before .before .before .before .before .before .before .before .before .before .before .before .before .args .language .now) (c .before .before .before .before .before .before .before .before .before .before .before .before .before .before .args .scratch .now) (c .before .before .before .before .before .before .before .before .before .before .before .before .before .before .args .spans .now) (c .before .before .before .before .before .before .before .before .before .before .before .before .before .before .args .j) (c .before .before .before .before .before .before .before .local-of .ensures) (c .before .before .before .before .before .before .value-of .ensures) (c .before .before .before .before .before .literal-kind .ensures))
 
 pub property-line-spec : {M : Type 1} → statement M
 property-line-spec =

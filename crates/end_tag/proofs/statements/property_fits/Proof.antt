@@ -28,13 +28,13 @@ add-statement-fits : tie.Need-add-statement-fits
 add-statement-fits c = omega (arith, c .before .object-room .ensures .1)
 
 add-statement-fits-2 : tie.Need-add-statement-fits-2
-add-statement-fits-2 c = omega (arith, c .before .before .object-room .ensures .1)
+add-statement-fits-2 c = omega (arith, c .before .object-room .ensures .1)
 
 statement-fits-requires : tie.Need-statement-fits-requires
-statement-fits-requires c κs = omega (arith, c .before .before .object-room .ensures .1)
+statement-fits-requires c κs = omega (arith, c .before .object-room .ensures .1)
 
 returns-2 : tie.Need-returns-2
-returns-2 c = λ y. property-fits (c .before .before .before .before .before .before .before .before .args .language) (rw (c .before .before .before .object-room .ensures .0, c .before .before .before .before .part-size .ensures .0, c .before .before .part-size2 .ensures .0) at (c .statement-fits .ensures y))
+returns-2 c = λ y. property-fits (c .before .before .before .before .before .before .before .args .tag .now) (rw (c .before .before .object-room .ensures .0, c .before .before .before .part-size .ensures .0, c .before .part-size2 .ensures .0) at (c .statement-fits .ensures y))
 
 pub property-fits-spec : {M : Type 1} → statement M
 property-fits-spec =

@@ -24,10 +24,10 @@ statement-requires : tie.Need-statement-requires
 statement-requires c κs = search needs
 
 same-length : tie.Need-same-length
-same-length c = search needs
+same-length c = c .before .out .given
 
 returns : tie.Need-returns
-returns c = let a = c .before .before .before .before .before .before .before .before .before .before .args in put-as (c .before .before .statement .ensures) (said (a .f) (a .work .now) (a .language) _ (c .before .before .before .before .before .before .object-term .ensures) (c .before .before .before .before .before .object-text .ensures) (c .before .before .before .before .type-or-tag .ensures))
+returns c = let a = c .before .before .before .before .before .before .before .before .before .before .before .args in put-as (c .before .before .statement .ensures) (said (a .f) (a .work .now) (a .tag .now) _ (c .before .before .before .before .before .before .object-term .ensures) (c .before .before .before .before .before .object-text .ensures) (c .before .before .before .before .type-or-tag .ensures))
 
 pub property-lines-spec : {M : Type 1} → statement M
 property-lines-spec =

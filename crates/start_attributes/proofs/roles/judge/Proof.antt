@@ -10,8 +10,8 @@ enum-told c = search needs
 enum-told-2 : tie.Need-enum-told-2
 enum-told-2 c = search needs
 
-is-language-tag-requires : tie.Need-is-language-tag-requires
-is-language-tag-requires c κs = search needs
+judge-language-requires : tie.Need-judge-language-requires
+judge-language-requires c κs = search needs
 
 require-requires : tie.Need-require-requires
 require-requires c κs = search needs
@@ -39,9 +39,6 @@ enum-told-5 c = search needs
 
 is-nc-name-requires-2 : tie.Need-is-nc-name-requires-2
 is-nc-name-requires-2 c κs = search needs
-
-require-requires-4 : tie.Need-require-requires-4
-require-requires-4 c κs = search needs
 
 enum-told-6 : tie.Need-enum-told-6
 enum-told-6 c = search needs
@@ -75,20 +72,19 @@ unfolding judge
 returns c = rw (c .enum-told .given .1)
 
 returns-2 : tie.Need-returns-2
-unfolding judge
-returns-2 c = rw (c .before .before .enum-told2 .given .1, ← c .before .is-language-tag .ensures) (c .require .ensures)
+returns-2 c = rw (c .before .enum-told2 .given .1) (c .judge-language .ensures)
 
 returns-3 : tie.Need-returns-3
 unfolding judge
-returns-3 c = rw (c .before .before .enum-told3 .given .1, ← c .before .is-iri .ensures) (c .require2 .ensures)
+returns-3 c = rw (c .before .before .enum-told3 .given .1, ← c .before .is-iri .ensures) (c .require .ensures)
 
 returns-4 : tie.Need-returns-4
 unfolding judge
-returns-4 c = rw (c .before .before .enum-told4 .given .1, ← c .before .is-nc-name .ensures) (c .require3 .ensures)
+returns-4 c = rw (c .before .before .enum-told4 .given .1, ← c .before .is-nc-name .ensures) (c .require2 .ensures)
 
 returns-5 : tie.Need-returns-5
 unfolding judge
-returns-5 c = rw (c .before .before .enum-told5 .given .1, ← c .before .is-nc-name2 .ensures) (c .require4 .ensures)
+returns-5 c = rw (c .before .before .enum-told5 .given .1, ← c .before .is-nc-name2 .ensures) (c .require3 .ensures)
 
 returns-6 : tie.Need-returns-6
 returns-6 c = rw (c .before .enum-told6 .given .1) (c .judge-label .ensures)
@@ -127,17 +123,16 @@ judge-spec =
     (tie.spec
     enum-told
     enum-told-2
-    is-language-tag-requires
-    require-requires
+    judge-language-requires
     enum-told-3
     is-iri-requires
-    require-requires-2
+    require-requires
     enum-told-4
     is-nc-name-requires
-    require-requires-3
+    require-requires-2
     enum-told-5
     is-nc-name-requires-2
-    require-requires-4
+    require-requires-3
     enum-told-6
     judge-label-requires
     enum-told-7

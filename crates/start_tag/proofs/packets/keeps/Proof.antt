@@ -17,11 +17,14 @@ returns-2 c = keeps-not (not-false _ (c .before .before .if1 .left)) (c .before 
 iri-text-requires : tie.Need-iri-text-requires
 iri-text-requires c κs = search needs
 
+is-said-requires : tie.Need-is-said-requires
+is-said-requires c κs = search needs
+
 keeps-around-requires : tie.Need-keeps-around-requires
 keeps-around-requires c κs = search needs
 
 returns-3 : tie.Need-returns-3
-returns-3 c = keeps-so (not-false _ (c .before .before .before .before .before .if1 .left)) (c .before .before .before .before .has-one-out .ensures) (c .before .before .before .if2 .left) (c .before .before .iri-text .ensures) (c .keeps-around .ensures)
+returns-3 c = keeps-so (not-false _ (c .before .before .before .before .before .if1 .left)) (c .before .before .before .before .has-one-out .ensures) (c .before .before .before .if2 .left) (c .before .before .iri-text .ensures) (rw (c .before .is-said .ensures) at (c .keeps-around .ensures))
 
 pub keeps-spec : {M : Type 1} → statement M
 keeps-spec =
@@ -31,5 +34,6 @@ keeps-spec =
     has-one-out-requires
     returns-2
     iri-text-requires
+    is-said-requires
     keeps-around-requires
     returns-3)

@@ -16,8 +16,8 @@ first-in-requires c κs = search needs
 first-in-requires-2 : tie.Need-first-in-requires-2
 first-in-requires-2 c κs = search needs
 
-make-lower-requires : tie.Need-make-lower-requires
-make-lower-requires c κs = search needs
+make-language-requires : tie.Need-make-language-requires
+make-language-requires c κs = search needs
 
 first-in-requires-3 : tie.Need-first-in-requires-3
 first-in-requires-3 c κs = search needs
@@ -35,7 +35,7 @@ same-length : tie.Need-same-length
 same-length c = c .before .before .before .before .before .area2 .given ∙ c .before .before .before .before .before .before .before .before .before .before .before .area .given
 
 returns : tie.Need-returns
-returns c = finished (c .before .before .before .before .before .before .before .before .before .before .before .before .make-iri .ensures) (c .before .before .before .before .before .before .make-lower .ensures) (c .before .before .before .before .before .before .before .before .before .first-in .ensures) (c .before .before .before .before .before .before .before .before .first-in2 .ensures) (c .before .before .first-in4 .ensures) (c .before .first-in5 .ensures) (c .before .before .before .first-in3 .ensures) (c .is-short .ensures)
+returns c = finished (c .before .before .before .before .before .before .before .before .before .before .before .before .make-iri .ensures) (c .before .before .before .before .before .before .make-language .ensures) (c .before .before .before .before .before .before .before .before .before .first-in .ensures) (c .before .before .before .before .before .before .before .before .first-in2 .ensures) (c .before .before .first-in4 .ensures) (c .before .first-in5 .ensures) (c .before .before .before .first-in3 .ensures) (c .is-short .ensures)
 
 pub tag-of-spec : {M : Type 1} → statement M
 tag-of-spec =
@@ -44,7 +44,7 @@ tag-of-spec =
     make-iri-requires
     first-in-requires
     first-in-requires-2
-    make-lower-requires
+    make-language-requires
     first-in-requires-3
     first-in-requires-4
     first-in-requires-5

@@ -2,7 +2,8 @@
 use mathlib.Core.Path.{ap}
 use lib.ListN.{length}
 use Rattle.spec.specs.Limits.{mostAttributes}
-use Rattle.start_element.specs.Sizes.{length-part-of, few-declared}
+use Rattle.start_element.specs.Sizes.{few-declared}
+use Rattle.copy.specs.Copy.{part-short}
 use Rattle.start_tag.specs.Wrapper.{held-much, held-left}
 use native.Mathlib.Omega.{arith}
 use borrow.Author.Needs.{needs}
@@ -23,7 +24,7 @@ declared-size-requires c κs = search needs
 
 add-n : tie.Need-add-n
 unfolding mostAttributes
-add-n c = omega (arith, ap length (c .before .piece .ensures), length-part-of (c .before .before .before .before .before .before .args .scratch .now) 0 (c .before .before .before .before .before .before .args .m), few-declared (c .before .before .before .before .before .before .args .scratch .now) (c .before .before .before .before .before .before .pre .0) (c .before .before .before .before .before .before .args .spans .now) 0 (c .before .before .before .before .before .before .args .k), c .declared-size .ensures)
+add-n c = omega (arith, ap length (c .before .piece .ensures), part-short (c .before .before .before .before .before .before .args .scratch .now) 0 (c .before .before .before .before .before .before .args .m), few-declared (c .before .before .before .before .before .before .args .scratch .now) (c .before .before .before .before .before .before .pre .0) (c .before .before .before .before .before .before .args .spans .now) 0 (c .before .before .before .before .before .before .args .k), c .declared-size .ensures)
 
 returns-2 : tie.Need-returns-2
 returns-2 c = held-left _ _ _ _ _ _ (c .before .before .before .minus .ensures) (omega arith) (c .before .piece .ensures) (c .declared-size .ensures)

@@ -1,10 +1,10 @@
--- `test_leaves::is_good` meets its contract. A text behind its four letters lies in the line.
+-- `test_leaves::verdict_on` meets its contract. A text behind its four letters lies in the line.
 use mathlib.Core.Path.{sym, _∙_}
 use native.Mathlib.Omega.{arith}
 use borrow.Author.Needs.{needs}
 use Rattle.copy.specs.Texts.{begins-length}
-use Rattle.test_leaves.proofs.is_good.Statement.{statement}
-use Rattle.test_leaves.proofs.is_good.Tie as tie
+use Rattle.test_leaves.proofs.verdict_on.Statement.{statement}
+use Rattle.test_leaves.proofs.verdict_on.Tie as tie
 
 slice-aggregate-begins : tie.Need-slice-aggregate-begins
 slice-aggregate-begins c = search needs
@@ -23,6 +23,9 @@ part-is-iri-end c = search needs
 
 is-iri-requires : tie.Need-is-iri-requires
 is-iri-requires c κs = search needs
+
+told-requires : tie.Need-told-requires
+told-requires c κs = search needs
 
 returns : tie.Need-returns
 returns c = search needs
@@ -45,26 +48,20 @@ part-is-iri-reference-end c = search needs
 is-iri-reference-requires : tie.Need-is-iri-reference-requires
 is-iri-reference-requires c κs = search needs
 
+told-requires-2 : tie.Need-told-requires-2
+told-requires-2 c κs = search needs
+
 returns-2 : tie.Need-returns-2
 returns-2 c = search needs
 
 parse-requires : tie.Need-parse-requires
 parse-requires c κs = search needs
 
-enum-told : tie.Need-enum-told
-enum-told c = search needs
-
-enum-told-2 : tie.Need-enum-told-2
-enum-told-2 c = search needs
-
 returns-3 : tie.Need-returns-3
 returns-3 c = search needs
 
-returns-4 : tie.Need-returns-4
-returns-4 c = search needs
-
-pub is-good-spec : {M : Type 1} → statement M
-is-good-spec =
+pub verdict-on-spec : {M : Type 1} → statement M
+verdict-on-spec =
     tie.close
     (tie.spec
     slice-aggregate-begins
@@ -73,6 +70,7 @@ is-good-spec =
     part-is-iri-start
     part-is-iri-end
     is-iri-requires
+    told-requires
     returns
     slice-aggregate-begins-2
     begins-requires-2
@@ -80,9 +78,7 @@ is-good-spec =
     part-is-iri-reference-start
     part-is-iri-reference-end
     is-iri-reference-requires
+    told-requires-2
     returns-2
     parse-requires
-    enum-told
-    enum-told-2
-    returns-3
-    returns-4)
+    returns-3)

@@ -1,10 +1,9 @@
--- `start_names::piece` meets its contract.
-use Rattle.copy.specs.Copy.{part-of}
-use Rattle.start_names.specs.Tag.{piece-none, piece-end}
+-- `copy::piece` meets its contract.
+use Rattle.copy.specs.Copy.{part-of, piece-none, piece-end}
 use native.Mathlib.Omega.{arith}
 use borrow.Author.Needs.{needs}
-use Rattle.start_names.proofs.piece.Statement.{statement}
-use Rattle.start_names.proofs.piece.Tie as tie
+use Rattle.copy.proofs.piece.Statement.{statement}
+use Rattle.copy.proofs.piece.Tie as tie
 
 sub-result : tie.Need-sub-result
 sub-result c = search needs
