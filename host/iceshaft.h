@@ -111,7 +111,7 @@ enum {
  *  6. On every answer but 0 `*consumed` and `*written` are 0, and `out`, `work` and `ids` are as
  *     they were. A refused start changes no byte at all.
  *
- * A call needs some 700 KB of stack. Calls on different buffers may run at the same time.
+ * A call needs some 600 KB of stack, and 700 for a start tag with more than 64 attributes. Calls on different buffers may run at the same time.
  */
 
 /* Bytes of the state's buffer: ICESHAFT_STATE_BYTES. */

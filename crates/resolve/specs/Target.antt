@@ -2,66 +2,62 @@
 use mathlib.Core.Path.{_≡_, refl, sym, ap, _∙_}
 use mathlib.Core.Bool.{Bool, true, false, _||_, not, false≢true}
 use mathlib.Core.Option.{Option, none, some}
-use mathlib.Core.List.{[], _∷_, _++_, append-assoc}
+use mathlib.Core.List.{[], _∷_, _++_, append-assoc, append-nil}
 use Prim.Native.Nat.{ℕ, zero, suc, _+_, _-_, _<_, _≤_}
 use native.Mathlib.Omega.{arith}
 use lib.Dec.{eqb, ltb}
-use lib.ListN.{length, take, drop, getD, length-append, length-take}
-use lib.Seq.{take-at, drop-at, take-take, take-add}
-use borrow.Author.Tests.{lt-ltb, le-ltb, eq-eqb, ne-eqb}
+use lib.ListN.{length, take, drop, getD}
+use lib.Seq.{take-take, append-snoc, length-take-le}
+use borrow.Author.Tests.{ltb-true, lt-ltb, le-ltb, eq-eqb, ne-eqb}
 use Rattle.spec.specs.Bytes.{Bytes, ascii, if_then_else_, begins, from, isEmpty, isSome, orElse}
-use Rattle.spec.specs.Rfc3986.{Reference, parse, recompose, removeDotSegments, turns, merge, transform, hasForm, resolve, resolves}
-use Rattle.resolve.specs.Parts.{partsOf, schemeText, authorityText, queryText, fragmentText, ordered, take-scheme, take-authority, take-path, take-query, drop-path-texts, path-between, scheme-at, authority-at, path-at, query-at, scheme-nil, authority-nil, path-nil, query-nil, scheme-text, has-scheme, has-authority, has-query, has-path, no-slashes}
-use Rattle.resolve.specs.Turns.{throughLast}
+use Rattle.spec.specs.Rfc3986.{Reference, parse, recompose, removeDotSegments, turns, withoutLast, merge, transform, hasForm, resolve, resolves}
+use Rattle.resolve.specs.Parts.{partsOf, schemeText, authorityText, queryText, fragmentText, ordered, take-scheme, take-authority, take-path, take-query, drop-path-texts, path-between, scheme-nil, authority-nil, path-nil, query-nil, scheme-text, has-scheme, has-authority, has-query, has-path, no-slashes}
+use Rattle.copy.specs.Copy.{part, length-part}
+use Rattle.resolve.specs.Last.{throughLast, without-slash, without-some}
 use Rattle.resolve.specs.Texts.{Front, and-true}
 use Rattle.resolve.specs.declared.target.Lead.{Lead}
 use Rattle.resolve.specs.declared.target.Target.{Target}
 
--- the target's text up to the end of its path, whose dot segments are still there
-unfoldable pub laid : Bytes → Bytes → Target → Bytes
-laid base reference t = take (t .keep) base ++ (take (t .slash) (ascii "/") ++ take (t .path) reference)
+-- what stands before the target's path
+unfoldable pub frontOf : Bytes → Bytes → Target → Bytes
+frontOf base reference t = take (t .front) base ++ take (t .own) reference
 
--- of a text that is laid so: its path without them, the whole target, and whether that has a form
-unfoldable pub pathOf : Target → Bytes → Bytes
-pathOf t l = removeDotSegments (drop (t .start) l)
+-- its path, whose dot segments are still there
+unfoldable pub mergedOf : Bytes → Bytes → Target → Bytes
+mergedOf base reference t =
+    let path = part reference (t .own) (t .path - t .own) in
+    if t .merged then part base (t .front) (t .lead - t .front) ++ 47 ∷ path else path
 
-unfoldable pub wholeOf : Target → Bytes → Bytes → Bytes
-wholeOf t reference l = take (t .start) l ++ (pathOf t l ++ drop (t .path) reference)
+-- the whole target, and whether it has a form
+unfoldable pub wholeOf : Bytes → Bytes → Target → Bytes
+wholeOf base reference t = frontOf base reference t ++ (removeDotSegments (mergedOf base reference t) ++ drop (t .path) reference)
 
-unfoldable pub formOf : Target → Bytes → Bool
-formOf t l = t .authority || not (begins (ascii "//") (pathOf t l))
+unfoldable pub formOf : Bytes → Bytes → Target → Bool
+formOf base reference t = t .authority || not (begins (ascii "//") (removeDotSegments (mergedOf base reference t)))
 
 -- `t` is what the reference on the base is made of.
 pub record Aimed (base reference : Bytes) (t : Target) : Type 0 where
-  pub keep : t .keep ≤ length base
-  pub slash : t .slash ≤ 1
+  pub order : t .front ≤ t .lead
+  pub lead : t .lead ≤ length base
+  pub few : t .merged ≡ true → t .lead - t .front < length base
+  pub own : t .own ≤ t .path
   pub path : t .path ≤ length reference
-  pub start : t .start ≤ t .keep + t .slash + t .path
-  pub result : resolve base reference ≡ wholeOf t reference (laid base reference t)
-  pub form : resolves base reference ≡ formOf t (laid base reference t)
-
-pub length-laid : (base reference : Bytes) (t : Target) → t .keep ≤ length base → t .slash ≤ 1 → t .path ≤ length reference
-    → length (laid base reference t) ≡ t .keep + t .slash + t .path
-unfolding laid ascii
-length-laid base reference t h k l = simp (length-append, length-take) (omega arith)
+  pub result : resolve base reference ≡ wholeOf base reference t
+  pub form : resolves base reference ≡ formOf base reference t
 
 -- by the target's parts: `front` stands before its path, and the path without dot segments is that of `p`
 aimed : {base reference : Bytes} {t : Target} {r : Reference} (front p : Bytes) → transform (parse base) (parse reference) ≡ r
-    → t .keep ≤ length base → t .slash ≤ 1 → t .path ≤ length reference → front ++ p ≡ laid base reference t → length front ≡ t .start
+    → t .front ≤ t .lead → t .lead ≤ length base → (t .merged ≡ true → t .lead - t .front < length base) → t .own ≤ t .path → t .path ≤ length reference
+    → frontOf base reference t ≡ front → mergedOf base reference t ≡ p
     → recompose r ≡ front ++ (removeDotSegments p ++ drop (t .path) reference) → hasForm r ≡ (t .authority || not (begins (ascii "//") (removeDotSegments p)))
     → Aimed base reference t
-unfolding resolve resolves pathOf wholeOf formOf
-aimed {base} {reference} {t} {r} front p e keep slash path whole size result form =
-    let before : take (t .start) (laid base reference t) ≡ front = rw (← whole) (take-at front p (t .start) size) in
-    let behind : drop (t .start) (laid base reference t) ≡ p = rw (← whole) (drop-at front p (t .start) size) in
-    record {
-      keep = keep;
-      slash = slash;
-      path = path;
-      start = omega (arith, ap length whole, length-append front p, length-laid base reference t keep slash path);
-      result = rw (e, before, behind) result;
-      form = rw (e, behind) form;
-    }
+unfolding resolve resolves wholeOf formOf
+aimed front p e order lead few own path before merged result form =
+    record { order = order; lead = lead; few = few; own = own; path = path; result = rw (e, before, merged) result; form = rw (e, merged) form }
+
+-- where nothing is merged
+unmerged : {P : Type 0} → false ≡ true → P
+unmerged e = absurd (false≢true e)
 
 -- ---- the tests of 5.2.2
 
@@ -106,9 +102,10 @@ query-missing (some q) b h = absurd (false≢true (sym h))
 
 -- `l` is what a path is put behind when it is merged with that of the base.
 pub record Leads (base : Bytes) (l : Lead) : Type 0 where
-  pub keep : l .keep ≤ length base
-  pub slash : l .slash ≤ 1
-  pub is : (p : Bytes) → take (l .keep) base ++ (take (l .slash) (ascii "/") ++ p) ≡ schemeText base ++ authorityText base ++ merge (parse base) p
+  pub order : partsOf base .authority ≤ l .end
+  pub within : l .end ≤ length base
+  pub few : l .merged ≡ true → l .end - partsOf base .authority < length base
+  pub is : (p : Bytes) → (if l .merged then part base (partsOf base .authority) (l .end - partsOf base .authority) ++ 47 ∷ p else p) ≡ merge (parse base) p
 
 -- a base with a path, one with an authority alone, and one with neither
 merge-path : (s a : Option Bytes) (path : Bytes) (q f : Option Bytes) (p : Bytes) → isEmpty path ≡ false
@@ -129,51 +126,69 @@ unfolding merge isSome from
 merge-nothing s none path q f p e h = rw e
 merge-nothing s (some a) path q f p e h = absurd (false≢true (sym h))
 
+-- a base's path between the ends of its parts
+abbrev pub pathAt : Bytes → Bytes
+pathAt base = take (partsOf base .path - partsOf base .authority) (drop (partsOf base .authority) base)
+
 module _ (base : Bytes) where
+  merge-there : partsOf base .authority < partsOf base .path → (p : Bytes) → merge (parse base) p ≡ throughLast (parse base .path) ++ p
+  merge-there h p =
+      merge-path (parse base .scheme) (parse base .authority) (parse base .path) (parse base .query) (parse base .fragment) p
+      (has-path base ∙ ne-eqb (partsOf base .authority) (partsOf base .path) (λ e. omega arith))
+
   pub leads-path : {n : ℕ} → partsOf base .authority < partsOf base .path
-      → (let path = take (partsOf base .path - partsOf base .authority) (drop (partsOf base .authority) base) in Front path (throughLast path) n)
-      → Leads base (record { keep = partsOf base .authority + n; slash = 0 })
-  leads-path {n} h f =
+      → Front (pathAt base) (throughLast (pathAt base)) n → (n ≡ 0 → ⊥)
+      → Leads base (record { merged = true; end = partsOf base .authority + (n - 1) })
+  unfolding if_then_else_ part
+  leads-path {n} h f z =
       let o = ordered base in
-      let room : n ≤ partsOf base .path - partsOf base .authority =
-      omega (arith, f .within, length-take (partsOf base .path - partsOf base .authority) (drop (partsOf base .authority) base)) in
-      let last : take n (drop (partsOf base .authority) base) ≡ throughLast (parse base .path) =
-      sym (take-take n (partsOf base .path - partsOf base .authority) (drop (partsOf base .authority) base) room) ∙ f .is ∙ ap throughLast (path-between base) in
-      let there : isEmpty (parse base .path) ≡ false = has-path base ∙ ne-eqb (partsOf base .authority) (partsOf base .path) (λ e. omega arith) in
+      let size : length (pathAt base) ≡ partsOf base .path - partsOf base .authority = length-part base (partsOf base .authority) (partsOf base .path - partsOf base .authority) (omega (arith, o)) in
+      let g : Front (pathAt base) (withoutLast (pathAt base)) (n - 1) = without-some f z in
+      let k : partsOf base .authority + (n - 1) - partsOf base .authority ≡ n - 1 = omega arith in
+      let last : take (n - 1) (drop (partsOf base .authority) base) ≡ withoutLast (parse base .path) =
+      sym (take-take (n - 1) (partsOf base .path - partsOf base .authority) (drop (partsOf base .authority) base) (omega (arith, f .within, size))) ∙ g .is ∙ ap withoutLast (path-between base) in
+      let some : length (throughLast (parse base .path)) ≡ n =
+      ap (λ (q : Bytes). length (throughLast q)) (sym (path-between base)) ∙ ap length (sym (f .is)) ∙ length-take-le n (pathAt base) (f .within) in
       record {
-        keep = omega arith;
-        slash = omega arith;
+        order = omega arith;
+        within = omega (arith, f .within, size, o);
+        few = λ _. omega (arith, f .within, size, o);
         is = λ p.
-            rw (take-add (partsOf base .authority) n base, last, take-authority base, append-assoc (schemeText base ++ authorityText base) (throughLast (parse base .path)) p)
-            (ap ((schemeText base ++ authorityText base) ++_) (sym (merge-path (parse base .scheme) (parse base .authority) (parse base .path) (parse base .query) (parse base .fragment) p there)));
+            rw (k, last) (sym (append-snoc (withoutLast (parse base .path)) 47 p) ∙ ap (_++ p) (sym (without-slash (parse base .path) (omega (arith, some)))) ∙ sym (merge-there h p));
       }
 
-  pub leads-authority : partsOf base .path ≤ partsOf base .authority → partsOf base .scheme < partsOf base .authority
-      → Leads base (record { keep = partsOf base .authority; slash = 1 })
-  unfolding ascii
-  leads-authority n h =
-      let there : isSome (parse base .authority) ≡ true = has-authority base ∙ lt-ltb (partsOf base .scheme) (partsOf base .authority) h in
-      record {
-        keep = omega (arith, ordered base);
-        slash = omega arith;
-        is = λ p.
-            rw (take-authority base)
-            (ap ((schemeText base ++ authorityText base) ++_)
-            (sym (merge-authority (parse base .scheme) (parse base .authority) (parse base .path) (parse base .query) (parse base .fragment) p (path-nil base n) there)));
-      }
+  pub leads-bare : {n : ℕ} → partsOf base .authority < partsOf base .path
+      → Front (pathAt base) (throughLast (pathAt base)) n → n ≡ 0
+      → Leads base (record { merged = false; end = partsOf base .authority })
+  unfolding if_then_else_
+  leads-bare {n} h f z =
+      let none : throughLast (parse base .path) ≡ [] = ap throughLast (sym (path-between base)) ∙ sym (f .is) ∙ rw z in
+      record { order = omega arith; within = omega (arith, ordered base); few = unmerged; is = λ p. sym (merge-there h p ∙ ap (_++ p) none) }
 
-  pub leads-nothing : partsOf base .path ≤ partsOf base .authority → partsOf base .authority ≤ partsOf base .scheme
-      → Leads base (record { keep = partsOf base .authority; slash = 0 })
-  leads-nothing n h =
-      let none : isSome (parse base .authority) ≡ false = has-authority base ∙ le-ltb (partsOf base .scheme) (partsOf base .authority) h in
-      record {
-        keep = omega (arith, ordered base);
-        slash = omega arith;
-        is = λ p.
-            rw (take-authority base)
-            (ap ((schemeText base ++ authorityText base) ++_)
-            (sym (merge-nothing (parse base .scheme) (parse base .authority) (parse base .path) (parse base .query) (parse base .fragment) p (path-nil base n) none)));
-      }
+  -- without a path, by whether there is an authority
+  pub leads-none : partsOf base .path ≤ partsOf base .authority
+      → Leads base (record { merged = ltb (partsOf base .scheme) (partsOf base .authority); end = partsOf base .authority })
+  unfolding if_then_else_ ascii part
+  leads-none n = go (ltb (partsOf base .scheme) (partsOf base .authority)) refl
+    where
+      go : (t : Bool) → ltb (partsOf base .scheme) (partsOf base .authority) ≡ t → Leads base (record { merged = t; end = partsOf base .authority })
+      go true e =
+          let none : partsOf base .authority - partsOf base .authority ≡ 0 = omega arith in
+          record {
+            order = omega arith;
+            within = omega (arith, ordered base);
+            few = λ _. omega (arith, ordered base, ltb-true (partsOf base .scheme) (partsOf base .authority) e);
+            is = λ p.
+                rw none
+                (sym (merge-authority (parse base .scheme) (parse base .authority) (parse base .path) (parse base .query) (parse base .fragment) p (path-nil base n) (has-authority base ∙ e)));
+          }
+      go false e =
+          record {
+            order = omega arith;
+            within = omega (arith, ordered base);
+            few = unmerged;
+            is = λ p. sym (merge-nothing (parse base .scheme) (parse base .authority) (parse base .path) (parse base .query) (parse base .fragment) p (path-nil base n) (has-authority base ∙ e));
+          }
 
 -- ---- 5.2.2, case by case
 
@@ -190,48 +205,49 @@ pub record OnlyPath (reference : Bytes) : Type 0 where
 module _ (base reference : Bytes) where
   pub aimed-scheme : 0 < partsOf reference .scheme
       → Aimed base reference (record {
-        keep = 0;
-        slash = 0;
+        front = 0;
+        own = partsOf reference .authority;
+        merged = false;
+        lead = 0;
         path = partsOf reference .path;
-        start = partsOf reference .authority;
         authority = ltb (partsOf reference .scheme) (partsOf reference .authority);
       })
-  unfolding transform recompose hasForm laid authorityText queryText fragmentText if_then_else_
+  unfolding transform recompose hasForm frontOf mergedOf authorityText queryText fragmentText if_then_else_ part
   aimed-scheme h =
       aimed {r = made (parse reference .scheme) (parse reference .authority) (removeDotSegments (parse reference .path)) (parse reference .query) reference}
-      (schemeText reference ++ authorityText reference) (parse reference .path) (rw (has-scheme reference ∙ lt-ltb 0 (partsOf reference .scheme) h)) (omega arith) (omega arith)
-      (omega (arith, ordered reference)) (sym (take-path reference)) (sym (authority-at reference))
+      (schemeText reference ++ authorityText reference) (parse reference .path) (rw (has-scheme reference ∙ lt-ltb 0 (partsOf reference .scheme) h)) (omega arith) (omega arith) unmerged
+      (omega (arith, ordered reference)) (omega (arith, ordered reference)) (take-authority reference) (path-between reference)
       (rw (scheme-text reference, drop-path-texts reference, append-assoc)) (rw (has-authority reference))
 
   pub aimed-authority : partsOf reference .scheme ≤ 0 → 0 < partsOf reference .authority
       → Aimed base reference (record {
-        keep = partsOf base .scheme;
-        slash = 0;
+        front = partsOf base .scheme;
+        own = partsOf reference .authority;
+        merged = false;
+        lead = partsOf base .scheme;
         path = partsOf reference .path;
-        start = partsOf base .scheme + partsOf reference .authority;
         authority = true;
       })
-  unfolding transform recompose hasForm laid authorityText queryText fragmentText if_then_else_
+  unfolding transform recompose hasForm frontOf mergedOf authorityText queryText fragmentText if_then_else_ part
   aimed-authority n h =
       let none : isSome (parse reference .scheme) ≡ false = has-scheme reference ∙ le-ltb 0 (partsOf reference .scheme) n in
       let there : isSome (parse reference .authority) ≡ true = has-authority reference ∙ lt-ltb (partsOf reference .scheme) (partsOf reference .authority) (omega arith) in
       aimed {r = made (parse base .scheme) (parse reference .authority) (removeDotSegments (parse reference .path)) (parse reference .query) reference}
-      (schemeText base ++ authorityText reference) (parse reference .path) (rw (none, there)) (omega (arith, ordered base)) (omega arith)
-      (omega (arith, ordered reference))
-      (rw (take-scheme base, take-path reference, scheme-nil reference n) (append-assoc (schemeText base) (authorityText reference) (parse reference .path)))
-      (rw (length-append, scheme-at base, authority-at reference, scheme-nil reference n))
+      (schemeText base ++ authorityText reference) (parse reference .path) (rw (none, there)) (omega arith) (omega (arith, ordered base)) unmerged
+      (omega (arith, ordered reference)) (omega (arith, ordered reference)) (rw (take-scheme base, take-authority reference, scheme-nil reference n)) (path-between reference)
       (rw (scheme-text base, drop-path-texts reference, append-assoc)) (rw there)
 
   -- a reference that is a query, a fragment, both or nothing
   pub aimed-query : partsOf reference .path ≤ 0 → 0 < partsOf reference .query
       → Aimed base reference (record {
-        keep = partsOf base .path;
-        slash = 0;
+        front = partsOf base .path;
+        own = 0;
+        merged = false;
+        lead = partsOf base .path;
         path = 0;
-        start = partsOf base .path;
         authority = ltb (partsOf base .scheme) (partsOf base .authority);
       })
-  unfolding transform recompose hasForm laid authorityText queryText fragmentText if_then_else_ removeDotSegments turns isEmpty begins ascii
+  unfolding transform recompose hasForm frontOf mergedOf authorityText queryText fragmentText if_then_else_ part removeDotSegments turns isEmpty begins ascii
   aimed-query n h =
       let o = ordered reference in
       let no-scheme : isSome (parse reference .scheme) ≡ false = bare-scheme reference (omega arith) in
@@ -242,19 +258,20 @@ module _ (base reference : Bytes) where
       let texts : drop 0 reference ≡ queryText reference ++ fragmentText reference = rw start at (drop-path-texts reference) in
       aimed {r = made (parse base .scheme) (parse base .authority) (parse base .path) (parse reference .query) reference}
       (schemeText base ++ authorityText base ++ parse base .path) [] (rw (no-scheme, no-authority, no-path, query-there (parse reference .query) (parse base .query) query))
-      (omega (arith, ordered base)) (omega arith) (omega arith)
-      (rw (take-path base)) (sym (path-at base))
+      (omega arith) (omega (arith, ordered base)) unmerged (omega arith) (omega arith)
+      (append-nil (take (partsOf base .path) base) ∙ take-path base) refl
       (rw (scheme-text base) (simp append-assoc) ∙ ap ((schemeText base ++ authorityText base ++ parse base .path) ++_) (sym texts)) (kept-form base)
 
   pub aimed-fragment : partsOf reference .path ≤ 0 → partsOf reference .query ≤ 0
       → Aimed base reference (record {
-        keep = partsOf base .query;
-        slash = 0;
+        front = partsOf base .query;
+        own = 0;
+        merged = false;
+        lead = partsOf base .query;
         path = 0;
-        start = partsOf base .query;
         authority = true;
       })
-  unfolding transform recompose hasForm laid authorityText queryText fragmentText if_then_else_ removeDotSegments turns isEmpty begins ascii
+  unfolding transform recompose hasForm frontOf mergedOf authorityText queryText fragmentText if_then_else_ part removeDotSegments turns isEmpty begins ascii
   aimed-fragment n h =
       let o = ordered reference in
       let no-scheme : isSome (parse reference .scheme) ≡ false = bare-scheme reference (omega arith) in
@@ -267,8 +284,8 @@ module _ (base reference : Bytes) where
       aimed {r = made (parse base .scheme) (parse base .authority) (parse base .path) (parse base .query) reference}
       (schemeText base ++ authorityText base ++ parse base .path ++ queryText base) []
       (rw (no-scheme, no-authority, no-path, query-missing (parse reference .query) (parse base .query) no-query))
-      (omega (arith, ordered base)) (omega arith) (omega arith)
-      (rw (take-query base)) (sym (query-at base))
+      (omega arith) (omega (arith, ordered base)) unmerged (omega arith) (omega arith)
+      (append-nil (take (partsOf base .query) base) ∙ take-query base) refl
       (rw (scheme-text base) (simp append-assoc) ∙ ap ((schemeText base ++ authorityText base ++ parse base .path ++ queryText base) ++_) (sym texts)) (kept-form base ∙ either-true (ltb (partsOf base .scheme) (partsOf base .authority)))
 
   module _ (h : OnlyPath reference) where
@@ -281,40 +298,48 @@ module _ (base reference : Bytes) where
     path-there : isEmpty (parse reference .path) ≡ false
     path-there = has-path reference ∙ ne-eqb (partsOf reference .authority) (partsOf reference .path) (λ e. omega arith)
 
-    pub front-path : take (partsOf reference .path) reference ≡ parse reference .path
-    front-path = take-path reference ∙ rw (scheme-nil reference (omega (arith, ordered reference)), authority-nil reference (omega arith))
+    pub front-path : part reference 0 (partsOf reference .path - 0) ≡ parse reference .path
+    unfolding part
+    front-path =
+        let n : partsOf reference .path - 0 ≡ partsOf reference .path = omega arith in
+        rw n (take-path reference ∙ rw (scheme-nil reference (omega (arith, ordered reference)), authority-nil reference (omega arith)))
 
     path-slash : begins (ascii "/") (parse reference .path) ≡ eqb 47 (getD reference 0 0)
-    path-slash = rw (← front-path) (first-slash reference (partsOf reference .path) (h .path) (omega (arith, ordered reference)))
+    unfolding part
+    path-slash =
+        let n : partsOf reference .path - 0 ≡ partsOf reference .path = omega arith in
+        rw (← front-path, n) (first-slash reference (partsOf reference .path) (h .path) (omega (arith, ordered reference)))
 
     pub aimed-absolute : getD reference 0 0 ≡ 47
         → Aimed base reference (record {
-          keep = partsOf base .authority;
-          slash = 0;
+          front = partsOf base .authority;
+          own = 0;
+          merged = false;
+          lead = partsOf base .authority;
           path = partsOf reference .path;
-          start = partsOf base .authority;
           authority = ltb (partsOf base .scheme) (partsOf base .authority);
         })
-    unfolding transform recompose hasForm laid authorityText queryText fragmentText if_then_else_
+    unfolding transform recompose hasForm frontOf mergedOf authorityText queryText fragmentText if_then_else_
     aimed-absolute e =
         let slash : begins (ascii "/") (parse reference .path) ≡ true = path-slash ∙ eq-eqb 47 (getD reference 0 0) (sym e) in
         aimed {r = made (parse base .scheme) (parse base .authority) (removeDotSegments (parse reference .path)) (parse reference .query) reference}
-        (schemeText base ++ authorityText base) (parse reference .path) (rw (no-scheme, no-authority, path-there, slash)) (omega (arith, ordered base)) (omega arith)
-        (omega (arith, ordered reference)) (rw (take-authority base, front-path)) (sym (authority-at base))
+        (schemeText base ++ authorityText base) (parse reference .path) (rw (no-scheme, no-authority, path-there, slash)) (omega arith) (omega (arith, ordered base)) unmerged
+        (omega arith) (omega (arith, ordered reference)) (append-nil (take (partsOf base .authority) base) ∙ take-authority base) front-path
         (rw (scheme-text base, drop-path-texts reference, append-assoc)) (rw (has-authority base))
 
     pub aimed-merged : {l : Lead} → (getD reference 0 0 ≡ 47 → ⊥) → Leads base l
         → Aimed base reference (record {
-          keep = l .keep;
-          slash = l .slash;
+          front = partsOf base .authority;
+          own = 0;
+          merged = l .merged;
+          lead = l .end;
           path = partsOf reference .path;
-          start = partsOf base .authority;
           authority = ltb (partsOf base .scheme) (partsOf base .authority);
         })
-    unfolding transform recompose hasForm laid authorityText queryText fragmentText if_then_else_
+    unfolding transform recompose hasForm frontOf mergedOf authorityText queryText fragmentText if_then_else_
     aimed-merged {l} f lead =
         let none : begins (ascii "/") (parse reference .path) ≡ false = path-slash ∙ ne-eqb 47 (getD reference 0 0) (λ e. f (sym e)) in
         aimed {r = made (parse base .scheme) (parse base .authority) (removeDotSegments (merge (parse base) (parse reference .path))) (parse reference .query) reference}
-        (schemeText base ++ authorityText base) (merge (parse base) (parse reference .path)) (rw (no-scheme, no-authority, path-there, none)) (lead .keep) (lead .slash)
-        (omega (arith, ordered reference)) (rw front-path (sym (lead .is (parse reference .path)))) (sym (authority-at base))
+        (schemeText base ++ authorityText base) (merge (parse base) (parse reference .path)) (rw (no-scheme, no-authority, path-there, none)) (lead .order) (lead .within) (lead .few)
+        (omega arith) (omega (arith, ordered reference)) (append-nil (take (partsOf base .authority) base) ∙ take-authority base) (rw front-path (lead .is (parse reference .path)))
         (rw (scheme-text base, drop-path-texts reference, append-assoc)) (rw (has-authority base))

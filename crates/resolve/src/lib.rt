@@ -1,15 +1,19 @@
 // RFC 3986, section 5.2: a reference resolved on a base, into a lent area. Every call answers on any bytes: whether they are IRIs is asked elsewhere.
 ghost use mathlib.Core.Path.{_≡_};
-ghost use Prim.Native.Nat.{_≤_};
-ghost use lib.ListN.{length, take};
-ghost use Rattle.copy.specs.Copy.{Wrote};
-ghost use Rattle.resolve.specs.Target.{Aimed, laid};
-ghost use Rattle.resolve.specs.Resolve.{Recomposed, Result, Room, formed, need};
+ghost use Prim.Native.Nat.{_-_, _≤_};
+ghost use lib.Dec.{leb};
+ghost use lib.ListN.{length, drop};
+ghost use Rattle.spec.specs.Bytes.{Bytes};
+ghost use Rattle.spec.specs.Rfc3986.{removeDotSegments};
+ghost use Rattle.resolve.specs.Output.{Within};
+ghost use Rattle.resolve.specs.Target.{Aimed, frontOf, mergedOf};
+ghost use Rattle.resolve.specs.Resolve.{Fronted, Made, Pathed, Recomposed, Result, formed, need, needed};
 
 mod parts;
 mod path;
 mod target;
 
+use path::Output;
 use target::Target;
 
 // What became of a reference.
@@ -27,63 +31,110 @@ pub enum Resolved {
 impl Resolved {
     // Any expanded name, IRI or base, in bytes.
     pub const MOST_BYTES: usize = 1_024;
+    // An area of so many bytes is enough for every base and reference: one that is too long by a byte, and two of its path, by which it is
+    // told whether that begins `//`.
+    pub const AREA: usize = Self::MOST_BYTES + 3;
 }
 
-// `reference` on `base`. The area is scratch and result at once; it needs one byte more than the two together.
+// `reference` on `base`. The area has to have one byte more than the two together, or `AREA` bytes.
 pub fn resolve(base: &[u8], reference: &[u8], area: &mut [u8]) -> Resolved
     ensures { λ r. ⌜ Result (now (base .entry)) (now (reference .entry)) (now (area .entry)) (now (area .exit)) r ⌝ }
 {
-    if area.len() < base.len() {
-        return Resolved::NoArea;
-    }
-    if area.len() - base.len() <= reference.len() {
+    if !has_room(base.len(), reference.len(), area.len()) {
         return Resolved::NoArea;
     }
     let target = target::transform(base, reference);
-    let end = lay(base, reference, target, area);
-    recompose(reference, target, end, area)
+    let from = put_front(base, reference, target, area);
+    let out = put_path(base, reference, target, from, area);
+    recompose(reference, target, from, out, area)
 }
 
-// What the target takes from base and reference up to the end of its path, whose dot segments are still there.
-fn lay(base: &[u8], reference: &[u8], target: Target, area: &mut [u8]) -> usize
+fn has_room(base: usize, reference: usize, area: usize) -> bool
+    ensures { λ r. ⌜ r ≡ leb (needed base reference) area ⌝ }
+{
+    if Resolved::AREA <= area {
+        return true;
+    }
+    if area < base {
+        return false;
+    }
+    reference < area - base
+}
+
+// What stands before the path, if it is not too long. The answer is where the path begins.
+fn put_front(base: &[u8], reference: &[u8], target: Target, area: &mut [u8]) -> usize
     requires { ⌜ Aimed (now base) (now reference) target × (need (now base) (now reference) ≤ length (now area)) ⌝ }
-    ensures { λ r. ⌜ Wrote (now (area .entry)) (now (area .exit)) 0 r (laid (now (base .entry)) (now (reference .entry)) target) ⌝ }
+    ensures { λ from. ⌜ Fronted (now (area .entry)) (frontOf (now (base .entry)) (now (reference .entry)) target) (now (area .exit)) from ⌝ }
 {
-    let keep = target.keep;
-    let slash = target.slash;
-    let path = target.path;
-    let mark = [b'/'];
-    copy::put(area, 0, &base[..keep]);
-    copy::put(area, keep, &mark[..slash]);
-    copy::put(area, keep + slash, &reference[..path]);
-    keep + slash + path
+    let front = target.front;
+    let own = target.own;
+    let from = front + own;
+    if Resolved::MOST_BYTES < from {
+        return Resolved::MOST_BYTES + 1;
+    }
+    copy::put(area, 0, &base[..front]);
+    copy::put(area, front, &reference[..own]);
+    from
 }
 
-// The dot segments go, and the reference's query and fragment come behind the path, if there is a form for the whole and it is not too long.
-fn recompose(reference: &[u8], target: Target, end: usize, area: &mut [u8]) -> Resolved
-    requires { ⌜ Room (now reference) target end (now area) ⌝ }
-    ensures { λ r. ⌜ Recomposed (now (reference .entry)) target (take end (now (area .entry))) (now (area .entry)) (now (area .exit)) r ⌝ }
+// The path, its dot segments removed on the way: what the base gives of it, and what the reference does.
+fn put_path(base: &[u8], reference: &[u8], target: Target, from: usize, area: &mut [u8]) -> Output
+    requires { ⌜ Aimed (now base) (now reference) target × (from ≤ length (now area)) ⌝ }
+    ensures { λ out. ⌜ Pathed (now (area .entry)) from (removeDotSegments (mergedOf (now (base .entry)) (now (reference .entry)) target)) (now (area .exit)) out ⌝ }
 {
-    let start = target.start;
+    let front = target.front;
+    let lead = target.lead;
+    let own = target.own;
     let path = target.path;
-    let to = start + path::remove_dot_segments(&mut area[start..end]);
-    if !has_form(&area[start..to], target.authority) {
+    let empty = Output {
+        end: from,
+        beyond: 0,
+        begun: false,
+    };
+    if !target.merged {
+        return path::output_path(&reference[own..path], false, from, empty, area);
+    }
+    let led = path::output_path(&base[front..lead], true, from, empty, area);
+    path::output_path(&reference[own..path], false, from, led, area)
+}
+
+// The reference's query and fragment come behind the path, if there is a form for the whole and it is not too long.
+fn recompose(
+    reference: &[u8],
+    target: Target,
+    from: usize,
+    out: Output,
+    area: &mut [u8],
+) -> Resolved
+    requires { ⌜ (target .path ≤ length (now reference)) × Within (now area) from out ⌝ }
+    ensures { λ r. ⌜ ((front path : Bytes) → Made (now (area .entry)) from out (length (now (reference .entry)) - target .path) front path
+        → Recomposed (target .authority) front path (drop (target .path) (now (reference .entry))) (now (area .entry)) (now (area .exit)) r) ⌝ }
+{
+    let end = out.end;
+    let path = target.path;
+    if !has_form(&area[from..end], out.beyond, target.authority) {
         return Resolved::NoForm;
     }
-    let rest = reference.len() - path;
-    if Resolved::MOST_BYTES < to + rest {
+    if 0 < out.beyond {
         return Resolved::TooLong;
     }
-    copy::put(area, to, &reference[path..]);
-    Resolved::Length(to + rest)
+    let rest = reference.len() - path;
+    if Resolved::MOST_BYTES < end + rest {
+        return Resolved::TooLong;
+    }
+    copy::put(area, end, &reference[path..]);
+    Resolved::Length(end + rest)
 }
 
-// Where there is no authority, the path cannot begin with `//` (section 3.3).
-fn has_form(path: &[u8], authority: bool) -> bool
-    ensures { λ r. ⌜ r ≡ formed authority (now (path .entry)) ⌝ }
+// Where there is no authority, the path cannot begin with `//` (section 3.3). A segment that has no room behind "/" begins with one, too.
+fn has_form(path: &[u8], beyond: usize, authority: bool) -> bool
+    ensures { λ r. ⌜ r ≡ formed authority (now (path .entry)) beyond ⌝ }
 {
     if authority {
         return true;
+    }
+    if (0 < beyond) & copy::equal(b"/", path) {
+        return false;
     }
     !copy::begins(path, b"//")
 }

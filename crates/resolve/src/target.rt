@@ -6,20 +6,21 @@ use crate::parts;
 use crate::parts::Parts;
 use crate::path;
 
-// Its text up to the end of its path: `keep` bytes of the base, "/" where `slash` is 1, `path` bytes of the reference.
-// From `start` on this is the path with its dot segments. Behind it comes the rest of the reference.
+// Before its path stand `front` bytes of the base and `own` of the reference. Its path, with dot segments, is the reference's from there up to
+// `path`; where it is merged, the base's from `front` up to `lead` and a "/" come before that. Behind it comes the rest of the reference.
 pub struct Target {
-    pub keep: usize,
-    pub slash: usize,
+    pub front: usize,
+    pub own: usize,
+    pub merged: bool,
+    pub lead: usize,
     pub path: usize,
-    pub start: usize,
     pub authority: bool,
 }
 
-// A part of a base that a path is merged with: the bytes up to its last "/", and 1 where one is wanted behind them.
+// What a base gives of its path when another is merged with it: what stands before its last "/", if it has one.
 struct Lead {
-    keep: usize,
-    slash: usize,
+    merged: bool,
+    end: usize,
 }
 
 pub fn transform(base: &[u8], reference: &[u8]) -> Target
@@ -28,58 +29,64 @@ pub fn transform(base: &[u8], reference: &[u8]) -> Target
     let r = parts::parse(reference);
     if 0 < r.scheme {
         return Target {
-            keep: 0,
-            slash: 0,
+            front: 0,
+            own: r.authority,
+            merged: false,
+            lead: 0,
             path: r.path,
-            start: r.authority,
             authority: r.scheme < r.authority,
         };
     }
     if r.query == 0 {
-        let keep = copy::find(base, b'#');
+        let front = copy::find(base, b'#');
         return Target {
-            keep,
-            slash: 0,
+            front,
+            own: 0,
+            merged: false,
+            lead: front,
             path: 0,
-            start: keep,
             authority: true,
         };
     }
     let b = parts::parse(base);
     if 0 < r.authority {
         return Target {
-            keep: b.scheme,
-            slash: 0,
+            front: b.scheme,
+            own: r.authority,
+            merged: false,
+            lead: b.scheme,
             path: r.path,
-            start: b.scheme + r.authority,
             authority: true,
         };
     }
     let authority = b.scheme < b.authority;
     if r.path == 0 {
         return Target {
-            keep: b.path,
-            slash: 0,
+            front: b.path,
+            own: 0,
+            merged: false,
+            lead: b.path,
             path: 0,
-            start: b.path,
             authority,
         };
     }
     if reference[0] == b'/' {
         return Target {
-            keep: b.authority,
-            slash: 0,
+            front: b.authority,
+            own: 0,
+            merged: false,
+            lead: b.authority,
             path: r.path,
-            start: b.authority,
             authority,
         };
     }
     let lead = merge(base, b);
     Target {
-        keep: lead.keep,
-        slash: lead.slash,
+        front: b.authority,
+        own: 0,
+        merged: lead.merged,
+        lead: lead.end,
         path: r.path,
-        start: b.authority,
         authority,
     }
 }
@@ -91,18 +98,21 @@ fn merge(base: &[u8], b: Parts) -> Lead
 {
     let authority = b.authority;
     let path = b.path;
-    if authority < path {
-        let keep = authority + path::through_last(&base[authority..path]);
-        return Lead { keep, slash: 0 };
-    }
-    if b.scheme < authority {
+    if path <= authority {
         return Lead {
-            keep: authority,
-            slash: 1,
+            merged: b.scheme < authority,
+            end: authority,
+        };
+    }
+    let n = path::through_last(&base[authority..path]);
+    if n == 0 {
+        return Lead {
+            merged: false,
+            end: authority,
         };
     }
     Lead {
-        keep: authority,
-        slash: 0,
+        merged: true,
+        end: authority + (n - 1),
     }
 }

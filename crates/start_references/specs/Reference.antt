@@ -1,5 +1,5 @@
 -- What a resolved reference stands for: the answer of the definitions, and where its text is.
-use Prim.Native.Nat.{ℕ, _+_, _-_, _<_, _≤_}
+use Prim.Native.Nat.{ℕ, _+_, _<_, _≤_}
 use mathlib.Core.Path.{_≡_, refl, sym, ap, _∙_}
 use mathlib.Core.Bool.{Bool, true, false}
 use mathlib.Core.Option.{Option, none, some}
@@ -7,7 +7,8 @@ use mathlib.Core.List.{List, [], _∷_, _++_}
 use mathlib.Core.Logic.{inl}
 use native.Mathlib.Omega.{arith}
 use native.Mathlib.Nat.{add-zero}
-use lib.ListN.{length, take, drop, length-drop, length-take}
+use lib.ListN.{length, take, drop, length-drop}
+use lib.Seq.{length-take-le}
 use Rattle.spec.specs.Bytes.{Bytes, byte, _>>_, require_or_}
 use Rattle.spec.specs.Numbers.{Answer, refuse, good}
 use Rattle.spec.specs.declared.Refusal.the-variants.{BadIri}
@@ -20,7 +21,7 @@ use Rattle.state_words.specs.Kept.{Kept, kept-all, kept-before}
 use Rattle.state_words.specs.Words.{pick}
 use Rattle.resolve.specs.declared.Resolved.{Resolved}
 use Rattle.resolve.specs.declared.Resolved.the-variants.{Length, NoForm, TooLong, NoArea}
-use Rattle.resolve.specs.Resolve.{Result, need, result-length, result-formless, result-long, result-room}
+use Rattle.resolve.specs.Resolve.{Result, need, mostArea, result-length, result-formless, result-long, result-room}
 use Rattle.start_references.specs.declared.reference.Reference.{Reference}
 use Rattle.start_references.specs.declared.reference.Reference.the-variants.{Missing, Bad, Long, Made}
 
@@ -66,16 +67,13 @@ pub record Resolves (x : Answer (Option Bytes)) (area after : List ℕ) (at : �
   pub before : Kept area after 0 at
   pub same : length after ≡ length area
 
--- what is asked of the bytes of a base in force and of a reference: room to resolve the longest on a base that is no longer than an IRI may be
-pub record Room (base reference area : List ℕ) (at : ℕ) : Type 0 where
-  pub on : length base ≤ 65_536
-  pub from : length reference ≤ 32_769
-  pub room : at + 33_794 ≤ length area
+-- what is asked of the area: room to resolve from a place on
+pub record Room (area : List ℕ) (at : ℕ) : Type 0 where
+  pub room : at + 1_027 ≤ length area
 
-pub record RoomForId (base value area : List ℕ) : Type 0 where
-  pub on : length base ≤ 65_536
+pub record RoomForId (value area : List ℕ) : Type 0 where
   pub from : length value ≤ 32_768
-  pub room : 33_794 ≤ length area
+  pub room : 1_027 ≤ length area
 
 -- the same answer of the definitions, said otherwise
 pub refers-as : {x y : Answer (Option Bytes)} (area : List ℕ) (at : ℕ) (r : Reference) → Refers r area at x → x ≡ y → Refers r area at y
@@ -133,7 +131,7 @@ put-there {area} {after} {s} {at} {n} p room e l x =
       same = p .same;
     }
 
-pub put-iri : {area after s : List ℕ} {at : ℕ} {t : Bool} → Put area at s after t → isIri s ≡ true → length s ≤ 1024 → at + 33_794 ≤ length area
+pub put-iri : {area after s : List ℕ} {at : ℕ} {t : Bool} → Put area at s after t → isIri s ≡ true → length s ≤ 1024 → at + 1_027 ≤ length area
     → Resolves (resolved none (some s)) area after at (Made (length s))
 put-iri {area} {after} {s} {at} p h l room = put-there p (omega arith) refl l (good-iri s h)
 
@@ -156,16 +154,16 @@ module _ (base reference : Bytes) (i : isIriReference reference ≡ true) where
     unfolding mostNameBytes
     too-long e = let l = result-long h e in record { text = resolve base reference; is = good-form (l .0); long = l .1 }
 
-    -- in the area from the place on, which was lent and is back
-    module _ (area : List ℕ) (at : ℕ) (lent : room ≡ drop at area) (fits : at ≤ length area) where
-      returned : take at area ++ (back ++ drop (length area - at) (drop at area)) ≡ storedAt area at back
-      returned = lent-back area at (length area - at) back (h .same ∙ rw lent (length-drop at area))
+    -- in the part of the area that was lent from the place on and is back
+    module _ (area : List ℕ) (at k : ℕ) (lent : room ≡ take k (drop at area)) (fits : at + k ≤ length area) where
+      size : length back ≡ k
+      size = h .same ∙ rw lent (length-take-le k (drop at area) (rw length-drop (omega arith)))
 
-      size : length back ≡ length area - at
-      size = h .same ∙ rw lent (length-drop at area)
+      returned : take at area ++ (back ++ drop k (drop at area)) ≡ storedAt area at back
+      returned = lent-back area at k back size
 
       back-at : (q : Reference) → Refers q (storedAt area at back) at (resolved (some base) (some reference))
-          → Resolves (resolved (some base) (some reference)) area (take at area ++ (back ++ drop (length area - at) (drop at area))) at q
+          → Resolves (resolved (some base) (some reference)) area (take at area ++ (back ++ drop k (drop at area))) at q
       back-at q f =
           rw returned
           (record {
@@ -174,15 +172,15 @@ module _ (base reference : Bytes) (i : isIriReference reference ≡ true) where
             same = length-stored area at back (omega (arith, size));
           })
 
-      pub near-formless : r ≡ NoForm → Resolves (resolved (some base) (some reference)) area (take at area ++ (back ++ drop (length area - at) (drop at area))) at Bad
-      near-formless e = back-at Bad (formless e)
+      pub based-formless : r ≡ NoForm → Resolves (resolved (some base) (some reference)) area (take at area ++ (back ++ drop k (drop at area))) at Bad
+      based-formless e = back-at Bad (formless e)
 
-      pub near-long : r ≡ TooLong → Resolves (resolved (some base) (some reference)) area (take at area ++ (back ++ drop (length area - at) (drop at area))) at Long
-      near-long e = back-at Long (too-long e)
+      pub based-long : r ≡ TooLong → Resolves (resolved (some base) (some reference)) area (take at area ++ (back ++ drop k (drop at area))) at Long
+      based-long e = back-at Long (too-long e)
 
-      pub near-made : {n : ℕ} → r ≡ Length n → Resolves (resolved (some base) (some reference)) area (take at area ++ (back ++ drop (length area - at) (drop at area))) at (Made n)
+      pub based-made : {n : ℕ} → r ≡ Length n → Resolves (resolved (some base) (some reference)) area (take at area ++ (back ++ drop k (drop at area))) at (Made n)
       unfolding mostNameBytes part
-      near-made {n} e =
+      based-made {n} e =
           let l = result-length h e in
           let there : part (storedAt area at back) at n ≡ resolve base reference =
           rw add-zero at (part-inside area at back 0 n (omega (arith, size)) (omega (arith, l .is .within))) ∙ l .is .is in
@@ -193,24 +191,10 @@ module _ (base reference : Bytes) (i : isIriReference reference ≡ true) where
             within = omega (arith, size, l .is .within, length-stored area at back (omega (arith, size)));
           })
 
-    -- in room of its own
-    pub far-formless : {area : List ℕ} {at : ℕ} → r ≡ NoForm → Resolves (resolved (some base) (some reference)) area area at Bad
-    far-formless e = untouched Bad (formless e)
-
-    pub far-long : {area : List ℕ} {at : ℕ} → r ≡ TooLong → Resolves (resolved (some base) (some reference)) area area at Long
-    far-long e = untouched Long (too-long e)
-
-    pub far-made : {area after : List ℕ} {at n : ℕ} {t : Bool} → r ≡ Length n → at + 33_794 ≤ length area → Put area at (take n back) after t
-        → Resolves (resolved (some base) (some reference)) area after at (Made n)
-    unfolding mostNameBytes
-    far-made {area} {after} {at} {n} e room p =
-        let l = result-length h e in
-        let s : n ≡ length (take n back) = omega (arith, length-take n back, l .is .within) in
-        put-there p (omega (arith, l .limit)) s (l .limit) (good-form (l .form) ∙ ap (λ (t : Bytes). good (some t)) (sym (l .is .is)))
-
-    -- there is an answer where the room is enough
-    pub answers : need base reference ≤ length room → r ≡ NoArea → ⊥
-    answers n e = result-room h n e
+    -- there is an answer
+    pub answers : 1_027 ≤ length room → r ≡ NoArea → ⊥
+    unfolding need mostArea mostNameBytes
+    answers n e = result-room h (omega arith) e
 
 -- ---- which base there is
 

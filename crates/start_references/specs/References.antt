@@ -139,11 +139,10 @@ module _ (count : ℕ) (at len store area : List ℕ) {r : Reference} where
   unfolding usedBy
   used-made h q e = e ∙ rw (h, q)
 
--- what is asked where a reference is resolved to its place: bytes of a decoded event and of a base in force
-pub record Ready (e base area : List ℕ) (at : ℕ) : Type 0 where
+-- what is asked where a reference is resolved to its place: bytes of a decoded event, and room from the place on
+pub record Ready (e area : List ℕ) (at : ℕ) : Type 0 where
   pub event : length e ≤ 32_768
-  pub on : length base ≤ 65_536
-  pub room : at + 33_794 ≤ length area
+  pub room : at + 1_027 ≤ length area
 
 -- the same of two tests that agree
 pub references-fresh : (base : Option Bytes) (f g : Option Bytes → Bool) (v : Five) → ((o : Option Bytes) → f o ≡ g o) → references base f v ≡ references base g v

@@ -1,16 +1,16 @@
 -- The values that a tag's roles have, from the places of their first attributes, and the base that references are resolved on.
 use Prim.Native.Nat.{ℕ, _+_, _<_, _≤_}
-use mathlib.Core.Path.{_≡_, refl, ap}
+use mathlib.Core.Path.{_≡_, refl}
 use mathlib.Core.Bool.{Bool, true, false, _||_}
 use mathlib.Core.Option.{Option, none, some}
 use mathlib.Core.List.{List}
 use native.Mathlib.Omega.{arith}
 use lib.Dec.{ltb}
-use lib.ListN.{length, drop, length-take, length-drop}
-use borrow.Author.Tests.{ltb-true, ltb-false, lt-ltb, le-ltb}
+use lib.ListN.{length}
+use borrow.Author.Tests.{ltb-true, ltb-false, lt-ltb}
 use Rattle.spec.specs.Bytes.{Bytes, orElse}
 use Rattle.spec.specs.StartTag.{Role, xml-base, first}
-use Rattle.copy.specs.Copy.{part}
+use Rattle.copy.specs.Copy.{part, part-short}
 use Rattle.state_words.specs.Words.{pick}
 use Rattle.state_stack.specs.declared.Found.{Found}
 use Rattle.state_inner.specs.Laws.{found}
@@ -19,14 +19,9 @@ use Rattle.start_references.specs.Reference.{given}
 use Rattle.start_attributes.specs.Reads.{meaningsOf, Roles}
 use Rattle.start_attributes.specs.First.{firstIn, first-some, first-none}
 
--- a part is no longer than what it is of
-pub part-most : (s : List ℕ) (at n : ℕ) → length (part s at n) ≤ length s
-unfolding part
-part-most s at n = omega (arith, length-take n (drop at s), length-drop at s)
-
 pub value-most : (e w : List ℕ) (j : ℕ) → length (valueAt e w j) ≤ length e
 unfolding valueAt
-value-most e w j = part-most e (startAt w j + sizeAt w j) (valueSizeAt w j)
+value-most e w j = part-short e (startAt w j + sizeAt w j) (valueSizeAt w j)
 
 -- the value of attribute j of k, where there is one
 unfoldable pub valueIf : List ℕ → List ℕ → ℕ → ℕ → Option Bytes
@@ -64,14 +59,6 @@ pub bases-other : {e w : List ℕ} {k j : ℕ} {v : List ℕ} {f : Found} {x : B
 bases-other h q = record { own = λ l. absurd (omega arith); other = λ _. q }
 
 module _ {e w v : List ℕ} {k j : ℕ} {f : Found} {x : Bytes} (b : Bases e w k j v f x) where
-  -- no longer than where it was read
-  pub bases-most : (n : ℕ) → length e ≤ n → length v ≤ n → length x ≤ n
-  bases-most n p q = go (ltb j k) refl
-    where
-      go : (t : Bool) → ltb j k ≡ t → length x ≤ n
-      go true l = omega (arith, ap length (b .own (ltb-true j k l)), value-most e w j)
-      go false l = omega (arith, ap length (b .other (ltb-false j k l)), part-most v (f .at) (f .len))
-
   -- j is the place of xml:base, f what is in force
   pub based : (rs : List ℕ) {g : Found} → j ≡ firstIn rs k xml-base → f ≡ g → given (ltb j k || f .there) x ≡ inForce e w v k rs g
   unfolding inForce valueIf given orElse found

@@ -94,7 +94,7 @@ pub fn resolve_references<'a>(
     roles: &[u8],
     area: &mut [u8],
 ) -> Resolutions
-    requires { ⌜ Ready (now scratch) (now work) (now area) 4096 × SpansIn count (now starts) (now sizes) (now ids) ⌝ }
+    requires { ⌜ Ready (now scratch) (now area) 4096 × SpansIn count (now starts) (now sizes) (now ids) ⌝ }
     ensures { λ q. ⌜ Resolving (references (inForce (now (scratch .entry)) (now (spans .entry)) (now (work .entry)) k (now (roles .entry)) (baseIn r (now (frames .entry)))) (freshBy count (now (starts .entry)) (now (sizes .entry)) (now (ids .entry))) (fiveAt (now (scratch .entry)) (now (spans .entry)) k (now (roles .entry)))) (now (area .entry)) (now (area .exit)) q ⌝ }
 {
     let j = start_attributes::first_in(roles, k, Role::XmlBase);
@@ -146,7 +146,7 @@ fn resolve_on(
     roles: &[u8],
     area: &mut [u8],
 ) -> Resolutions
-    requires { ⌜ Ready (now scratch) (now base) (now area) 4096 × SpansIn count (now starts) (now sizes) (now ids) ⌝ }
+    requires { ⌜ Ready (now scratch) (now area) 4096 × SpansIn count (now starts) (now sizes) (now ids) ⌝ }
     ensures { λ r. ⌜ Resolving (references (given based (now (base .entry))) (freshBy count (now (starts .entry)) (now (sizes .entry)) (now (ids .entry))) (fiveAt (now (scratch .entry)) (now (spans .entry)) k (now (roles .entry)))) (now (area .entry)) (now (area .exit)) r ⌝ }
 {
     let id = resolve_id(based, base, scratch, spans, k, roles, area);
@@ -172,7 +172,7 @@ fn resolve_id(
     roles: &[u8],
     area: &mut [u8],
 ) -> Reference
-    requires { ⌜ Ready (now scratch) (now base) (now area) 0 ⌝ }
+    requires { ⌜ Ready (now scratch) (now area) 0 ⌝ }
     ensures { λ r. ⌜ Resolves (resolved (given based (now (base .entry))) (withHash (valueIf (now (scratch .entry)) (now (spans .entry)) k (firstIn (now (roles .entry)) k rdf-ID)))) (now (area .entry)) (now (area .exit)) 0 r ⌝ }
 {
     let j = start_attributes::first_in(roles, k, Role::Id);
@@ -218,7 +218,7 @@ fn resolve_others(
     roles: &[u8],
     area: &mut [u8],
 ) -> Others
-    requires { ⌜ Ready (now scratch) (now base) (now area) 4096 ⌝ }
+    requires { ⌜ Ready (now scratch) (now area) 4096 ⌝ }
     ensures { λ r. ⌜ Four (given based (now (base .entry))) (fiveAt (now (scratch .entry)) (now (spans .entry)) k (now (roles .entry))) (now (area .entry)) (now (area .exit)) r ⌝ }
 {
     let about = resolve_in(
@@ -285,7 +285,7 @@ fn resolve_in(
     area: &mut [u8],
     at: usize,
 ) -> Reference
-    requires { ⌜ Ready (now scratch) (now base) (now area) at ⌝ }
+    requires { ⌜ Ready (now scratch) (now area) at ⌝ }
     ensures { λ r. ⌜ Resolves (resolved (given based (now (base .entry))) (valueIf (now (scratch .entry)) (now (spans .entry)) k (firstIn (now (roles .entry)) k (roleIs role)))) (now (area .entry)) (now (area .exit)) at r ⌝ }
 {
     let j = start_attributes::first_in(roles, k, role);

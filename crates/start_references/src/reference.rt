@@ -2,9 +2,8 @@
 ghost use mathlib.Core.Path.{_≡_};
 ghost use mathlib.Core.Bool.{true};
 ghost use mathlib.Core.Option.{none, some};
-ghost use Prim.Native.Nat.{_<_, _≤_};
+ghost use Prim.Native.Nat.{_<_};
 ghost use lib.ListN.{length};
-ghost use Rattle.spec.specs.Limits.{mostNameBytes};
 ghost use Rattle.spec.specs.Rfc3987.{isIriReference};
 ghost use Rattle.spec.specs.StartTag.{resolved, withHash};
 ghost use Rattle.start_references.specs.Reference.{given, Resolves, Room, RoomForId, isBad, isLong};
@@ -12,7 +11,7 @@ use pyx::Event;
 use resolve::Resolved;
 use state::Registers;
 
-// What is made for an event stands in one lent area, each thing at its place. Resolving takes room behind a place, so later places are written later.
+// What is made for an event stands in one lent area, each thing at its place. Resolving takes a few bytes more, so later places are written later.
 pub struct Area {}
 
 // A reference, resolved: missing; no IRI comes of it; longer than an IRI may be; or in the area, of this many bytes.
@@ -27,9 +26,6 @@ pub enum Reference {
 const HASHED: usize = Event::MOST_BYTES + 1;
 
 const FEW: usize = 256;
-
-// What resolving that takes on the longest base that a work store may hold.
-const FAR: usize = Registers::STORE + HASHED + 1;
 
 impl Area {
     // The whole, in bytes.
@@ -82,7 +78,7 @@ impl Reference {
 
 // A reference on a base that may be missing: without one it has to be an IRI.
 pub fn resolved(based: bool, base: &[u8], reference: &[u8], area: &mut [u8], at: usize) -> Reference
-    requires { ⌜ Room (now base) (now reference) (now area) at ⌝ }
+    requires { ⌜ Room (now area) at ⌝ }
     ensures { λ r. ⌜ Resolves (resolved (given based (now (base .entry))) (some (now (reference .entry)))) (now (area .entry)) (now (area .exit)) at r ⌝ }
 {
     if !based {
@@ -91,15 +87,12 @@ pub fn resolved(based: bool, base: &[u8], reference: &[u8], area: &mut [u8], at:
     if !iri::is_iri_reference(reference) {
         return Reference::Bad;
     }
-    if base.len() <= Resolved::MOST_BYTES {
-        return near(base, reference, area, at);
-    }
-    far(base, reference, area, at)
+    on_base(base, reference, area, at)
 }
 
 // rdf:ID: "#" and the value.
 pub fn resolved_id(based: bool, base: &[u8], value: &[u8], area: &mut [u8]) -> Reference
-    requires { ⌜ RoomForId (now base) (now value) (now area) ⌝ }
+    requires { ⌜ RoomForId (now value) (now area) ⌝ }
     ensures { λ r. ⌜ Resolves (resolved (given based (now (base .entry))) (withHash (some (now (value .entry))))) (now (area .entry)) (now (area .exit)) 0 r ⌝ }
 {
     if value.len() < FEW {
@@ -110,7 +103,7 @@ pub fn resolved_id(based: bool, base: &[u8], value: &[u8], area: &mut [u8]) -> R
 
 // The same where the value is short, as nearly all are: room for the longest would cost more to lay out than all the rest.
 fn near_id(based: bool, base: &[u8], value: &[u8], area: &mut [u8]) -> Reference
-    requires { ⌜ RoomForId (now base) (now value) (now area) × (length (now value) < 256) ⌝ }
+    requires { ⌜ RoomForId (now value) (now area) × (length (now value) < 256) ⌝ }
     ensures { λ r. ⌜ Resolves (resolved (given based (now (base .entry))) (withHash (some (now (value .entry))))) (now (area .entry)) (now (area .exit)) 0 r ⌝ }
 {
     let n = value.len() + 1;
@@ -120,7 +113,7 @@ fn near_id(based: bool, base: &[u8], value: &[u8], area: &mut [u8]) -> Reference
 }
 
 fn far_id(based: bool, base: &[u8], value: &[u8], area: &mut [u8]) -> Reference
-    requires { ⌜ RoomForId (now base) (now value) (now area) ⌝ }
+    requires { ⌜ RoomForId (now value) (now area) ⌝ }
     ensures { λ r. ⌜ Resolves (resolved (given based (now (base .entry))) (withHash (some (now (value .entry))))) (now (area .entry)) (now (area .exit)) 0 r ⌝ }
 {
     let n = value.len() + 1;
@@ -131,7 +124,7 @@ fn far_id(based: bool, base: &[u8], value: &[u8], area: &mut [u8]) -> Reference
 
 // Without a base.
 fn absolute(reference: &[u8], area: &mut [u8], at: usize) -> Reference
-    requires { ⌜ Room (now reference) (now reference) (now area) at ⌝ }
+    requires { ⌜ Room (now area) at ⌝ }
     ensures { λ r. ⌜ Resolves (resolved none (some (now (reference .entry)))) (now (area .entry)) (now (area .exit)) at r ⌝ }
 {
     if !iri::is_iri(reference) {
@@ -144,30 +137,14 @@ fn absolute(reference: &[u8], area: &mut [u8], at: usize) -> Reference
     Reference::Made(reference.len())
 }
 
-// On a base that is no longer than a base may be, in the area itself.
-fn near(base: &[u8], reference: &[u8], area: &mut [u8], at: usize) -> Reference
-    requires { ⌜ Room (now base) (now reference) (now area) at × (length (now base) ≤ mostNameBytes) × (isIriReference (now reference) ≡ true) ⌝ }
+// On a base, which may have any length: a longer one than an IRI may be is refused later.
+fn on_base(base: &[u8], reference: &[u8], area: &mut [u8], at: usize) -> Reference
+    requires { ⌜ Room (now area) at × (isIriReference (now reference) ≡ true) ⌝ }
     ensures { λ r. ⌜ Resolves (resolved (some (now (base .entry))) (some (now (reference .entry)))) (now (area .entry)) (now (area .exit)) at r ⌝ }
 {
-    match resolve::resolve(base, reference, &mut area[at..]) {
+    let to = at + Resolved::AREA;
+    match resolve::resolve(base, reference, &mut area[at..to]) {
         Resolved::Length(n) => Reference::Made(n),
-        Resolved::NoForm => Reference::Bad,
-        Resolved::TooLong => Reference::Long,
-        Resolved::NoArea => Reference::Bad,
-    }
-}
-
-// On a longer one, which is refused later and may have any length until then: in room for the longest.
-fn far(base: &[u8], reference: &[u8], area: &mut [u8], at: usize) -> Reference
-    requires { ⌜ Room (now base) (now reference) (now area) at × (isIriReference (now reference) ≡ true) ⌝ }
-    ensures { λ r. ⌜ Resolves (resolved (some (now (base .entry))) (some (now (reference .entry)))) (now (area .entry)) (now (area .exit)) at r ⌝ }
-{
-    let mut room = [0u8; FAR];
-    match resolve::resolve(base, reference, &mut room) {
-        Resolved::Length(n) => {
-            copy::put(area, at, &room[..n]);
-            Reference::Made(n)
-        }
         Resolved::NoForm => Reference::Bad,
         Resolved::TooLong => Reference::Long,
         Resolved::NoArea => Reference::Bad,

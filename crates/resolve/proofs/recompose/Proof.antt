@@ -1,27 +1,12 @@
 -- `resolve::recompose` meets its contract.
-use lib.ListN.{length-take}
 use borrow.Author.Tests.{not-true, not-false}
+use lib.ListN.{drop, length-drop}
 use Rattle.spec.specs.Limits.{mostNameBytes}
-use Rattle.resolve.specs.Resolve.{cleared, recomposed-formless, recomposed-long, recomposed-whole}
-use native.Mathlib.Omega.{arith}
+use Rattle.copy.specs.Copy.{part, rest-of}
+use Rattle.resolve.specs.Resolve.{recomposed-formless, recomposed-beyond, recomposed-long, recomposed-whole}
 use borrow.Author.Needs.{needs}
 use Rattle.resolve.proofs.recompose.Statement.{statement}
 use Rattle.resolve.proofs.recompose.Tie as tie
-
-sub-remove-dot-segments : tie.Need-sub-remove-dot-segments
-sub-remove-dot-segments c = search needs
-
-part-remove-dot-segments-start : tie.Need-part-remove-dot-segments-start
-part-remove-dot-segments-start c = search needs
-
-part-remove-dot-segments-end : tie.Need-part-remove-dot-segments-end
-part-remove-dot-segments-end c = search needs
-
-remove-dot-segments-requires : tie.Need-remove-dot-segments-requires
-remove-dot-segments-requires c κs = search needs
-
-add-to : tie.Need-add-to
-add-to c = search needs
 
 sub-has-form : tie.Need-sub-has-form
 sub-has-form c = search needs
@@ -39,20 +24,28 @@ same-length : tie.Need-same-length
 same-length c = search needs
 
 returns : tie.Need-returns
-returns c = recomposed-formless (cleared {t = c .before .before .before .before .before .before .before .before .before .before .args .target} (c .before .before .before .before .before .before .before .before .before .before .pre .start) (omega (arith, c .before .before .before .before .before .before .before .before .before .before .pre .rest)) (c .before .before .before .before .before .before .remove-dot-segments .ensures)) (omega (arith, c .before .before .before .before .before .before .before .before .before .before .pre .rest, length-take (c .before .before .before .before .before .before .before .before .before .before .args .end) (c .before .before .before .before .before .before .before .before .before .before .args .area .now))) (c .before .has-form .ensures) (not-true _ (c .if1 .taken))
-
-sub-rest : tie.Need-sub-rest
-sub-rest c = search needs
-
-add-if2 : tie.Need-add-if2
-add-if2 c = search needs
+unfolding part
+returns c = λ front path m. recomposed-formless m (c .before .before .before .before .before .before .args .target .authority) (drop (c .before .before .before .before .before .before .args .target .path) (c .before .before .before .before .before .before .args .reference .now)) (length-drop (c .before .before .before .before .before .before .args .target .path) (c .before .before .before .before .before .before .args .reference .now)) (c .before .has-form .ensures) (not-true _ (c .if1 .taken))
 
 same-length-2 : tie.Need-same-length-2
 same-length-2 c = search needs
 
 returns-2 : tie.Need-returns-2
-unfolding mostNameBytes
-returns-2 c = recomposed-long (cleared {t = c .before .before .before .before .before .before .before .before .before .before .before .args .target} (c .before .before .before .before .before .before .before .before .before .before .before .pre .start) (omega (arith, c .before .before .before .before .before .before .before .before .before .before .before .pre .rest)) (c .before .before .before .before .before .before .before .remove-dot-segments .ensures)) (omega (arith, c .before .before .before .before .before .before .before .before .before .before .before .pre .rest, length-take (c .before .before .before .before .before .before .before .before .before .before .before .args .end) (c .before .before .before .before .before .before .before .before .before .before .before .args .area .now))) (c .before .before .has-form .ensures) (not-false _ (c .before .if1 .left)) (c .if2 .taken)
+unfolding part
+returns-2 c = λ front path m. recomposed-beyond m (c .before .before .before .before .before .before .before .before .args .target .authority) (drop (c .before .before .before .before .before .before .before .before .args .target .path) (c .before .before .before .before .before .before .before .before .args .reference .now)) (length-drop (c .before .before .before .before .before .before .before .before .args .target .path) (c .before .before .before .before .before .before .before .before .args .reference .now)) (c .before .before .before .has-form .ensures) (not-false _ (c .before .before .if1 .left)) (c .if2 .taken)
+
+sub-rest : tie.Need-sub-rest
+sub-rest c = search needs
+
+add-if3 : tie.Need-add-if3
+add-if3 c = search needs
+
+same-length-3 : tie.Need-same-length-3
+same-length-3 c = search needs
+
+returns-3 : tie.Need-returns-3
+unfolding part mostNameBytes
+returns-3 c = λ front path m. recomposed-long m (c .before .before .before .before .before .before .before .before .before .args .target .authority) (drop (c .before .before .before .before .before .before .before .before .before .args .target .path) (c .before .before .before .before .before .before .before .before .before .args .reference .now)) (length-drop (c .before .before .before .before .before .before .before .before .before .args .target .path) (c .before .before .before .before .before .before .before .before .before .args .reference .now)) (c .before .before .before .before .has-form .ensures) (not-false _ (c .before .before .before .if1 .left)) (c .before .if2 .left) (c .if3 .taken)
 
 sub-put : tie.Need-sub-put
 sub-put c = search needs
@@ -66,39 +59,36 @@ part-put-end c = search needs
 put-requires : tie.Need-put-requires
 put-requires c κs = search needs
 
-add-t9 : tie.Need-add-t9
-add-t9 c = search needs
+add-t11 : tie.Need-add-t11
+add-t11 c = search needs
 
-same-length-3 : tie.Need-same-length-3
-same-length-3 c = search needs
+same-length-4 : tie.Need-same-length-4
+same-length-4 c = search needs
 
-returns-3 : tie.Need-returns-3
-unfolding mostNameBytes
-returns-3 c = recomposed-whole (cleared {t = c .before .before .before .before .before .before .before .before .before .before .before .before .before .before .before .before .args .target} (c .before .before .before .before .before .before .before .before .before .before .before .before .before .before .before .before .pre .start) (omega (arith, c .before .before .before .before .before .before .before .before .before .before .before .before .before .before .before .before .pre .rest)) (c .before .before .before .before .before .before .before .before .before .before .before .before .remove-dot-segments .ensures)) (omega (arith, c .before .before .before .before .before .before .before .before .before .before .before .before .before .before .before .before .pre .rest, length-take (c .before .before .before .before .before .before .before .before .before .before .before .before .before .before .before .before .args .end) (c .before .before .before .before .before .before .before .before .before .before .before .before .before .before .before .before .args .area .now))) (c .before .before .before .before .before .before .before .has-form .ensures) (not-false _ (c .before .before .before .before .before .before .if1 .left)) (c .before .before .before .before .before .if2 .left) (c .before .before .put .ensures)
+returns-4 : tie.Need-returns-4
+unfolding part mostNameBytes
+returns-4 c = λ front path m. recomposed-whole m (c .before .before .before .before .before .before .before .before .before .before .before .before .before .before .args .target .authority) (drop (c .before .before .before .before .before .before .before .before .before .before .before .before .before .before .args .target .path) (c .before .before .before .before .before .before .before .before .before .before .before .before .before .before .args .reference .now)) (length-drop (c .before .before .before .before .before .before .before .before .before .before .before .before .before .before .args .target .path) (c .before .before .before .before .before .before .before .before .before .before .before .before .before .before .args .reference .now)) (c .before .before .before .before .before .before .before .before .before .has-form .ensures) (not-false _ (c .before .before .before .before .before .before .before .before .if1 .left)) (c .before .before .before .before .before .before .if2 .left) (c .before .before .before .before .before .if3 .left) (rw (rest-of (c .before .before .before .before .before .before .before .before .before .before .before .before .before .before .args .reference .now) _) at (c .before .before .put .ensures))
 
 pub recompose-spec : {M : Type 1} → statement M
 recompose-spec =
     tie.close
     (tie.spec
-    sub-remove-dot-segments
-    part-remove-dot-segments-start
-    part-remove-dot-segments-end
-    remove-dot-segments-requires
-    add-to
     sub-has-form
     part-has-form-start
     part-has-form-end
     has-form-requires
     same-length
     returns
-    sub-rest
-    add-if2
     same-length-2
     returns-2
+    sub-rest
+    add-if3
+    same-length-3
+    returns-3
     sub-put
     part-put-start
     part-put-end
     put-requires
-    add-t9
-    same-length-3
-    returns-3)
+    add-t11
+    same-length-4
+    returns-4)

@@ -19,7 +19,7 @@ value-of-requires : tie.Need-value-of-requires
 value-of-requires c κs = search needs
 
 resolved-id-requires : tie.Need-resolved-id-requires
-resolved-id-requires c κs = record { on = c .before .before .before .before .before .before .before .before .before .pre .on; from = omega (arith, ap length (c .before .value-of .ensures), value-most (c .before .before .before .before .before .before .before .before .before .args .scratch .now) (c .before .before .before .before .before .before .before .before .before .args .spans .now) (c .before .before .before .first-in .result), c .before .before .before .before .before .before .before .before .before .pre .event); room = c .before .before .before .before .before .before .before .before .before .pre .room }
+resolved-id-requires c κs = record { from = omega (arith, ap length (c .before .value-of .ensures), value-most (c .before .before .before .before .before .before .before .before .before .args .scratch .now) (c .before .before .before .before .before .before .before .before .before .args .spans .now) (c .before .before .before .first-in .result), c .before .before .before .before .before .before .before .before .before .pre .event); room = c .before .before .before .before .before .before .before .before .before .pre .room }
 
 same-length : tie.Need-same-length
 same-length c = search needs

@@ -1,8 +1,6 @@
 -- `start_references::resolve_in` meets its contract.
-use mathlib.Core.Path.{ap}
-use lib.ListN.{length}
 use Rattle.start_references.specs.Reference.{given}
-use Rattle.start_references.specs.Values.{value-most, some-value}
+use Rattle.start_references.specs.Values.{some-value}
 use Rattle.start_references.specs.References.{no-value, value-as}
 use native.Mathlib.Omega.{arith}
 use borrow.Author.Needs.{needs}
@@ -19,10 +17,10 @@ value-of-requires : tie.Need-value-of-requires
 value-of-requires c κs = search needs
 
 resolved-requires : tie.Need-resolved-requires
-resolved-requires c κs = record { on = c .before .before .before .before .before .before .before .before .before .pre .on; from = omega (arith, ap length (c .before .value-of .ensures), value-most (c .before .before .before .before .before .before .before .before .before .args .scratch .now) (c .before .before .before .before .before .before .before .before .before .args .spans .now) (c .before .before .before .first-in .result), c .before .before .before .before .before .before .before .before .before .pre .event); room = c .before .before .before .before .before .before .before .before .before .pre .room }
+resolved-requires c κs = record { room = c .before .before .before .before .before .before .before .before .before .pre .room }
 
 same-length : tie.Need-same-length
-same-length c = search needs
+same-length c = c .before .area .given
 
 returns-2 : tie.Need-returns-2
 returns-2 c = value-as (given (c .before .before .before .before .before .before .before .before .before .before .before .before .args .based) (c .before .before .before .before .before .before .before .before .before .before .before .before .args .base .now)) (some-value (c .before .before .before .before .before .before .before .before .before .before .before .before .args .scratch .now) (c .before .before .before .before .before .before .before .before .before .before .before .before .args .spans .now) (c .before .before .before .before .before .before .before .before .before .before .before .before .args .k) (c .before .before .before .before .before .before .first-in .ensures) (omega arith) (c .before .before .before .before .value-of .ensures)) (c .before .before .resolved .ensures)

@@ -1,7 +1,6 @@
 -- `start_references::resolve_references` meets its contract: the base is the value of the first xml:base, or what was found in force.
 use Rattle.start_references.specs.References.{freshBy, fiveAt, base-as}
-use Rattle.start_references.specs.Values.{bases-most, based}
-use native.Mathlib.Omega.{arith}
+use Rattle.start_references.specs.Values.{based}
 use borrow.Author.Needs.{needs}
 use Rattle.start_references.proofs.resolve_references.Statement.{statement}
 use Rattle.start_references.proofs.resolve_references.Tie as tie
@@ -16,7 +15,7 @@ base-of-requires : tie.Need-base-of-requires
 base-of-requires c κs = search needs
 
 resolve-on-requires : tie.Need-resolve-on-requires
-resolve-on-requires c κs = (record { event = c .before .before .before .before .before .before .before .before .before .before .before .before .pre .0 .event; on = bases-most (c .before .before .base-of .ensures) 65_536 (omega (arith, c .before .before .before .before .before .before .before .before .before .before .before .before .pre .0 .event)) (c .before .before .before .before .before .before .before .before .before .before .before .before .pre .0 .on); room = c .before .before .before .before .before .before .before .before .before .before .before .before .pre .0 .room }, c .before .before .before .before .before .before .before .before .before .before .before .before .pre .1)
+resolve-on-requires c κs = (record { event = c .before .before .before .before .before .before .before .before .before .before .before .before .pre .0 .event; room = c .before .before .before .before .before .before .before .before .before .before .before .before .pre .0 .room }, c .before .before .before .before .before .before .before .before .before .before .before .before .pre .1)
 
 same-length : tie.Need-same-length
 same-length c = c .before .area .given

@@ -1,5 +1,5 @@
 -- `resolve::path::through_last` meets its contract. The loop's invariant: there is no "/" from `n` on.
-use Rattle.resolve.specs.Turns.{Backwards, backwards-begins, backwards-stop, backwards-less, backwards-done}
+use Rattle.resolve.specs.Last.{Backwards, backwards-begins, backwards-stop, backwards-less, backwards-done}
 use native.Mathlib.Omega.{arith}
 use borrow.Author.Needs.{needs}
 use Rattle.resolve.proofs.path.through_last.Statement.{statement}

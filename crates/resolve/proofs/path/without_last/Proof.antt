@@ -1,5 +1,5 @@
 -- `resolve::path::without_last` meets its contract.
-use Rattle.resolve.specs.Turns.{without-none, without-some}
+use Rattle.resolve.specs.Last.{without-none, without-some}
 use borrow.Author.Needs.{needs}
 use Rattle.resolve.proofs.path.without_last.Statement.{statement}
 use Rattle.resolve.proofs.path.without_last.Tie as tie

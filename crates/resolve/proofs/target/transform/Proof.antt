@@ -21,11 +21,8 @@ returns-2 c = rw (fragment-at (c .before .before .before .before .before .before
 parse-requires-2 : tie.Need-parse-requires-2
 parse-requires-2 c κs = search needs
 
-add-t10 : tie.Need-add-t10
-add-t10 c = let g = c .before .before .before .before .before .before .before .before .before .before .before .before .good in let h = g .0 in let k = g .1 .0 in omega (arith, h, k, ordered-of (c .before .before .before .before .parse2 .ensures), ordered-of (c .before .before .before .before .before .before .before .before .before .parse .ensures))
-
 returns-3 : tie.Need-returns-3
-returns-3 c = rw (c .before .before .before .before .parse2 .ensures, c .before .before .before .before .before .before .before .before .before .parse .ensures) (aimed-authority (c .before .before .before .before .before .before .before .before .before .before .before .before .args .base .now) (c .before .before .before .before .before .before .before .before .before .before .before .before .args .reference .now) (rw (c .before .before .before .before .before .before .before .before .before .parse .ensures) at (c .before .before .before .before .before .before .before .if1 .left)) (rw (c .before .before .before .before .before .before .before .before .before .parse .ensures) at (c .before .before .if3 .taken)))
+returns-3 c = rw (c .before .before .parse2 .ensures, c .before .before .before .before .before .before .before .parse .ensures) (aimed-authority (c .before .before .before .before .before .before .before .before .before .before .args .base .now) (c .before .before .before .before .before .before .before .before .before .before .args .reference .now) (rw (c .before .before .before .before .before .before .before .parse .ensures) at (c .before .before .before .before .before .if1 .left)) (rw (c .before .before .before .before .before .before .before .parse .ensures) at (c .if3 .taken)))
 
 returns-4 : tie.Need-returns-4
 returns-4 c = rw (c .before .before .before .before .before .parse2 .ensures) (aimed-query (c .before .before .before .before .before .before .before .before .before .before .before .before .before .args .base .now) (c .before .before .before .before .before .before .before .before .before .before .before .before .before .args .reference .now) (omega (arith, rw (c .before .before .before .before .before .before .before .before .before .before .parse .ensures) at (c .if4 .taken))) (omega (arith, rw (c .before .before .before .before .before .before .before .before .before .before .parse .ensures) at (c .before .before .before .before .before .before .if2 .left))))
@@ -51,7 +48,6 @@ transform-spec =
     find-requires
     returns-2
     parse-requires-2
-    add-t10
     returns-3
     returns-4
     shared-slice-read-if5

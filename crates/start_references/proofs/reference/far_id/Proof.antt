@@ -25,7 +25,7 @@ slice-aggregate-resolved : tie.Need-slice-aggregate-resolved
 slice-aggregate-resolved c = omega (arith, length-take (length (c .before .before .before .before .before .before .before .args .value .now) + 1) (c .before .before .put .last .0))
 
 resolved-requires : tie.Need-resolved-requires
-resolved-requires c κs = record { on = c .before .before .before .before .before .before .before .before .pre .on; from = omega (arith, c .before .before .before .before .before .before .before .before .pre .from, length-take (length (c .before .before .before .before .before .before .before .before .args .value .now) + 1) (c .before .before .before .put .last .0)); room = c .before .before .before .before .before .before .before .before .pre .room }
+resolved-requires c κs = record { room = c .before .before .before .before .before .before .before .before .pre .room }
 
 same-length : tie.Need-same-length
 same-length c = c .before .area .given

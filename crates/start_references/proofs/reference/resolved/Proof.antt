@@ -1,7 +1,6 @@
 -- `start_references::reference::resolved` meets its contract.
 use mathlib.Core.Path.{sym, _∙_}
 use borrow.Author.Tests.{not-true, not-false}
-use Rattle.spec.specs.Limits.{mostNameBytes}
 use Rattle.start_references.specs.Reference.{no-reference, without-base, on-base}
 use borrow.Author.Needs.{needs}
 use Rattle.start_references.proofs.reference.resolved.Statement.{statement}
@@ -22,24 +21,14 @@ is-iri-reference-requires c κs = search needs
 returns-2 : tie.Need-returns-2
 returns-2 c = on-base (c .before .before .before .before .before .before .args .base .now) (c .before .before .before .before .before .before .args .reference .now) (not-false _ (c .before .before .if1 .left)) (no-reference (c .before .before .before .before .before .before .args .reference .now) (c .before .before .before .before .before .before .args .base .now) (sym (c .before .is-iri-reference .ensures) ∙ not-true _ (c .if2 .taken)))
 
-near-requires : tie.Need-near-requires
-unfolding mostNameBytes
-near-requires c κs = (c .before .before .before .before .before .before .before .before .pre, c .before .if3 .taken, sym (c .before .before .before .is-iri-reference .ensures) ∙ not-false _ (c .before .before .if2 .left))
+on-base-requires : tie.Need-on-base-requires
+on-base-requires c κs = (c .before .before .before .before .before .before .before .pre, sym (c .before .before .is-iri-reference .ensures) ∙ not-false _ (c .before .if2 .left))
 
 same-length-2 : tie.Need-same-length-2
 same-length-2 c = c .before .area2 .given
 
 returns-3 : tie.Need-returns-3
-returns-3 c = on-base (c .before .before .before .before .before .before .before .before .before .before .before .args .base .now) (c .before .before .before .before .before .before .before .before .before .before .before .args .reference .now) (not-false _ (c .before .before .before .before .before .before .before .if1 .left)) (c .before .before .near .ensures)
-
-far-requires : tie.Need-far-requires
-far-requires c κs = (c .before .before .before .before .before .before .before .before .pre, sym (c .before .before .before .is-iri-reference .ensures) ∙ not-false _ (c .before .before .if2 .left))
-
-same-length-3 : tie.Need-same-length-3
-same-length-3 c = c .before .area3 .given
-
-returns-4 : tie.Need-returns-4
-returns-4 c = on-base (c .before .before .before .before .before .before .before .before .before .before .before .args .base .now) (c .before .before .before .before .before .before .before .before .before .before .before .args .reference .now) (not-false _ (c .before .before .before .before .before .before .before .if1 .left)) (c .before .before .far .ensures)
+returns-3 c = on-base (c .before .before .before .before .before .before .before .before .before .before .args .base .now) (c .before .before .before .before .before .before .before .before .before .before .args .reference .now) (not-false _ (c .before .before .before .before .before .before .if1 .left)) (c .before .before .on-base .ensures)
 
 pub resolved-spec : {M : Type 1} → statement M
 resolved-spec =
@@ -50,9 +39,6 @@ resolved-spec =
     returns
     is-iri-reference-requires
     returns-2
-    near-requires
+    on-base-requires
     same-length-2
-    returns-3
-    far-requires
-    same-length-3
-    returns-4)
+    returns-3)
