@@ -1,5 +1,6 @@
 // A stream of PYX bytes from a descriptor to lines on standard output, as they come: a document, up to its end, its refusal, or the first write or
 // read that fails. How it ended is handed back, and each program tells it in its own way.
+#![tactic(auto)]
 ghost use Rattle.std.specs.Prelude.{◌+◌, ◌≤◌, ◌<◌, ◌≡◌, length};
 ghost use Rattle.event.specs.Progress.{lent, doc_in};
 ghost use Rattle.reader.specs.Asked.{Roomy, Areas};
@@ -19,7 +20,7 @@ use streams::{Got, Printed};
 
 // Where the program stands: which descriptor it reads, what is behind the events so far, the number of the next one, how many
 // bytes of lines standard output took, which bytes of the input are at hand, and whether no more follow.
-#[derive(Drop)]
+#[derive(Clone, Copy)]
 struct Place {
     source: i32,
     registers: Registers,
@@ -33,7 +34,7 @@ struct Place {
 }
 
 // Where the program goes on; or it is over.
-#[derive(Drop)]
+#[derive(Clone, Copy)]
 enum Next {
     On(Place),
     Over(Outcome),
@@ -41,7 +42,7 @@ enum Next {
 
 // How a document ends; and the event, the next behind those that are whole, and how many bytes of lines standard
 // output took.
-#[derive(Drop)]
+#[derive(Clone, Copy)]
 pub struct Outcome {
     pub how: How,
     pub event: usize,
@@ -50,7 +51,7 @@ pub struct Outcome {
 
 // With the document, at the number of its refusal, 0 for none; at a write that failed; at a read that failed; or before any
 // event, at the number by which its start was refused.
-#[derive(Drop)]
+#[derive(Clone, Copy)]
 pub enum How {
     Done(u8),
     Unwritten,

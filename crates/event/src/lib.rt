@@ -1,4 +1,5 @@
 // What the handler of an event answers, and where an event stands.
+#![tactic(auto)]
 ghost use Rattle.std.specs.Prelude.{◌≡◌};
 ghost use Rattle.event.specs.Place.{place_at, place_of};
 
@@ -7,21 +8,21 @@ use state::Registers;
 use state_words::{Frame, Kind};
 
 // Of an accepted event: how many bytes its lines have, and the registers behind it.
-#[derive(Drop)]
+#[derive(Clone, Copy)]
 pub struct Done {
     pub written: usize,
     pub registers: Registers,
 }
 
 // An event is refused, and nothing lent has changed; or it is done.
-#[derive(Drop)]
+#[derive(Clone, Copy)]
 pub enum Outcome {
     Stop(Refusal),
     Did(Done),
 }
 
 // Of an accepted event that may have entered an rdf:ID: besides, the two numbers of the table of rdf:IDs.
-#[derive(Drop)]
+#[derive(Clone, Copy)]
 pub struct Advance {
     pub written: usize,
     pub registers: Registers,
@@ -29,14 +30,14 @@ pub struct Advance {
     pub used: usize,
 }
 
-#[derive(Drop)]
+#[derive(Clone, Copy)]
 pub enum Progress {
     Stop(Refusal),
     Did(Advance),
 }
 
 // What may stand where an event stands.
-#[derive(Drop)]
+#[derive(Clone, Copy)]
 pub enum Place {
     Outside,
     Nodes,

@@ -6,7 +6,7 @@ use spec::Mode;
 
 // What the arguments say so far: that the input is PYX, and that it is XMP packets; which of them is the base and which the
 // first file, 0 for none; and whether the next one is to be the base.
-#[derive(Drop)]
+#[derive(Clone, Copy)]
 pub struct Chosen {
     pub pyx: bool,
     pub xmp: bool,
@@ -16,7 +16,7 @@ pub struct Chosen {
 }
 
 // Behind an argument: what is said now; or it is wrong where it stands.
-#[derive(Drop)]
+#[derive(Clone, Copy)]
 pub enum Looked {
     On(Chosen),
     Wrong,

@@ -1,5 +1,6 @@
 // IRIs and references to them, checked against the grammar of RFC 3987. Each component ends at the first delimiter that cannot stand in
 // it, so a text is cut there and each piece is checked by itself.
+#![tactic(auto)]
 ghost use Rattle.std.specs.Prelude.{◌≡◌, true, ◌&&◌, [], ◌∷◌, length};
 ghost use Rattle.spec.specs.Bytes.{among, between};
 ghost use Rattle.spec.specs.Abnf.{lower, some};
@@ -11,7 +12,7 @@ ghost use Rattle.iri.specs.Addresses.{Counted, up_to_gap, octet};
 use utils::Decoded;
 
 // A part that is a row of characters, each from the same set.
-#[derive(Drop)]
+#[derive(Clone, Copy)]
 enum Part {
     Scheme,
     Port,

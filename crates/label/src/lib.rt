@@ -1,4 +1,5 @@
 // Generated blank node labels, and numbers in decimal digits: the end of parser.rs.
+#![tactic(auto)]
 ghost use Rattle.std.specs.Prelude.{◌≡◌, length};
 ghost use Rattle.spec.specs.Bytes.{byte, every, between};
 ghost use Rattle.spec.specs.NTriples.{digits};
@@ -7,19 +8,19 @@ ghost use Rattle.label.specs.Label.{Generates};
 ghost use Rattle.label.specs.Digits.{Decimals};
 
 // A label: `riog` and eight digits.
-#[derive(Drop)]
+#[derive(Clone, Copy)]
 pub struct BlankNodeId {
     pub id: [u8; 12],
 }
 
 // How many labels were generated so far.
-#[derive(Drop)]
+#[derive(Clone, Copy)]
 pub struct BlankNodeIdGenerator {
     pub counter: u64,
 }
 
 // A generator's answer: where no label is left `ok` is false, the generator is as it was, and the id is no label of a node.
-#[derive(Drop)]
+#[derive(Clone, Copy)]
 pub struct Generated {
     pub ok: bool,
     pub generator: BlankNodeIdGenerator,
@@ -27,7 +28,7 @@ pub struct Generated {
 }
 
 // A number's twenty decimal digits, and where those without leading zeros begin.
-#[derive(Drop)]
+#[derive(Clone, Copy)]
 pub struct Decimal {
     pub digits: [u8; 20],
     pub from: usize,

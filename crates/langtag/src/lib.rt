@@ -1,4 +1,5 @@
 // Language tags: well-formed by RFC 5646, section 2.1, or not; and their letters in lower case.
+#![tactic(auto)]
 ghost use Rattle.std.specs.Prelude.{◌≡◌, map};
 ghost use Rattle.spec.specs.Bytes.{if◌then◌else◌, same, member};
 ghost use Rattle.spec.specs.Abnf.{lower};
@@ -10,7 +11,7 @@ use spec::Verdict;
 
 // What a subtag can serve as, by its length and its bytes: letters and digits are counted, `Variant` is no row of letters,
 // `Other` serves in extensions and private use alone, and `Bad` nowhere.
-#[derive(Drop)]
+#[derive(Clone, Copy)]
 enum Kind {
     X,
     Singleton,
@@ -26,7 +27,7 @@ enum Kind {
 
 // Where in the grammar a tag has come to, by its last subtag. After `Language3` up to three extlangs may follow, after
 // `Region` variants; `Singleton` and `X` lack a subtag yet.
-#[derive(Drop)]
+#[derive(Clone, Copy)]
 enum Place {
     Start,
     Language3,
@@ -44,7 +45,7 @@ enum Place {
 
 // The subtag that is being read: its length (9 for any more), whether all of its bytes are letters, digits, either or `x`,
 // and whether it begins with a digit.
-#[derive(Drop)]
+#[derive(Clone, Copy)]
 struct Subtag {
     length: u8,
     letters: bool,
@@ -55,7 +56,7 @@ struct Subtag {
 }
 
 // A tag that has been read up to some byte: the subtags before lead to `place`.
-#[derive(Drop)]
+#[derive(Clone, Copy)]
 struct Reader {
     place: Place,
     subtag: Subtag,

@@ -1,4 +1,5 @@
 // Events inside Literal content: their XML text is made in a lent area, and then added to the Literal property around.
+#![tactic(auto)]
 ghost use Rattle.std.specs.Prelude.{◌≡◌, true, ◌+◌, ◌<◌, ◌≤◌, leb, length, take};
 ghost use Rattle.spec.specs.Limits.{most_held_bytes};
 ghost use Rattle.spec.specs.Pyx.{text, closing, opening};
@@ -25,7 +26,7 @@ use state::Registers;
 use state_words::{Frame, Kind, Row};
 
 // What a start tag comes to, before anything changes.
-#[derive(Drop)]
+#[derive(Clone, Copy)]
 enum Judged {
     Stop(Refusal),
     Go,

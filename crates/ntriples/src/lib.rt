@@ -1,5 +1,6 @@
 // N-Triples lines, counted always and stored where `on`: crate writer says how.
 // A term is a kind and its bytes; an IRI or a text comes in two parts, since a namespace and a local name need not lie together.
+#![tactic(auto)]
 ghost use Rattle.std.specs.Prelude.{◌≡◌, ◌++◌};
 ghost use Rattle.std.proofs.Math.Option.{some};
 ghost use Rattle.spec.specs.NTriples.{blank, tagged, typed, triple, write_iri, write_subject, quoted, write_term, line, write};
@@ -8,14 +9,14 @@ ghost use Rattle.writer.specs.Put.{Put};
 ghost use Rattle.ntriples.specs.Terms.{node_for, subject_of, term_of, as_term, in_rdf, property_of, cell_of};
 
 // What a subject is: its IRI or its label stands beside it.
-#[derive(Drop)]
+#[derive(Clone, Copy)]
 pub enum Node {
     Named,
     Blank,
 }
 
 // What an object is: its IRI, label or text stands beside it, and so does the tag or the datatype of a text.
-#[derive(Drop)]
+#[derive(Clone, Copy)]
 pub enum Term {
     Named,
     Blank,

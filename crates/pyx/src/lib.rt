@@ -1,4 +1,5 @@
 // Where events come in: the first event of the input, and its lines decoded.
+#![tactic(auto)]
 ghost use Rattle.std.specs.Prelude.{◌≡◌, true, false, ◌+◌, ◌*◌, ◌<◌, ◌≤◌, length, take, drop, get_or, eqb};
 ghost use Rattle.spec.specs.Bytes.{up_to};
 ghost use Rattle.spec.specs.PyxCut.{goes_on, may_go_on};
@@ -13,7 +14,7 @@ ghost use Rattle.pyx.specs.Attributes.{Reads, Behind, Lays, Small, row};
 ghost use Rattle.pyx.specs.Decode.{Says, Decodes, Fits};
 
 // What the rest of the input begins with: no complete event yet, a last line that is unended, an event that is too long, or an event of so many bytes.
-#[derive(Drop)]
+#[derive(Clone, Copy)]
 pub enum First {
     Wait,
     Unended,
@@ -23,7 +24,7 @@ pub enum First {
 
 // An event, its texts in the scratch: how many bytes its text or name has; of a start tag also the place of the colon in
 // its name plus 1, or 0, and how many attributes it has. `Crowded` is a start tag with more attributes than the spans have places for.
-#[derive(Drop)]
+#[derive(Clone, Copy)]
 pub enum Event {
     Malformed,
     NoScratch,
@@ -35,7 +36,7 @@ pub enum Event {
 }
 
 // An event with a line that begins with a space, one that is no text or has no line, or how long its first line is.
-#[derive(Drop)]
+#[derive(Clone, Copy)]
 enum FirstLine {
     Spaced,
     Wrong,
@@ -43,35 +44,35 @@ enum FirstLine {
 }
 
 // No name, or a name with the place of its colon plus 1, or 0.
-#[derive(Drop)]
+#[derive(Clone, Copy)]
 enum Colon {
     NotName,
     At(usize),
 }
 
 // What an escaped text begins with: a wrong backslash, or what stands for a byte, and how many bytes do.
-#[derive(Drop)]
+#[derive(Clone, Copy)]
 enum Next {
     Wrong,
     Byte(u8, usize),
 }
 
 // A wrong backslash, or where the decoded text ends.
-#[derive(Drop)]
+#[derive(Clone, Copy)]
 enum Unescaped {
     Wrong,
     Upto(usize),
 }
 
 // No attribute line, or one: the length of its name, the place of the colon in it plus 1 or 0, and the length of its value.
-#[derive(Drop)]
+#[derive(Clone, Copy)]
 enum Line {
     Wrong,
     Held(usize, usize, usize),
 }
 
 // A line that is no attribute line, or how many attributes there are.
-#[derive(Drop)]
+#[derive(Clone, Copy)]
 enum Tag {
     Wrong,
     Held(usize),

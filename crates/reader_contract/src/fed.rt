@@ -7,7 +7,7 @@ use spec::Refusal;
 use state::Registers;
 
 // Why no further event was done: the output is too full to give it its room, or it is refused.
-#[derive(Drop)]
+#[derive(Clone, Copy)]
 pub enum Pause {
     Full,
     Stop(Refusal),

@@ -1,4 +1,5 @@
 // What goes into a call and comes back from it: the state by value, the answer, the counts. What the three calls promise is said of these.
+#![tactic(auto)]
 ghost use Rattle.std.specs.Prelude.{◌≡◌};
 ghost use Rattle.spec.specs.Numbers.{number, closes};
 ghost use Rattle.reader_contract.specs.Meaning.{closed_state, marked, over_in, Fresh, Nothing};
@@ -23,7 +24,7 @@ pub struct State {
 }
 
 // A call is done, or refused.
-#[derive(Drop)]
+#[derive(Clone, Copy)]
 pub enum Answer {
     Done,
     Refused(Refusal),

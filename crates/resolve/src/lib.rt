@@ -1,4 +1,5 @@
 // RFC 3986, section 5.2: a reference resolved on a base, into a lent area. Every call answers on any bytes: whether they are IRIs is asked elsewhere.
+#![tactic(auto)]
 ghost use Rattle.std.specs.Prelude.{◌≡◌, ◌-◌, ◌≤◌, leb, length, drop};
 ghost use Rattle.spec.specs.Bytes.{Bytes};
 ghost use Rattle.spec.specs.Rfc3986.{remove_dot_segments};
@@ -14,7 +15,7 @@ use path::Output;
 use target::Target;
 
 // What became of a reference.
-#[derive(Drop)]
+#[derive(Clone, Copy)]
 pub enum Resolved {
     // It stands at the front of the area and has this many bytes.
     Length(usize),

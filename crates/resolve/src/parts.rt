@@ -4,7 +4,7 @@ ghost use Rattle.spec.specs.Bytes.{up_to, among};
 ghost use Rattle.resolve.specs.Parts.{parts_of, scheme_text, marked_text};
 
 // The ends of scheme, authority, path and query, each with its marks: `scheme:`, `//authority`, path, `?query`. What is left is `#fragment`.
-#[derive(Drop)]
+#[derive(Clone, Copy)]
 pub struct Parts {
     pub scheme: usize,
     pub authority: usize,

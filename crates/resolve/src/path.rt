@@ -10,7 +10,7 @@ ghost use Rattle.resolve.specs.Output.{Counts, Grown, Grows, Simple, passed, sla
 
 // The output buffer of the section: what stands in a lent area from some place on up to `end`, and behind it `beyond` segments that did not fit
 // and stand nowhere.
-#[derive(Drop)]
+#[derive(Clone, Copy)]
 pub struct Output {
     pub end: usize,
     pub beyond: usize,

@@ -8,7 +8,7 @@ use crate::{parts, path};
 
 // Before its path stand `front` bytes of the base and `own` of the reference. Its path, with dot segments, is the reference's from there up to
 // `path`; where it is merged, the base's from `front` up to `lead` and a "/" come before that. Behind it comes the rest of the reference.
-#[derive(Drop)]
+#[derive(Clone, Copy)]
 pub struct Target {
     pub front: usize,
     pub own: usize,
@@ -19,7 +19,7 @@ pub struct Target {
 }
 
 // What a base gives of its path when another is merged with it: what stands before its last "/", if it has one.
-#[derive(Drop)]
+#[derive(Clone, Copy)]
 struct Lead {
     merged: bool,
     end: usize,

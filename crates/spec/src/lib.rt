@@ -1,10 +1,11 @@
 // Documents 01 and 02 as definitions (specs/), with a few laws of bytes and Booleans (proofs/); here, what code and definitions share:
 // the refusals, what a language tag can be, and what is chosen of a document at its start.
+#![tactic(auto)]
 ghost use Rattle.std.specs.Prelude.{◌≡◌};
 ghost use Rattle.spec.specs.Modes.{base_mode, xmp_mode};
 
 // Why a call was refused: document 01, "Numbers returned", 1 to 18 in this order; 19 of document 02.
-#[derive(Drop)]
+#[derive(Clone, Copy)]
 pub enum Refusal {
     Incomplete,
     NoRoom,
@@ -28,7 +29,7 @@ pub enum Refusal {
 }
 
 // What a value of xml:lang is: a language tag, empty, by which no language is in force, or neither. Document 02, request 2.
-#[derive(Drop)]
+#[derive(Clone, Copy)]
 pub enum Verdict {
     Good,
     Clears,
@@ -36,7 +37,7 @@ pub enum Verdict {
 }
 
 // What is chosen of a document at its start. One field for each choice; they do not depend on each other.
-#[derive(Drop)]
+#[derive(Clone, Copy)]
 pub struct Mode {
     // Request 1: only an XMP packet is read, and not any RDF.
     pub xmp: bool,

@@ -9,7 +9,7 @@ use crate::vocabulary::RdfTerm;
 use spec::{Refusal, Verdict};
 
 // What an attribute is there for, by its name.
-#[derive(Drop)]
+#[derive(Clone, Copy)]
 pub enum Role {
     Nothing,
     XmlLang,
@@ -27,7 +27,7 @@ pub enum Role {
 }
 
 // Nothing is wrong, or what is.
-#[derive(Drop)]
+#[derive(Clone, Copy)]
 pub enum Judgment {
     Good,
     Stop(Refusal),

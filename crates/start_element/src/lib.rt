@@ -1,4 +1,5 @@
 // A start tag outside Literal content that was judged good: its element measured, and committed to the stores.
+#![tactic(auto)]
 ghost use Rattle.std.specs.Prelude.{◌≡◌, ◌+◌, ◌-◌, ◌*◌, ◌≤◌, ◌<◌, length};
 ghost use Rattle.spec.specs.Bytes.{total};
 ghost use Rattle.spec.specs.Limits.{most_attributes, most_bindings};
@@ -18,7 +19,7 @@ use state::language::Own;
 use state_words::{Frame, Kind};
 
 // Where a part of a new element is: missing, in the decoded event, or in the area of what was made for it; start and length.
-#[derive(Drop)]
+#[derive(Clone, Copy)]
 pub enum Source {
     Missing,
     Own(usize, usize),
@@ -27,7 +28,7 @@ pub enum Source {
 
 // The parts of a new element. `base` is its own xml:base, and `tag` what it says of its language; `main` is a node's subject, `blank` says
 // whether it is a label, or a property's IRI; `what` is the object's kind: 0 none, 1 a named node, 2 a blank one.
-#[derive(Drop)]
+#[derive(Clone, Copy)]
 pub struct Parts {
     pub kind: Kind,
     pub blank: bool,
@@ -41,7 +42,7 @@ pub struct Parts {
 }
 
 // Where the next binding goes: its bytes, and its row.
-#[derive(Drop)]
+#[derive(Clone, Copy)]
 pub struct Next {
     pub at: usize,
     pub row: usize,

@@ -1,4 +1,5 @@
 // Start tags outside Literal content.
+#![tactic(auto)]
 ghost use Rattle.std.specs.Prelude.{◌≡◌, ◌&&◌, ◌≤◌, eqb, length};
 ghost use Rattle.start_form.specs.Form.{Asked, Checks, Faults};
 
@@ -11,7 +12,7 @@ use state::Registers;
 use state_words::{Frame, Row};
 
 // Is a start tag well-formed where it stands, and do the counts fit?
-#[derive(Drop)]
+#[derive(Clone, Copy)]
 pub enum Form {
     Stop(Refusal),
     Good,

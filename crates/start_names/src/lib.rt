@@ -1,4 +1,5 @@
 // Namespaces of a start tag: its declarations, the namespaces of its names, and its repeated attributes.
+#![tactic(auto)]
 ghost use Rattle.std.specs.Prelude.{◌≡◌, true, [], ◌++◌, ◌+◌, ◌*◌, ◌<◌, ◌≤◌, length};
 ghost use Rattle.spec.specs.Bytes.{ascii, after, same};
 ghost use Rattle.spec.specs.Pyx.{attribute};
@@ -22,7 +23,7 @@ pub const XML: [u8; 36] = *b"http://www.w3.org/XML/1998/namespace";
 pub const XMLNS: [u8; 29] = *b"http://www.w3.org/2000/xmlns/";
 
 // Where the namespace of a prefix was found: a part of the tag's decoded bytes, or of the work store, where it starts and how long it is.
-#[derive(Drop)]
+#[derive(Clone, Copy)]
 pub enum Found {
     Unknown,
     Xml,
@@ -31,7 +32,7 @@ pub enum Found {
 }
 
 // What is known of an attribute's name: it declares a namespace, its prefix is unknown, it has none, or where its namespace was found.
-#[derive(Drop)]
+#[derive(Clone, Copy)]
 pub enum Class {
     Declaration,
     Unknown,
@@ -42,7 +43,7 @@ pub enum Class {
 }
 
 // A class as numbers.
-#[derive(Drop)]
+#[derive(Clone, Copy)]
 struct ClassWords {
     what: usize,
     at: usize,

@@ -1,4 +1,5 @@
 // The references of a start tag, resolved on the base that holds for it: refusals 11 and 12.
+#![tactic(auto)]
 ghost use Rattle.std.specs.Prelude.{◌≡◌};
 ghost use Rattle.spec.specs.StartTag.{resolved, with_hash, rdf-ID};
 ghost use Rattle.state_inner.specs.Calls.{base_in};
@@ -19,13 +20,13 @@ use state_ids::IdTable;
 use state_stack::Found;
 
 // The references of a tag, resolved: rdf:ID, and rdf:about, rdf:resource, rdf:datatype, rdf:type.
-#[derive(Drop)]
+#[derive(Clone, Copy)]
 pub struct References {
     pub id: Reference,
     pub others: Others,
 }
 
-#[derive(Drop)]
+#[derive(Clone, Copy)]
 pub struct Others {
     pub about: Reference,
     pub resource: Reference,
@@ -33,7 +34,7 @@ pub struct Others {
     pub kind: Reference,
 }
 
-#[derive(Drop)]
+#[derive(Clone, Copy)]
 pub enum Resolutions {
     Stop(Refusal),
     Good(References),

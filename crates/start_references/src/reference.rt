@@ -10,11 +10,11 @@ use resolve::Resolved;
 use state::Registers;
 
 // What is made for an event stands in one lent area, each thing at its place. Resolving takes a few bytes more, so later places are written later.
-#[derive(Drop)]
+#[derive(Clone, Copy)]
 pub struct Area {}
 
 // A reference, resolved: missing; no IRI comes of it; longer than an IRI may be; or in the area, of this many bytes.
-#[derive(Drop)]
+#[derive(Clone, Copy)]
 pub enum Reference {
     Missing,
     Bad,

@@ -1,4 +1,5 @@
 // What a start tag outside Literal content is: RDF 1.1 XML Syntax, section 7, by its element's IRI and by which attributes it has.
+#![tactic(auto)]
 ghost use Rattle.std.specs.Prelude.{◌≡◌, ◌&&◌, not, ◌++◌, ◌+◌, ◌<◌, ◌≤◌, ltb, length};
 ghost use Rattle.spec.specs.Bytes.{same};
 ghost use Rattle.spec.specs.Limits.{most_labels};
@@ -19,7 +20,7 @@ use start_attributes::vocabulary;
 use start_attributes::vocabulary::RdfTerm;
 
 // What rdf:parseType says.
-#[derive(Drop)]
+#[derive(Clone, Copy)]
 pub enum ParseType {
     Absent,
     Collection,

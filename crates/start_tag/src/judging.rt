@@ -24,14 +24,14 @@ use state::Registers;
 use state_words::{Frame, Kind};
 
 // A start tag is refused, or carried out so.
-#[derive(Drop)]
+#[derive(Clone, Copy)]
 pub enum Verdict {
     Stop(Refusal),
     Go(Start),
 }
 
 // What a start tag opens.
-#[derive(Drop)]
+#[derive(Clone, Copy)]
 enum Opens {
     Rdf,
     Node,

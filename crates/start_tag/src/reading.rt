@@ -25,7 +25,7 @@ use state::language::Own;
 use state_ids::IdTable;
 
 // What a tag says. Some attributes are told by their places, which are k where there is none; what is made stands in the area.
-#[derive(Drop)]
+#[derive(Clone, Copy)]
 pub struct Tag {
     // The expanded name.
     pub iri: Reference,
@@ -48,7 +48,7 @@ pub struct Tag {
 }
 
 // A tag is refused, opens the wrapper of a packet, whose attributes are ignored, or says this.
-#[derive(Drop)]
+#[derive(Clone, Copy)]
 pub enum Read {
     Stop(Refusal),
     Wrapper,

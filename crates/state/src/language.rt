@@ -4,7 +4,7 @@ ghost use Rattle.std.specs.Prelude.{◌≡◌};
 ghost use Rattle.state.specs.Language.{mark_of, is_said, tag_of_own, tag_of_language, tag_in_force};
 
 // What an element says: nothing, that no language is in force in it, or this tag, in what was made of its start tag: start and length.
-#[derive(Drop)]
+#[derive(Clone, Copy)]
 pub enum Own {
     Unsaid,
     Cleared,
@@ -12,7 +12,7 @@ pub enum Own {
 }
 
 // What is in force: none, or this tag, in the work store.
-#[derive(Drop)]
+#[derive(Clone, Copy)]
 pub enum Language {
     None,
     Tag(usize, usize),

@@ -1,5 +1,6 @@
 // What is kept of a document between events: registers by value, tables of words and the work store lent. specs/Meaning.antt says what
 // they mean, specs/Valid.antt when they mean something.
+#![tactic(auto)]
 ghost use Rattle.std.specs.Prelude.{◌≡◌, ◌+◌, ◌-◌, ◌*◌, ◌≤◌, ◌<◌, true, eqb, length};
 ghost use Rattle.state_words.specs.Parts.{TAIL, END, FRAME};
 ghost use Rattle.state_words.specs.Words.{pick};
@@ -15,7 +16,7 @@ use spec::Mode;
 use state_words::{Frame, Kind, Row};
 
 // The numbers of a document, in groups: one more number touches the literals of its own group.
-#[derive(Drop)]
+#[derive(Clone, Copy)]
 pub struct Registers {
     // What was chosen of the document at its start.
     pub mode: Mode,
@@ -25,7 +26,7 @@ pub struct Registers {
 }
 
 // No call goes on from a closed document; there was a root; there is a start base.
-#[derive(Drop)]
+#[derive(Clone, Copy)]
 pub struct Flags {
     pub closed: bool,
     pub rooted: bool,
@@ -34,7 +35,7 @@ pub struct Flags {
 
 // The work store is used up to `top`, the start base first, which has `base` bytes; and from `low` on. `noted` of these bytes are no held
 // ones: what a packet remembers counts for no limit.
-#[derive(Drop)]
+#[derive(Clone, Copy)]
 pub struct Store {
     pub base: usize,
     pub top: usize,
@@ -43,7 +44,7 @@ pub struct Store {
 }
 
 // Open elements outside Literal content, `depth`, and inside, `inner`; bindings that the former declare, `outer`, and all; labels generated.
-#[derive(Drop)]
+#[derive(Clone, Copy)]
 pub struct Counts {
     pub depth: usize,
     pub inner: usize,

@@ -1,4 +1,5 @@
 // The rdf:IDs that accepted events have used, as spans of a lent store. A type of its own: it knows nothing of the rest of the reader's state.
+#![tactic(auto)]
 ghost use Rattle.std.specs.Prelude.{◌≡◌, ◌+◌, ◌≤◌, length};
 ghost use Rattle.spec.specs.Bytes.{same};
 ghost use Rattle.copy.specs.Copy.{part};
@@ -19,7 +20,7 @@ pub struct IdTable {
 }
 
 // What `add` answers: whether the ID was entered, and the table's two numbers behind it.
-#[derive(Drop)]
+#[derive(Clone, Copy)]
 pub struct Added {
     pub ok: bool,
     pub count: usize,

@@ -1,5 +1,6 @@
 // The open elements of a document as a stack: what an event may do at its top. Every call answers on every input; what it did to a
 // valid state is said by the laws of specs/.
+#![tactic(auto)]
 ghost use Rattle.std.specs.Prelude.{◌≡◌, ◌+◌, ◌-◌, ◌*◌, ◌≤◌, ◌<◌, length};
 ghost use Rattle.state_stack.specs.Change.{topped_to, labelled_to};
 ghost use Rattle.state_stack.specs.Calls.{frame_of, Pushes, Pops, Binds, top_frame, same_kind, Texts, Xmls, CountsLi, Tails};
@@ -13,14 +14,14 @@ use state::{Counts, Flags, Registers, Store};
 use state_words::{Frame, Kind, Row};
 
 // What a change answers. Where it cannot be made `ok` is false, and nothing changed.
-#[derive(Drop)]
+#[derive(Clone, Copy)]
 pub struct Changed {
     pub ok: bool,
     pub registers: Registers,
 }
 
 // Bytes of the work store, if they are there.
-#[derive(Drop)]
+#[derive(Clone, Copy)]
 pub struct Found {
     pub there: bool,
     pub at: usize,

@@ -13,7 +13,7 @@ use state_words::{Frame, Kind};
 const MOST_CHILDREN: u32 = Registers::STORE as u32;
 
 // A child of a Collection in the work store.
-#[derive(Drop)]
+#[derive(Clone, Copy)]
 pub struct Child {
     pub at: usize,
     pub len: usize,

@@ -1,11 +1,12 @@
 // What is kept of a document between events, as numbers: the records of its tables, and how they stand in lent words.
+#![tactic(auto)]
 ghost use Rattle.std.specs.Prelude.{◌≡◌};
 ghost use Rattle.state_words.specs.Words.{kind_of, kind_number, load_frame, StoredFrame, no_frame, load_row, StoredRow};
 
 use copy::words;
 
 // What an open element outside Literal content is: the states of the Rust's parser, and the wrapper of document 02.
-#[derive(Drop)]
+#[derive(Clone, Copy)]
 pub enum Kind {
     Rdf,
     NodeElt,
@@ -28,7 +29,7 @@ pub struct Frame {
 
 // A row of a table with three words a row. Of a binding: where its prefix starts, its length, the namespace's length.
 // Of an element inside Literal content: where it starts, its name's length, its first binding.
-#[derive(Drop)]
+#[derive(Clone, Copy)]
 pub struct Row {
     pub at: u32,
     pub name: u32,

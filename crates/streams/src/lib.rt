@@ -1,5 +1,6 @@
 // The input and the standard output of a program: what a call answered, tried again where nothing could be moved yet, told
 // where it failed.
+#![tactic(auto)]
 ghost use Rattle.std.specs.Prelude.{◌+◌, ◌≤◌, min, ◌≡◌, ◌++◌, map, length};
 ghost use Rattle.spec.specs.NTriples.{decimal};
 ghost use Rattle.copy.specs.Copy.{Wrote};
@@ -20,7 +21,7 @@ const WORD: usize = 256;
 
 // What a call that moves bytes came to: so many; none yet, and it is to be tried again; or it failed, and errno says
 // why.
-#[derive(Drop)]
+#[derive(Clone, Copy)]
 pub enum Moved {
     Bytes(usize),
     Later,
@@ -28,7 +29,7 @@ pub enum Moved {
 }
 
 // What came from the input: so many bytes, at least one; its end; or the read failed, and errno says why.
-#[derive(Drop)]
+#[derive(Clone, Copy)]
 pub enum Got {
     Bytes(usize),
     End,
@@ -37,14 +38,14 @@ pub enum Got {
 
 // How many bytes of a text standard output took, and whether these are all. Only `print` makes one: its fields are
 // its own.
-#[derive(Drop)]
+#[derive(Clone, Copy)]
 pub struct Printed {
     whole: bool,
     bytes: usize,
 }
 
 // How far a text of `most` bytes is printed: so many of them were taken, and whether a write failed.
-#[derive(Drop)]
+#[derive(Clone, Copy)]
 struct Printing {
     taken: usize,
     most: usize,

@@ -1,4 +1,5 @@
 // The verdict on each line of the files `iris` and `tags`.
+#![tactic(auto)]
 use libc::STDOUT_FILENO;
 use spec::Verdict;
 

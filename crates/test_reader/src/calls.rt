@@ -11,7 +11,7 @@ use state_words::Frame;
 
 // What is made of a state by hand: nothing; another number of open elements, end of what is held, number of labels; another word of the
 // table of elements; another number of rdf:IDs.
-#[derive(Drop)]
+#[derive(Clone, Copy)]
 enum Change {
     Nothing,
     Depth(usize),

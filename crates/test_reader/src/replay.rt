@@ -13,7 +13,7 @@ use state::Registers;
 use state_ids::IdTable;
 
 // How a document ended: its state, the number of its last call, and whether its lines were the expected ones.
-#[derive(Drop)]
+#[derive(Clone, Copy)]
 pub struct Ended {
     pub state: State,
     pub number: u8,
@@ -21,7 +21,7 @@ pub struct Ended {
 }
 
 // How many documents there were, and how many of them were as they must be.
-#[derive(Drop)]
+#[derive(Clone, Copy)]
 pub struct Tally {
     pub count: usize,
     pub same: usize,
@@ -29,7 +29,7 @@ pub struct Tally {
 
 // How far a document is: its state, the last number, whether no further call is due; how many bytes of the input were consumed and of
 // the expected lines seen, and whether all lines were those so far.
-#[derive(Drop)]
+#[derive(Clone, Copy)]
 struct Way {
     state: State,
     number: u8,

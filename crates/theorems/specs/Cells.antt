@@ -18,6 +18,7 @@ same-subject (blank l) = same_refl l
 -- a line with a subject is one of the lines of that subject
 among-lines : (x : Subject) (p : Bytes) (y : Subject) (ts : List Triple) → Among (triple x p (node y)) ts → Among (triple x p (node y)) (lines_of x ts)
 unfolding lines_of if◌then◌else◌
+among-lines x p y [] a = elim a [ ]
 among-lines x p y (t ∷ ts) first = rw (same-subject x) first
 among-lines x p y (triple s q o ∷ ts) (later a) = go (same_subject x s) (among-lines x p y ts a)
   where
@@ -30,14 +31,17 @@ unfolding F.all
 rest_not_first e = true≢false (sym (same_refl (rdf "rest")) ∙ ap (same (rdf "rest")) e)
 
 among_two : (t u v : Triple) (ts : List Triple) → ts ≡ u ∷ v ∷ [] → Among t ts → (t ≡ u) ⊎ (t ≡ v)
+among_two t u v [] e a = elim a [ ]
 among_two t u v (t' ∷ ts) e first = inl (head-eq_of_cons-eq e)
 among_two t u v (t' ∷ ts) e (later a) = inr (go ts (tail-eq_of_cons-eq e) a)
   where
     go : (ts : List Triple) → ts ≡ v ∷ [] → Among t ts → t ≡ v
+    go [] e a = elim a [ ]
     go (w ∷ ts) e first = head-eq_of_cons-eq e
     go (w ∷ ts) e (later a) = absurd (none ts (tail-eq_of_cons-eq e) a)
       where
         none : (ts : List Triple) → ts ≡ [] → Among t ts → ⊥
+        none [] e a = elim a [ ]
         none (w ∷ ts) e a = cons≢nil e
 
 -- of a cell's two lines the second has its rdf:rest

@@ -168,15 +168,15 @@ li_deeper : (n : Bytes) (as' : List Attribute) (x g : Frame) (gs fs : List Frame
 unfolding li_of if◌then◌else◌
 li_deeper n as' x g gs fs = rw (deeper x g gs fs) refl
 
-on_start : {n : Bytes} {as' : List Attribute} {fs frames : List Frame} {K : Kind} (gs : List Frame) (g : Frame) → Holder K → g.kind ≡ K → Based gs
+on_start : {n : Bytes} {as' : List Attribute} {fs : List Frame} {K : Kind} (gs : List Frame) (g : Frame) {frames : List Frame} → Holder K → g.kind ≡ K → Based gs
     → Move (opening n as') (gs ++ (g ∷ fs)) frames → Open fs (grown K [] (li_of (length fs) (opening n as') (gs ++ (g ∷ fs)))) frames
 unfolding count_li with_kind with_part place_in
-on_start {n} {as'} {fs} {frames} {K} [] g h is b (opens {f = f} i n' e c) =
+on_start {n} {as'} {fs} {K} [] g {frames} h is b (opens {f = f} i n' e c) =
     rw (li_direct n i as' g fs e) (open_at (f ∷ []) (with_part (n' g.part) (with_kind (counted i g.kind) g)) (ap (counted i) is ∙ li-counted i h) (new-outside f.kind c))
-on_start {n} {as'} {fs} {frames} {K} [] g h is b (copies x c k) = absurd (false≢true (sym (ap (λ (k : Kind). is_xml (in_kind k)) is ∙ no_xml_inside h) ∙ c))
-on_start {n} {as'} {fs} {frames} {K} (z ∷ gs) g h is b (opens {f = f} i n' e c) =
+on_start {n} {as'} {fs} {K} [] g {frames} h is b (copies x c k) = absurd (false≢true (sym (ap (λ (k : Kind). is_xml (in_kind k)) is ∙ no_xml_inside h) ∙ c))
+on_start {n} {as'} {fs} {K} (z ∷ gs) g {frames} h is b (opens {f = f} i n' e c) =
     rw (li_deeper n as' z g gs fs) (open_above f (is ∙ sym (grown_none h)) (count-above i n' z gs (g ∷ fs) b))
-on_start {n} {as'} {fs} {frames} {K} (z ∷ gs) g h is b (copies {f = f} x c k) =
+on_start {n} {as'} {fs} {K} (z ∷ gs) g {frames} h is b (copies {f = f} x c k) =
     rw (li_deeper n as' z g gs fs) (open_above f (is ∙ sym (grown_none h)) (value-above (takes_xml x) z gs (g ∷ fs) b))
 
 -- a child closes only directly inside

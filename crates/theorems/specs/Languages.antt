@@ -1,14 +1,14 @@
 -- Every literal without datatype that an event writes has the language in force where it stands, which is that of the nearest
 -- xml:lang around it.
 use Rattle.std.specs.Prelude.{◌≡◌, refl, Bool, true, false, ◌&&◌, not, List, [], ◌∷◌, ◌++◌, ℕ}
-use Rattle.std.proofs.Common.{sym, ◌∙◌, ap, arith}
+use Rattle.std.proofs.Common.{sym, ◌∙◌, ap, arith, suc}
 use Rattle.std.proofs.lemmas.Bool.{false≢true, not-true}
 use Rattle.std.proofs.Math.Option.{Option, none, some}
 use Prim.Native.String.{String}
 use Rattle.spec.specs.Bytes.{Bytes, ascii, if◌then◌else◌, same, begins, is_empty, each, All}
 use Rattle.spec.specs.Numbers.{Answer, good}
 use Rattle.spec.specs.Pyx.{Attribute, attribute, Event, opening, closing, text, instruction}
-use Rattle.spec.specs.NTriples.{Subject, Term, node, Triple, triple}
+use Rattle.spec.specs.NTriples.{Subject, blank, Term, node, Triple, triple}
 use Rattle.spec.specs.Document.{Object, no_object, node_object, text_object, Value, default, collection, literal, other, Property, Kind, rdf_rdf, wrapper, node_element, property_element, xml_element, Frame, Doc, with_frames, Place, outside, nodes, nodes_or_text, xml, properties, place_in, language_in_force}
 use Rattle.spec.specs.Rfc5646.{is_language_tag}
 use Rattle.spec.specs.Rfc5646 as L
@@ -24,6 +24,7 @@ use Rattle.spec.specs.Productions.{Opened, literal_of, statement, type_line, att
 use Rattle.spec.specs.Opening.{Step, count_li}
 use Rattle.spec.specs.Opening as G
 use Rattle.spec.specs.EndTag.{cells, object_term}
+use Rattle.spec.specs.NTriples.{label}
 use Rattle.spec.specs.EndTag as C
 use Rattle.spec.specs.RdfXml.{next}
 use Rattle.spec.specs.RdfXml as X
@@ -76,7 +77,7 @@ statement_in l p o h = all_append l (O.reification p.id p.subject p.iri o) _ (re
 cells_in : (l : Language) (n : ℕ) (rest : Subject) (cs : List Subject) → AllInLanguage l (cells n rest cs)
 unfolding cells
 cells_in l n rest [] = tt
-cells_in l n rest (c ∷ cs) = (tt, (tt, cells_in l _ _ cs))
+cells_in l n rest (c ∷ cs) = (tt, (tt, cells_in l (suc n) (blank (label (suc n))) cs))
 
 -- ---- the language that a start tag gives
 

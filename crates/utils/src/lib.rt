@@ -1,4 +1,5 @@
 // UTF-8, and the characters and names of XML: utils.rs and the end of parser.rs.
+#![tactic(auto)]
 ghost use Rattle.std.specs.Prelude.{◌≡◌, true, ◌+◌, ◌<◌, ◌≤◌, length};
 ghost use Rattle.spec.specs.Bytes.{ascii, up_to, among, every, in_ranges};
 ghost use Rattle.spec.specs.Utf8.{leading_ones, goes_on, is_scalar, as_characters};
@@ -14,7 +15,7 @@ ghost use Rattle.utils.specs.Walking.{Walked, Steps};
 const BLOCK: usize = 16;
 
 // What some bytes begin with: nothing, a character and how many bytes it has, or no character.
-#[derive(Drop)]
+#[derive(Clone, Copy)]
 pub enum Decoded {
     End,
     Character(u32, usize),
@@ -22,7 +23,7 @@ pub enum Decoded {
 }
 
 // A name as written: none, one without a prefix, or one with its first colon at a place.
-#[derive(Drop)]
+#[derive(Clone, Copy)]
 pub enum Name {
     NotName,
     Local,
@@ -30,7 +31,7 @@ pub enum Name {
 }
 
 // The bits of bytes that go on with a sequence, or that one of them does not go on.
-#[derive(Drop)]
+#[derive(Clone, Copy)]
 enum Joined {
     Broken,
     Value(u32),

@@ -6,7 +6,7 @@ ghost use Rattle.writer.specs.Rules.{byte_of, Spells};
 ghost use Rattle.writer.specs.Coded.{Plain, Clean};
 
 // Where the text stands: in an IRI, in a literal, in XML text, in the value of an XML attribute.
-#[derive(Drop)]
+#[derive(Clone, Copy)]
 pub enum Rule {
     Iri,
     Quoted,
@@ -15,7 +15,7 @@ pub enum Rule {
 }
 
 // What a byte is written as: the first `len` of these. No word has more than six; eight are copied at once.
-#[derive(Drop)]
+#[derive(Clone, Copy)]
 pub struct Word {
     pub bytes: [u8; 8],
     pub len: usize,

@@ -1,5 +1,6 @@
 // A writer in two passes: each function counts what it writes, and stores it only where `on`, as far as there is room.
 // So one code measures and stores. A count that reaches `MOST` stays there.
+#![tactic(auto)]
 ghost use Rattle.std.specs.Prelude.{◌≡◌, [], ◌∷◌};
 ghost use Rattle.writer.specs.Put.{counted, Put};
 
@@ -11,7 +12,7 @@ pub mod quoted;
 pub mod value;
 
 // Whether a text has room, and how many bytes of it were written.
-#[derive(Drop)]
+#[derive(Clone, Copy)]
 pub struct Said {
     pub fits: bool,
     pub written: usize,
