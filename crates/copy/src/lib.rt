@@ -1,5 +1,6 @@
 // Bytes stored, compared and looked for in lent slices. Every call answers on every input; the laws of what it did are in specs/.
 #![tactic(auto)]
+
 ghost use Rattle.std.specs.Prelude.{◌≡◌, not, true, false, length, eqb};
 ghost use Rattle.spec.specs.Bytes.{same, begins, up_to, among};
 ghost use Rattle.copy.specs.Copy.{part, Put};

@@ -1,0 +1,21 @@
+-- `copy::find` meets its contract.
+use Prim.Native.Nat.{◌-◌}
+use lib.ListN.{length}
+use lib.Dec.{eqb}
+use borrow.Author.Tests.{eq-eqb, ne_eqb}
+use Rattle.copy.specs.Scan.{Sought, sought_stop, sought_more, sought_done}
+use native.Mathlib.Omega.{arith}
+use borrow.Author.Rules.{rules}
+use Rattle.copy.proofs.find.Goals as goal
+
+pub loop-i-init : goal.loop-i-init
+loop-i-init c = c.skip_blocks-i.ensures
+
+pub returns-then-s-i : goal.returns-then-s-i
+returns-then-s-i c = sought_stop c.loop-i.invariant (omega arith) (eq-eqb _ _ c.if-s-i.true)
+
+pub loop-i-preserved : goal.loop-i-preserved
+loop-i-preserved c = sought_more c.loop-i.invariant (omega arith) (ne_eqb _ _ c.if-s-i.false)
+
+pub returns : goal.returns
+returns c = sought_done c.loop-i.invariant (omega arith)

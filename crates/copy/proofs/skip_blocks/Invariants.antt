@@ -1,0 +1,16 @@
+-- `copy::skip_blocks` meets its contract. The loop's invariant: there is no `b` among the first `i` bytes.
+use Prim.Native.Nat.{◌-◌}
+use mathlib.Core.Path.{sym, ◌∙◌}
+use lib.Dec.{eqb}
+use lib.ListN.{length}
+use Rattle.copy.specs.Copy.{part, part_of, length_part}
+use Rattle.copy.specs.Scan.{Sought, sought_begins, sought_block}
+use native.Mathlib.Omega.{arith}
+use borrow.Author.Rules.{rules}
+use Rattle.copy.proofs.skip_blocks.Given as goal
+
+abbrev pub invariant-loop-i : goal.invariant-loop-i
+invariant-loop-i l = Sought (λ c. eqb c l.b) l.s l.i
+
+abbrev pub decreases-loop-i : goal.decreases-loop-i
+decreases-loop-i l = length l.s - l.i
