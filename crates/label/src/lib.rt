@@ -1,5 +1,6 @@
 // Generated blank node labels, and numbers in decimal digits: the end of parser.rs.
 #![tactic(auto)]
+
 ghost use Rattle.std.specs.Prelude.{◌≡◌, length};
 ghost use Rattle.spec.specs.Bytes.{byte, every, between};
 ghost use Rattle.spec.specs.NTriples.{digits};

@@ -1,5 +1,6 @@
 // UTF-8, and the characters and names of XML: utils.rs and the end of parser.rs.
 #![tactic(auto)]
+
 ghost use Rattle.std.specs.Prelude.{◌≡◌, true, ◌+◌, ◌<◌, ◌≤◌, length};
 ghost use Rattle.spec.specs.Bytes.{ascii, up_to, among, every, in_ranges};
 ghost use Rattle.spec.specs.Utf8.{leading_ones, goes_on, is_scalar, as_characters};

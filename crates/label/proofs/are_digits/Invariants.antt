@@ -1,0 +1,15 @@
+-- `label::are_digits` meets its contract. The loop's invariant: the first `i` bytes are digits.
+use Prim.Native.Nat.{◌-◌}
+use lib.ListN.{length}
+use Rattle.spec.specs.Bytes.{byte, between}
+use Rattle.copy.specs.Scan.{Passed, passed-begins, passed_stop, passed_more, passed_done}
+use Rattle.label.specs.Digits.{no_digit-below, no_digit-above, a_digit}
+use native.Mathlib.Omega.{arith}
+use borrow.Author.Rules.{rules}
+use Rattle.label.proofs.are_digits.Given as goal
+
+abbrev pub invariant-loop-i : goal.invariant-loop-i
+invariant-loop-i l = Passed (between (byte "0") (byte "9")) l.s l.i
+
+abbrev pub decreases-loop-i : goal.decreases-loop-i
+decreases-loop-i l = length l.s - l.i

@@ -1,0 +1,25 @@
+-- `is_blank`. The invariant: the bytes passed are whitespace, so the rest decides.
+use Rattle.spec.specs.Bytes.{ascii, among, every}
+use Rattle.spec.specs.RdfXml.{is_blank}
+use Rattle.utils.specs.Walking.{Walked}
+use Rattle.utils.proofs.Walking.{walked_begins, bytes_fail, bytes_more, bytes_pass}
+use mathlib.Core.Path.{sym, ◌∙◌}
+use borrow.Author.Tests.{not-true, not-false}
+use lib.ListN.{length}
+use Prim.Native.Nat.{◌-◌}
+use borrow.Author.Rules.{rules}
+use Rattle.utils.proofs.is_blank.Goals as goal
+
+pub loop-i-init : goal.loop-i-init
+loop-i-init c = walked_begins _ _
+
+pub returns-then-not-is_whitespace : goal.returns-then-not-is_whitespace
+unfolding is_blank
+returns-then-not-is_whitespace c = bytes_fail _ c.loop-i.invariant (search rules) (sym c.is_whitespace.ensures ∙ c.if-not-is_whitespace.true)
+
+pub loop-i-preserved : goal.loop-i-preserved
+loop-i-preserved c = bytes_more _ c.loop-i.invariant (search rules) (sym c.is_whitespace.ensures ∙ c.if-not-is_whitespace.false)
+
+pub returns : goal.returns
+unfolding is_blank
+returns c = bytes_pass _ c.loop-i.invariant (search rules)

@@ -1,0 +1,27 @@
+-- `join`. The invariant: what is left, joined to the value so far, gives what the whole does.
+use mathlib.Core.Path.{sym, ◌∙◌}
+use borrow.Author.Tests.{not-true, not-false}
+use Rattle.utils.proofs.Decoding.{Joining, joining_begins, joining_small, joining_broken, joining_more, joining_done}
+use lib.ListN.{length}
+use Prim.Native.Nat.{◌-◌}
+use native.Mathlib.Omega.{arith}
+use borrow.Author.Rules.{rules}
+use Rattle.utils.proofs.join.Goals as goal
+
+pub loop-i-init : goal.loop-i-init
+loop-i-init c = joining_begins _ _ (search rules)
+
+pub returns-then-not-goes_on : goal.returns-then-not-goes_on
+returns-then-not-goes_on c = joining_broken c.loop-i.invariant (search rules) (sym c.goes_on.ensures ∙ c.if-not-goes_on.true)
+
+pub overflow_mul-value : goal.overflow_mul-value
+overflow_mul-value c = omega (arith, joining_small c.loop-i.invariant (search rules) (search rules))
+
+pub overflow_add-value : goal.overflow_add-value
+overflow_add-value c = omega (arith, joining_small c.loop-i.invariant (search rules) (search rules))
+
+pub loop-i-preserved : goal.loop-i-preserved
+loop-i-preserved c = joining_more c.loop-i.invariant (search rules) (sym c.goes_on.ensures ∙ c.if-not-goes_on.false)
+
+pub returns : goal.returns
+returns c = joining_done c.loop-i.invariant (search rules)
