@@ -1,5 +1,6 @@
 // Language tags: well-formed by RFC 5646, section 2.1, or not; and their letters in lower case.
 #![tactic(auto)]
+
 ghost use Rattle.std.specs.Prelude.{◌≡◌, map};
 ghost use Rattle.spec.specs.Bytes.{if◌then◌else◌, same, member};
 ghost use Rattle.spec.specs.Abnf.{lower};

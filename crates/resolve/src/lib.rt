@@ -1,5 +1,6 @@
 // RFC 3986, section 5.2: a reference resolved on a base, into a lent area. Every call answers on any bytes: whether they are IRIs is asked elsewhere.
 #![tactic(auto)]
+
 ghost use Rattle.std.specs.Prelude.{◌≡◌, ◌-◌, ◌≤◌, leb, length, drop};
 ghost use Rattle.spec.specs.Bytes.{Bytes};
 ghost use Rattle.spec.specs.Rfc3986.{remove_dot_segments};

@@ -1,0 +1,16 @@
+-- `langtag::composed`.
+use Prim.Native.Nat.{◌-◌}
+use lib.ListN.{length}
+use Rattle.langtag.proofs.Machine.{Reading, reading_begins, reading_more, reading_done}
+use borrow.Author.Rules.{rules}
+use native.Mathlib.Omega.{arith}
+use Rattle.langtag.proofs.composed.Goals as goal
+
+pub loop-i-init : goal.loop-i-init
+loop-i-init c = reading_begins c.fresh.ensures
+
+pub loop-i-preserved : goal.loop-i-preserved
+loop-i-preserved c = reading_more c.loop-i.invariant (omega arith) c.step-reader.ensures
+
+pub returns : goal.returns
+returns c = reading_done c.loop-i.invariant (omega arith) c.ended.ensures c.is_final.ensures

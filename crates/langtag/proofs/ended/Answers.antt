@@ -1,0 +1,8 @@
+-- `langtag::ended` is `ended`.
+use Rattle.langtag.specs.Machine.{ended}
+use borrow.Author.Rules.{rules}
+use Rattle.langtag.proofs.ended.Goals as goal
+
+pub returns : goal.returns
+unfolding ended
+returns c = rw (← c.kind_of.ensures) c.follow.ensures
