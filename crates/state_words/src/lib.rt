@@ -1,5 +1,6 @@
 // What is kept of a document between events, as numbers: the records of its tables, and how they stand in lent words.
 #![tactic(auto)]
+
 ghost use Rattle.std.specs.Prelude.{◌≡◌};
 ghost use Rattle.state_words.specs.Words.{kind_of, kind_number, load_frame, StoredFrame, no_frame, load_row, StoredRow};
 

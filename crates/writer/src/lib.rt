@@ -1,6 +1,7 @@
 // A writer in two passes: each function counts what it writes, and stores it only where `on`, as far as there is room.
 // So one code measures and stores. A count that reaches `MOST` stays there.
 #![tactic(auto)]
+
 ghost use Rattle.std.specs.Prelude.{◌≡◌, [], ◌∷◌};
 ghost use Rattle.writer.specs.Put.{counted, Put};
 

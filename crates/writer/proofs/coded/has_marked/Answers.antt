@@ -1,0 +1,16 @@
+-- `writer::coded::has_marked` meets its contract.
+use Prim.Native.Nat.{◌-◌}
+use Rattle.writer.specs.Rules.{byte_of}
+use Rattle.writer.specs.Coded.{Clean, clean_none, clean_more, clean_less}
+use native.Mathlib.Omega.{arith}
+use borrow.Author.Rules.{rules}
+use Rattle.writer.proofs.coded.has_marked.Goals as goal
+
+pub loop-i-init : goal.loop-i-init
+loop-i-init c = clean_none
+
+pub loop-i-preserved : goal.loop-i-preserved
+loop-i-preserved c = clean_more c.loop-i.invariant c.is_marked-marked.ensures
+
+pub returns : goal.returns
+returns c = clean_less c.loop-i.invariant (omega arith)

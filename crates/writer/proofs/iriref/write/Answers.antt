@@ -1,0 +1,12 @@
+-- `writer::iriref::write` meets its contract: nothing, or runs.
+use Rattle.spec.specs.NTriples.{iri_byte}
+use Rattle.writer.specs.Coded.{coded_none}
+use native.Mathlib.Omega.{arith}
+use borrow.Author.Rules.{rules}
+use Rattle.writer.proofs.iriref.write.Goals as goal
+
+pub returns-then-s-eq0 : goal.returns-then-s-eq0
+returns-then-s-eq0 c = coded_none iri_byte _ (omega arith) (omega arith)
+
+pub returns : goal.returns
+returns c = c.write.ensures
