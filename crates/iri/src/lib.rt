@@ -1,6 +1,7 @@
 // IRIs and references to them, checked against the grammar of RFC 3987. Each component ends at the first delimiter that cannot stand in
 // it, so a text is cut there and each piece is checked by itself.
 #![tactic(auto)]
+
 ghost use Rattle.std.specs.Prelude.{◌≡◌, true, ◌&&◌, [], ◌∷◌, length};
 ghost use Rattle.spec.specs.Bytes.{among, between};
 ghost use Rattle.spec.specs.Abnf.{lower, some};

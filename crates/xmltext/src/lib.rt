@@ -1,6 +1,7 @@
 // The XML text of a parseType Literal, counted always and stored where `on`: crate writer says how.
 // A start tag is `open_tag`, each attribute, `close_tag`; specs/Tags.antt has the law.
 #![tactic(auto)]
+
 ghost use Rattle.spec.specs.Pyx.{attribute};
 ghost use Rattle.spec.specs.XmlLiteral.{text_xml, attribute_xml, end_tag_xml};
 ghost use Rattle.writer.specs.Put.{Put};

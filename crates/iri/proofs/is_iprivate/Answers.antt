@@ -1,0 +1,19 @@
+-- `iri::is_iprivate` meets its contract.
+use mathlib.Core.Path.{refl, sym}
+use borrow.Author.Rules.{rules}
+use Rattle.iri.specs.Parts as P
+use Rattle.utils.specs.Ranges.{ranges, ascending_from}
+use Rattle.utils.proofs.Ranges.{before_all}
+use Rattle.iri.proofs.is_iprivate.Goals as goal
+
+pub returns-then-c-lt57344 : goal.returns-then-c-lt57344
+unfolding P.all ascending_from
+returns-then-c-lt57344 c = sym (before_all 57344 _ P.iprivates c.if-c-lt57344.true refl)
+
+pub in_ranges-requires : goal.in_ranges-requires
+unfolding ranges ascending_from
+in_ranges-requires c = refl
+
+pub returns : goal.returns
+unfolding P.all ranges
+returns c = c.in_ranges.ensures
