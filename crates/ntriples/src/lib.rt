@@ -1,6 +1,7 @@
 // N-Triples lines, counted always and stored where `on`: crate writer says how.
 // A term is a kind and its bytes; an IRI or a text comes in two parts, since a namespace and a local name need not lie together.
 #![tactic(auto)]
+
 ghost use Rattle.std.specs.Prelude.{◌≡◌, ◌++◌};
 ghost use Rattle.std.proofs.Math.Option.{some};
 ghost use Rattle.spec.specs.NTriples.{blank, tagged, typed, triple, write_iri, write_subject, quoted, write_term, line, write};

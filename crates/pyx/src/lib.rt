@@ -1,5 +1,6 @@
 // Where events come in: the first event of the input, and its lines decoded.
 #![tactic(auto)]
+
 ghost use Rattle.std.specs.Prelude.{◌≡◌, true, false, ◌+◌, ◌*◌, ◌<◌, ◌≤◌, length, take, drop, get_or, eqb};
 ghost use Rattle.spec.specs.Bytes.{up_to};
 ghost use Rattle.spec.specs.PyxCut.{goes_on, may_go_on};

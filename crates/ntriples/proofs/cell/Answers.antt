@@ -1,0 +1,13 @@
+-- `ntriples::cell` meets its contract: two lines.
+use mathlib.Core.List.{append-nil}
+use Rattle.spec.specs.Bytes.{ascii}
+use Rattle.spec.specs.Rdf.{rdf}
+use Rattle.writer.specs.Put.{puts, put_as}
+use Rattle.ntriples.specs.Terms.{subject_of, as_term_lem, in_rdf}
+use Rattle.ntriples.specs.Lines.{cell-lines}
+use borrow.Author.Rules.{rules}
+use Rattle.ntriples.proofs.cell.Goals as goal
+
+pub returns : goal.returns
+unfolding subject_of in_rdf rdf ascii
+returns c = put_as (puts (rw (c.as_term.ensures, as_term_lem, append-nil) at c.rdf_line-to.ensures) (rw (c.as_term-2.ensures, as_term_lem, append-nil) at c.rdf_line.ensures)) (cell-lines _ _ _)

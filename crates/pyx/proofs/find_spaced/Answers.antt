@@ -1,0 +1,16 @@
+-- `pyx::find_spaced` meets its contract.
+use Prim.Native.Nat.{◌-◌}
+use lib.ListN.{length}
+use Rattle.pyx.proofs.Lines.{Spacing, spacing_begins, spacing_more, spacing_done}
+use native.Mathlib.Omega.{arith}
+use borrow.Author.Rules.{rules}
+use Rattle.pyx.proofs.find_spaced.Goals as goal
+
+pub loop-i-init : goal.loop-i-init
+loop-i-init c = spacing_begins
+
+pub loop-i-preserved : goal.loop-i-preserved
+loop-i-preserved c = spacing_more c.loop-i.invariant (omega arith)
+
+pub returns : goal.returns
+returns c = spacing_done c.loop-i.invariant (omega arith)

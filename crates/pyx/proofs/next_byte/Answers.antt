@@ -1,0 +1,24 @@
+-- `pyx::next_byte` meets its contract. Each arm is one law.
+use mathlib.Core.Path.{refl}
+use native.Mathlib.Omega.{arith}
+use borrow.Author.Rules.{rules}
+use Rattle.pyx.proofs.Escapes.{stands_plain, wrong_last, stands-line_feed, stands_tab, stands_backslash, wrong_escape}
+use Rattle.pyx.proofs.next_byte.Goals as goal
+
+pub returns-then-b-ne92 : goal.returns-then-b-ne92
+returns-then-b-ne92 c = stands_plain _ _ _ c.requires refl c.if-b-ne92.true
+
+pub returns-then-s-i-lt2 : goal.returns-then-s-i-lt2
+returns-then-s-i-lt2 c = wrong_last _ _ c.requires c.if-b-ne92.false c.if-s-i-lt2.true
+
+pub returns-then-c-eq110 : goal.returns-then-c-eq110
+returns-then-c-eq110 c = stands-line_feed c.args.s.now c.args.i (omega arith) c.if-b-ne92.false c.if-c-eq110.true
+
+pub returns-then-c-eq116 : goal.returns-then-c-eq116
+returns-then-c-eq116 c = stands_tab c.args.s.now c.args.i (omega arith) c.if-b-ne92.false c.if-c-eq116.true
+
+pub returns-then-c-eq92 : goal.returns-then-c-eq92
+returns-then-c-eq92 c = stands_backslash c.args.s.now c.args.i (omega arith) c.if-b-ne92.false c.if-c-eq92.true
+
+pub returns : goal.returns
+returns c = wrong_escape c.args.s.now c.args.i (omega arith) c.if-b-ne92.false c.if-c-eq110.false c.if-c-eq116.false c.if-c-eq92.false

@@ -1,0 +1,16 @@
+-- `pyx::put_plain_name` meets its contract. The loop's invariant: the first `i` bytes are spelled, and copied.
+use Prim.Native.Nat.{◌+◌, ◌-◌}
+use native.Mathlib.Nat.{add-zero}
+use native.Mathlib.Omega.{arith}
+use lib.ListN.{length, take}
+use borrow.Author.Rules.{rules}
+use Rattle.copy.specs.Copy.{Wrote, wrote_none, wrote_same}
+use Rattle.pyx.specs.Names.{Spelled}
+use Rattle.pyx.proofs.Names.{spelled_begins, copied_more, copied-part, copied-name}
+use Rattle.pyx.proofs.put_plain_name.Given as goal
+
+abbrev pub invariant-loop-i : goal.invariant-loop-i
+invariant-loop-i l = Spelled l.name l.i l.part × Wrote l.initial.scratch l.scratch l.at (l.at + l.i) (take l.i l.name)
+
+abbrev pub decreases-loop-i : goal.decreases-loop-i
+decreases-loop-i l = length l.name - l.i
