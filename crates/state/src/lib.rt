@@ -1,6 +1,7 @@
 // What is kept of a document between events: registers by value, tables of words and the work store lent. specs/Meaning.antt says what
 // they mean, specs/Valid.antt when they mean something.
 #![tactic(auto)]
+
 ghost use Rattle.std.specs.Prelude.{◌≡◌, ◌+◌, ◌-◌, ◌*◌, ◌≤◌, ◌<◌, true, eqb, length};
 ghost use Rattle.state_words.specs.Parts.{TAIL, END, FRAME};
 ghost use Rattle.state_words.specs.Words.{pick};

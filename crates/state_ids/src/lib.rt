@@ -1,5 +1,6 @@
 // The rdf:IDs that accepted events have used, as spans of a lent store. A type of its own: it knows nothing of the rest of the reader's state.
 #![tactic(auto)]
+
 ghost use Rattle.std.specs.Prelude.{◌≡◌, ◌+◌, ◌≤◌, length};
 ghost use Rattle.spec.specs.Bytes.{same};
 ghost use Rattle.copy.specs.Copy.{part};

@@ -21,7 +21,7 @@ pub enum Kind {
 
 // An open element outside Literal content. `at` has where its parts start in the work store, end to end, and where the last one ends;
 // `has` says what they are. Both are read by the names below.
-#[derive(Drop)]
+#[derive(Clone, Copy)]
 pub struct Frame {
     pub kind: Kind,
     pub at: [u32; Frame::PLACES],

@@ -1,0 +1,6 @@
+-- `state::based_ok` meets its contract. A law of specs/ for each return, with the tests that led there.
+use borrow.Author.Rules.{rules}
+use Rattle.state.proofs.based_ok.Goals as goal
+
+pub returns-else-based : goal.returns-else-based
+returns-else-based c = rw c.if-based.false

@@ -1,0 +1,13 @@
+-- `state::chained` meets its contract. The loop's invariant: what is left to test is the first `i` bindings, up to `t`.
+use Rattle.state_words.specs.Words.{load_row_lem}
+use mathlib.Core.Path.{◌∙◌}
+use Rattle.state.specs.Tests.{ChainWalk, chain_begins, chain_stop, chain_more, chain_done}
+use native.Mathlib.Omega.{arith}
+use borrow.Author.Rules.{rules}
+use Rattle.state.proofs.chained.Given as goal
+
+abbrev pub invariant-loop-i : goal.invariant-loop-i
+invariant-loop-i l = ChainWalk l.bindings l.b l.n l.from l.to l.i l.t
+
+abbrev pub decreases-loop-i : goal.decreases-loop-i
+decreases-loop-i l = l.i

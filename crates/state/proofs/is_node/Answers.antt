@@ -1,0 +1,32 @@
+-- `state::is_node` meets its contract. A law of specs/ for each return, with the tests that led there.
+use Rattle.state.specs.Valid.{is_node}
+use borrow.Author.Rules.{rules}
+use Rattle.state.proofs.is_node.Goals as goal
+
+pub returns-in-Rdf : goal.returns-in-Rdf
+unfolding is_node
+returns-in-Rdf c = search rules
+
+pub returns-in-NodeElt : goal.returns-in-NodeElt
+unfolding is_node
+returns-in-NodeElt c = search rules
+
+pub returns-in-PropertyElt : goal.returns-in-PropertyElt
+unfolding is_node
+returns-in-PropertyElt c = search rules
+
+pub returns-in-ParseTypeCollectionPropertyElt : goal.returns-in-ParseTypeCollectionPropertyElt
+unfolding is_node
+returns-in-ParseTypeCollectionPropertyElt c = search rules
+
+pub returns-in-ParseTypeLiteralPropertyElt : goal.returns-in-ParseTypeLiteralPropertyElt
+unfolding is_node
+returns-in-ParseTypeLiteralPropertyElt c = search rules
+
+pub returns-in-ParseTypeOtherPropertyElt : goal.returns-in-ParseTypeOtherPropertyElt
+unfolding is_node
+returns-in-ParseTypeOtherPropertyElt c = search rules
+
+pub returns-in-Wrapper : goal.returns-in-Wrapper
+unfolding is_node
+returns-in-Wrapper c = search rules
