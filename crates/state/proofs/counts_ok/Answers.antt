@@ -2,6 +2,8 @@
 use Rattle.state.specs.Tests.{too_deep, too_many, too_high, no_base, labels_decide, yes, no}
 use native.Mathlib.Omega.{arith}
 use borrow.Author.Rules.{rules}
+use Rattle.std.proofs.Common.{sym}
+use Rattle.std.proofs.Common.{◌∙◌}
 use Rattle.state.proofs.counts_ok.Goals as goal
 
 pub returns-then-r-gt-MOST : goal.returns-then-r-gt-MOST
@@ -17,7 +19,7 @@ pub returns-then-r-2 : goal.returns-then-r-2
 returns-then-r-2 c = too_high _ (omega arith) (omega arith) (omega arith)
 
 pub returns-then-not-based_ok : goal.returns-then-not-based_ok
-returns-then-not-based_ok c = no_base _ (omega arith) (omega arith) (omega arith) (no c.based_ok.ensures c.if-not-based_ok.true)
+returns-then-not-based_ok c = no_base _ (omega arith) (omega arith) (omega arith) (sym c.based_ok.ensures ∙ c.if-not-based_ok.true)
 
 pub returns : goal.returns
-returns c = labels_decide _ (omega arith) (omega arith) (omega arith) (yes c.based_ok.ensures c.if-not-based_ok.false)
+returns c = labels_decide _ (omega arith) (omega arith) (omega arith) (sym c.based_ok.ensures ∙ c.if-not-based_ok.false)
