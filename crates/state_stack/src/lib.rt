@@ -1,6 +1,7 @@
 // The open elements of a document as a stack: what an event may do at its top. Every call answers on every input; what it did to a
 // valid state is said by the laws of specs/.
 #![tactic(auto)]
+
 ghost use Rattle.std.specs.Prelude.{◌≡◌, ◌+◌, ◌-◌, ◌*◌, ◌≤◌, ◌<◌, length};
 ghost use Rattle.state_stack.specs.Change.{topped_to, labelled_to};
 ghost use Rattle.state_stack.specs.Calls.{frame_of, Pushes, Pops, Binds, top_frame, same_kind, Texts, Xmls, CountsLi, Tails};

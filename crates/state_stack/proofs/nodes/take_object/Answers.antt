@@ -1,0 +1,26 @@
+-- `state_stack::nodes::take_object` meets its contract. A law of specs/ for each return, with the tests that led there.
+use Rattle.spec.specs.Limits.{work_store_bytes}
+use Rattle.state_stack.specs.Take.{movable, object_none, object-made}
+use Rattle.state.specs.Tests.{yes, no}
+use mathlib.Core.Path.{◌∙◌}
+use native.Mathlib.Omega.{arith}
+use borrow.Author.Rules.{rules}
+use Rattle.std.proofs.Common.{sym}
+use Rattle.state_stack.proofs.nodes.take_object.Goals as goal
+
+pub returns-then-not-may_take : goal.returns-then-not-may_take
+returns-then-not-may_take c = object_none c.wide-from.ensures.0 (c.minus-len.ensures ∙ rw (c.wide-from.ensures.0, c.wide.ensures.0)) c.wide-to.ensures.0 (sym c.may_take.ensures ∙ c.if-not-may_take.true)
+
+pub overflow_cast-at : goal.overflow_cast-at
+overflow_cast-at c = let m = movable _ _ _ _ _ _ (sym c.may_take.ensures ∙ c.if-not-may_take.false) in omega arith
+
+pub overflow_sub-r : goal.overflow_sub-r
+overflow_sub-r c = let m = movable _ _ _ _ _ _ (sym c.may_take.ensures ∙ c.if-not-may_take.false) in omega arith
+
+pub shift-requires : goal.shift-requires
+unfolding work_store_bytes
+shift-requires c = let m = movable _ _ _ _ _ _ (sym c.may_take.ensures ∙ c.if-not-may_take.false) in omega arith
+
+pub returns : goal.returns
+unfolding work_store_bytes
+returns c = object-made c.wide-from.ensures.0 (c.minus-len.ensures ∙ rw (c.wide-from.ensures.0, c.wide.ensures.0)) c.wide-to.ensures.0 c.object_word.ensures c.requires (sym c.may_take.ensures ∙ c.if-not-may_take.false) c.store.ensures c.shift.ensures c.with_top.ensures
