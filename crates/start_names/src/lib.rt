@@ -1,5 +1,6 @@
 // Namespaces of a start tag: its declarations, the namespaces of its names, and its repeated attributes.
 #![tactic(auto)]
+
 ghost use Rattle.std.specs.Prelude.{◌≡◌, true, [], ◌++◌, ◌+◌, ◌*◌, ◌<◌, ◌≤◌, length};
 ghost use Rattle.spec.specs.Bytes.{ascii, after, same};
 ghost use Rattle.spec.specs.Pyx.{attribute};
