@@ -1,5 +1,6 @@
 // What the handler of an event answers, and where an event stands.
 #![tactic(auto)]
+
 ghost use Rattle.std.specs.Prelude.{◌≡◌};
 ghost use Rattle.event.specs.Place.{place_at, place_of};
 
