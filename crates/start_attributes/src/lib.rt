@@ -1,5 +1,6 @@
 // The attributes of a start tag, by the classes that crate start_names gives them: read in written order, the first of a role, the lengths of their names.
 #![tactic(auto)]
+
 ghost use Rattle.std.specs.Prelude.{◌≡◌, ◌++◌, ◌<◌, ◌≤◌, leb, length};
 ghost use Rattle.spec.specs.Bytes.{every};
 ghost use Rattle.spec.specs.Limits.{most_name_bytes};
