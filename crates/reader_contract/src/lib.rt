@@ -1,5 +1,6 @@
 // What goes into a call and comes back from it: the state by value, the answer, the counts. What the three calls promise is said of these.
 #![tactic(auto)]
+
 ghost use Rattle.std.specs.Prelude.{◌≡◌};
 ghost use Rattle.spec.specs.Numbers.{number, closes};
 ghost use Rattle.reader_contract.specs.Meaning.{closed_state, marked, over_in, Fresh, Nothing};
