@@ -1,5 +1,6 @@
 // Start tags outside Literal content.
 #![tactic(auto)]
+
 ghost use Rattle.std.specs.Prelude.{◌≡◌, ◌&&◌, ◌≤◌, eqb, length};
 ghost use Rattle.start_form.specs.Form.{Asked, Checks, Faults};
 

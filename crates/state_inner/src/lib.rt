@@ -1,5 +1,6 @@
 // Elements inside Literal content, which stand at the far end of the work store; and what is read of all open elements.
 #![tactic(auto)]
+
 ghost use Rattle.std.specs.Prelude.{◌≡◌, ◌+◌, ◌-◌, ◌*◌, ◌≤◌, ◌<◌, true, leb};
 ghost use Rattle.spec.specs.Limits.{most_held_bytes};
 ghost use Rattle.state_stack.specs.Change.{inside_to};

@@ -1,0 +1,8 @@
+-- `state_inner::holds_no_more` meets its contract. From what the calls ensure.
+use Rattle.spec.specs.Limits.{most_held_bytes}
+use borrow.Author.Rules.{rules}
+use Rattle.state_inner.proofs.holds_no_more.Goals as goal
+
+pub returns : goal.returns
+unfolding most_held_bytes
+returns c = rw c.held.ensures
