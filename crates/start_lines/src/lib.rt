@@ -1,6 +1,7 @@
 // The lines of a start tag: its property attributes, its rdf:type, and the type that a node element's name is.
 // Attributes are read where the decoded tag has them; `classes` and `roles` say what each is (crates start_names and start_attributes).
 #![tactic(auto)]
+
 ghost use Rattle.std.specs.Prelude.{◌≡◌, ◌++◌, eqb, get_or};
 ghost use Rattle.std.proofs.Math.Option.{none};
 ghost use Rattle.spec.specs.NTriples.{triple, line, write};

@@ -1,5 +1,6 @@
 // What a start tag outside Literal content is: RDF 1.1 XML Syntax, section 7, by its element's IRI and by which attributes it has.
 #![tactic(auto)]
+
 ghost use Rattle.std.specs.Prelude.{◌≡◌, ◌&&◌, not, ◌++◌, ◌+◌, ◌<◌, ◌≤◌, ltb, length};
 ghost use Rattle.spec.specs.Bytes.{same};
 ghost use Rattle.spec.specs.Limits.{most_labels};

@@ -1,0 +1,11 @@
+-- `start_rules::is_li` meets its contract: what stands behind the namespace decides.
+use Rattle.start_rules.specs.Names.{is_rdf-name}
+use Rattle.spec.specs.Productions.{is_li}
+use Rattle.spec.specs.Bytes.{ascii, is_empty}
+use mathlib.Core.Path.{refl, ◌∙◌}
+use borrow.Author.Rules.{rules}
+use Rattle.start_rules.proofs.is_li.Goals as goal
+
+pub returns : goal.returns
+unfolding ascii is_empty is_li
+returns c = rw c.rdf_name.ensures at c.equal.ensures ∙ is_rdf-name _ "li" refl
