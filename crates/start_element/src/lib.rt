@@ -1,5 +1,6 @@
 // A start tag outside Literal content that was judged good: its element measured, and committed to the stores.
 #![tactic(auto)]
+
 ghost use Rattle.std.specs.Prelude.{◌≡◌, ◌+◌, ◌-◌, ◌*◌, ◌≤◌, ◌<◌, length};
 ghost use Rattle.spec.specs.Bytes.{total};
 ghost use Rattle.spec.specs.Limits.{most_attributes, most_bindings};

@@ -1,0 +1,16 @@
+-- `start_element::text` meets its contract. By the source.
+use Rattle.start_element.specs.Element.{text_of}
+use borrow.Author.Rules.{rules}
+use Rattle.start_element.proofs.text.Goals as goal
+
+pub returns-in-Missing : goal.returns-in-Missing
+unfolding text_of
+returns-in-Missing c = rw c.in-Missing.is
+
+pub returns-in-Own : goal.returns-in-Own
+unfolding text_of
+returns-in-Own c = rw c.in-Own.is c.piece.ensures
+
+pub returns-in-Made : goal.returns-in-Made
+unfolding text_of
+returns-in-Made c = rw c.in-Made.is c.piece-in-Made.ensures
