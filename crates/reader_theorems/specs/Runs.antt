@@ -166,8 +166,8 @@ abbrev pub Later : {mode : Mode} {based : Bool} {base : Bytes} {s : State} {w i 
     → Ran mode based base s w i o → Ran mode based base s' w' i' o' → Type 0
 Later {s'} {w'} {i'} {o'} h k = Onward h s' w' i' o' k
 
-pub later_still : {mode : Mode} {based : Bool} {base : Bytes} {s : State} {w i : List ℕ} {o : Bytes} {s' : State} {w' i' : List ℕ} {o' : Bytes} {s'' : State} {w'' i'' : List ℕ} {o'' : Bytes}
-    {h : Ran mode based base s w i o} {k : Ran mode based base s' w' i' o'} {m : Ran mode based base s'' w'' i'' o''}
+pub later_still : {mode : Mode} {based : Bool} {base : Bytes} {s : State} {w i : List ℕ} {o : Bytes} {s' : State} {w' i' : List ℕ} {o' : Bytes}
+    {h : Ran mode based base s w i o} {k : Ran mode based base s' w' i' o'} {s'' : State} {w'' i'' : List ℕ} {o'' : Bytes} {m : Ran mode based base s'' w'' i'' o''}
     → Later h k → Later k m → Later h m
 later_still l now = l
 later_still l (and_stepped j x) = and_stepped (later_still l j) x

@@ -167,7 +167,7 @@ further_step f g k Done (good e) q (vs, a, is) =
     (vs ++ r.0, event a e k.doc r.0 r.1, r.2 ∙ (ap (◌++ r.0) is ∙ append_assoc f.lines vs r.0))
 
 -- what a document has written stays, and later lines come behind it
-pub run_further : {mode : Mode} {based : Bool} {base : Bytes} {s : State} {w i : List ℕ} {o : Bytes} {s' : State} {w' i' : List ℕ} {o' : Bytes} {h : Ran mode based base s w i o} {k : Ran mode based base s' w' i' o'}
+pub run_further : {mode : Mode} {based : Bool} {base : Bytes} {s : State} {w i : List ℕ} {o : Bytes} {h : Ran mode based base s w i o} {s' : State} {w' i' : List ℕ} {o' : Bytes} {k : Ran mode based base s' w' i' o'}
     → Later h k → Further (run-lines h) (run-lines k)
 unfolding run_events
 run_further {h} now = ([], here, sym (append-nil (run-lines h).lines))

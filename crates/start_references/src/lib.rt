@@ -1,5 +1,6 @@
 // The references of a start tag, resolved on the base that holds for it: refusals 11 and 12.
 #![tactic(auto)]
+
 ghost use Rattle.std.specs.Prelude.{◌≡◌};
 ghost use Rattle.spec.specs.StartTag.{resolved, with_hash, rdf-ID};
 ghost use Rattle.state_inner.specs.Calls.{base_in};
