@@ -1,5 +1,6 @@
 // Events inside Literal content: their XML text is made in a lent area, and then added to the Literal property around.
 #![tactic(auto)]
+
 ghost use Rattle.std.specs.Prelude.{◌≡◌, true, ◌+◌, ◌<◌, ◌≤◌, leb, length, take};
 ghost use Rattle.spec.specs.Limits.{most_held_bytes};
 ghost use Rattle.spec.specs.Pyx.{text, closing, opening};

@@ -1,5 +1,6 @@
 // Text events.
 #![tactic(auto)]
+
 ghost use Rattle.std.specs.Prelude.{◌≡◌, ◌≤◌, leb, length};
 ghost use Rattle.spec.specs.Limits.{most_held_bytes};
 ghost use Rattle.spec.specs.Pyx.{text};
