@@ -1,5 +1,6 @@
 // End tags outside Literal content: the statement of a property is written, and a node is handed to the property around it.
 #![tactic(auto)]
+
 ghost use Rattle.std.specs.Prelude.{◌≡◌, List, ℕ, ◌+◌, ◌-◌, ◌≤◌, ◌<◌};
 ghost use Rattle.spec.specs.NTriples.{write};
 ghost use Rattle.spec.specs.Pyx.{closing};
