@@ -27,12 +27,14 @@ OTHER = {
     "parse-type-of": "parse_type_of_rust", "property-iri": "property_iri_rust", "read-attribute": "read_attribute_rust",
     "read-tag": "read_tag_rust", "parse-type": "parse_type_attr",
     "in-node": "in_node_lem", "in-rdf": "in_rdf_lem", "iri-of": "iri_of_identifier", "is-reserved": "is_reserved_term",
+    "node-subject": "node-subject", "without-last": "without_last_lem", "has-name": "has_name_lem", "count-li": "count_li_rust",
     "language-in": "language_under", "place-in": "place_under", "meaning-of": "meaning_of_attribute", "property-of": "property_of_subject",
 }
 OTHER_IN = {
     "theorems": {"object-term": "object_term_lem", "read-tag": "read_tag_lem", "place-in": "place_in_lem", "object_of": "object_of_lem"},
     "section7": {"is-literal": "is_literal_type", "is-space": "is_space_text", "text-of": "text_of_content", "in-node": "in_node_content", "in-rdf": "in_rdf_context"},
-    "rio": {"object_of": "object_of_rust", "text_in": "text_in_rust", "is_name": "is_name_rust"},
+    "rio": {"node-subject": "node_subject_rust", "without-last": "without_last_rust",
+            "object_of": "object_of_rust", "text_in": "text_in_rust", "is_name": "is_name_rust"},
 }
 # Plain words of a name, though some definition is named by them alone.
 PLAIN = set("of all is on in at as to by top then next read start before behind after known kept first further front back out own".split())
@@ -96,10 +98,12 @@ def snake(word):
     return word.lower() if word[:1].islower() else word
 
 
-def spelled(name, words):
-    """The name in today's spelling."""
+def spelled(name, words, lemma):
+    """The name in today's spelling. Only a lemma's name joins others by a dash."""
     if name in OTHER:
         return OTHER[name]
+    if re.match(r"(RDF|RESERVED)-", name):
+        return name.replace("-", "_")
     if name[:1].isupper() or "◌" in name:
         return name
     parts = name.split("-")
@@ -107,7 +111,7 @@ def spelled(name, words):
         return name
     out = snake(parts[0])
     for before, part in zip(parts, parts[1:]):
-        out += ("-" if before in words and part in words else "_") + snake(part)
+        out += ("-" if lemma and before in words and part in words else "_") + snake(part)
     return out
 
 
@@ -119,7 +123,7 @@ def table():
     for n in sorted(names):
         if n in lib or not (re.search(r"[a-z0-9][A-Z]", n) or "-" in n or "′" in n):
             continue
-        t = spelled(n.replace("′", "'"), words)
+        t = spelled(n.replace("′", "'"), words, names[n] == "lemma")
         if t != n:
             turned[n] = t
     back = {}

@@ -1,6 +1,7 @@
 // A stream of PYX bytes from a descriptor to lines on standard output, as they come: a document, up to its end, its refusal, or the first write or
 // read that fails. How it ended is handed back, and each program tells it in its own way.
 #![tactic(auto)]
+
 ghost use Rattle.std.specs.Prelude.{◌+◌, ◌≤◌, ◌<◌, ◌≡◌, length};
 ghost use Rattle.event.specs.Progress.{lent, doc_in};
 ghost use Rattle.reader.specs.Asked.{Roomy, Areas};

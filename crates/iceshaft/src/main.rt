@@ -1,6 +1,7 @@
 // iceshaft --pyx [--base IRI] [--xmp] [FILE..]: documents from files, or one from standard input, to N-Triples on standard output, as they come.
 // What is not as it should be is told on standard error, a line for each.
 #![tactic(auto)]
+
 ghost use Rattle.std.specs.Prelude.{◌≤◌, length};
 ghost use Rattle.iceshaft.specs.Arguments.{Settled};
 

@@ -113,8 +113,8 @@ two = one (between 49 57) then DIGIT
 abbrev hundred : Grammar ℕ
 hundred = letters (49 ∷ []) then (DIGIT then (DIGIT then empty))
 
-abbrev two-hundred : Grammar ℕ
-two-hundred = letters (50 ∷ []) then (one (between 48 52) then DIGIT)
+abbrev two_hundred : Grammar ℕ
+two_hundred = letters (50 ∷ []) then (one (between 48 52) then DIGIT)
 
 abbrev two_fifty : Grammar ℕ
 two_fifty = letters (50 ∷ 53 ∷ []) then one (between 48 53)
@@ -125,10 +125,10 @@ octet_cons : (a : ℕ) (s : Bytes) → of dec_octet (a ∷ s) ≡
     || ((eqb a 50 && of (one (between 48 52) then DIGIT) s) || (eqb a 50 && of (letters (53 ∷ []) then one (between 48 53)) s)))))
 unfolding is_mark R.all
 octet_cons a s =
-    of_or DIGIT (two or (hundred or (two-hundred or two_fifty))) (a ∷ s) ∙ or_both (of_last (between 48 57) decimal_low a s)
-    (of_or two (hundred or (two-hundred or two_fifty)) (a ∷ s) ∙ or_both (of_one (between 49 57) (digit_low 49 57 (omega arith)) DIGIT a s)
-    (of_or hundred (two-hundred or two_fifty) (a ∷ s) ∙ or_both (of_letter 49 refl (DIGIT then (DIGIT then empty)) a s)
-    (of_or two-hundred two_fifty (a ∷ s) ∙ or_both (of_letter 50 refl (one (between 48 52) then DIGIT) a s)
+    of_or DIGIT (two or (hundred or (two_hundred or two_fifty))) (a ∷ s) ∙ or_both (of_last (between 48 57) decimal_low a s)
+    (of_or two (hundred or (two_hundred or two_fifty)) (a ∷ s) ∙ or_both (of_one (between 49 57) (digit_low 49 57 (omega arith)) DIGIT a s)
+    (of_or hundred (two_hundred or two_fifty) (a ∷ s) ∙ or_both (of_letter 49 refl (DIGIT then (DIGIT then empty)) a s)
+    (of_or two_hundred two_fifty (a ∷ s) ∙ or_both (of_letter 50 refl (one (between 48 52) then DIGIT) a s)
     (sym (of_assoc (one (λ x. eqb (lower x) 50)) (letters (53 ∷ [])) (one (between 48 53)) (a ∷ s)) ∙ of_one (λ x. eqb (lower x) 50) (λ x e. rw (lower-mark 50 refl x e) (omega arith)) (letters (53 ∷ []) then one (between 48 53)) a s
     ∙ rw (same_test (eqb (lower a) 50) (eqb a 50) (λ e. eq-eqb a 50 (lower-mark 50 refl a e)) (λ e. rw (eqb-true a 50 e)))))))
 

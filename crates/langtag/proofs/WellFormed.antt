@@ -6,7 +6,7 @@ use Rattle.spec.specs.Bytes.{Bytes, if◌then◌else◌}
 use lib.ListN.{length}
 use Rattle.spec.specs.Grammar.{◌or◌, Describes}
 use Rattle.spec.specs.Rfc5646 as R
-use Rattle.spec.specs.Rfc5646.{language-tag, is_language_tag}
+use Rattle.spec.specs.Rfc5646.{language_tag, is_language_tag}
 use Rattle.spec.proofs.Booleans.{or_cases, or_left, or_right_lem}
 use Rattle.theorems.specs.Grammar.{accepts_sound, accepts_complete}
 use Rattle.spec.specs.declared.Verdict.TheVariants.{Good, Clears, Bad}
@@ -23,21 +23,21 @@ same_tests false true f g = g refl
 same_tests false false f g = refl
 
 pub well_formed_lem : (s : Bytes) → is_language_tag s ≡ (composed s || irregular s)
-unfolding is_language_tag language-tag
+unfolding is_language_tag language_tag
 well_formed_lem s =
-    same_tests (is_language_tag s) (composed s || irregular s) (λ h. sound (accepts_sound language-tag s h))
-    (λ h. accepts_complete language-tag s (complete (or_cases (composed s) (irregular s) h)))
+    same_tests (is_language_tag s) (composed s || irregular s) (λ h. sound (accepts_sound language_tag s h))
+    (λ h. accepts_complete language_tag s (complete (or_cases (composed s) (irregular s) h)))
   where
-    sound : Describes language-tag s → (composed s || irregular s) ≡ true
+    sound : Describes language_tag s → (composed s || irregular s) ≡ true
     sound (inl d) = or_left (composed s) (irregular s) (composed_complete s (inl d))
     sound (inr (inl d)) = or_left (composed s) (irregular s) (composed_complete s (inr d))
     sound (inr (inr (inl d))) = or_right_lem (composed s) (irregular s) (irregular_complete s d)
     sound (inr (inr (inr d))) = or_left (composed s) (irregular s) (regular-composed s d)
 
-    complete : (composed s ≡ true) ⊎ (irregular s ≡ true) → Describes language-tag s
+    complete : (composed s ≡ true) ⊎ (irregular s ≡ true) → Describes language_tag s
     complete (inl h) = go (composed_sound s h)
       where
-        go : Describes (R.langtag or R.privateuse) s → Describes language-tag s
+        go : Describes (R.langtag or R.privateuse) s → Describes language_tag s
         go (inl d) = inl d
         go (inr d) = inr (inl d)
     complete (inr h) = inr (inr (inl (irregular_sound s h)))

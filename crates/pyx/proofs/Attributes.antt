@@ -25,7 +25,7 @@ use Rattle.pyx.specs.Escapes.{Stored}
 use Rattle.pyx.specs.Attributes.{row, start_at, size_at, colon_at, value_size_at, name_at, value_at, attributes_of, Placed, Read, Small, Behind, Laid}
 use Rattle.pyx.proofs.Reach.{is_end}
 use Rattle.pyx.proofs.Lines.{first_line, no_line, front_nil, front_front, front_refuse, front_good, each_good, each_refuse, kept_all, kept_more, kept_then, kept_wrote, eqb_swap, clear_line}
-use Rattle.pyx.proofs.Names.{colon-within, prefix_part, local_part}
+use Rattle.pyx.proofs.Names.{colon_within, prefix_part, local_part}
 
 -- ---- what a line is read as
 
@@ -233,21 +233,21 @@ module _ {e w : List ℕ} {j n : ℕ} (p : Placed e w j n) where
 
 module _ {l : Bytes} {d e : List ℕ} {at n c v : ℕ} (r : Read l d e at n c v) where
   both : length (r.name ++ r.value) ≡ n + v
-  both = rw (length-append r.name r.value) (omega (arith, r.name-size, r.value-size))
+  both = rw (length-append r.name r.value) (omega (arith, r.name_size, r.value_size))
 
   name_there : part e at n ≡ r.name
   unfolding part
   name_there =
       let q : part (stored_at d at (r.name ++ r.value)) (at + 0) n ≡ part (r.name ++ r.value) 0 n =
       part-inside d at (r.name ++ r.value) 0 n r.wrote.room (omega (arith, both)) in
-      rw r.wrote.eq (rw add-zero at q ∙ take_at r.name r.value n r.name-size)
+      rw r.wrote.eq (rw add-zero at q ∙ take_at r.name r.value n r.name_size)
 
   value_there : part e (at + n) v ≡ r.value
   unfolding part
   value_there =
       rw r.wrote.eq
       (part-inside d at (r.name ++ r.value) n v r.wrote.room (omega (arith, both))
-      ∙ (ap (take v) (drop_at r.name r.value n r.name-size) ∙ take_all v r.value (omega (arith, r.value-size))))
+      ∙ (ap (take v) (drop_at r.name r.value n r.name_size) ∙ take_all v r.value (omega (arith, r.value_size))))
 
   -- the words of it, entered at place k
   module _ {w u : List ℕ} {k : ℕ} {b : Bool} (p : Put w (k * 4) (row at n c v) u b) (h : k < length w / 4) where
@@ -284,21 +284,21 @@ module _ (l : Bytes) {n : ℕ} (nonempty : 0 < length l) (e : n ≡ length (up_t
   pub read_end : n + 1 ≤ length l
   read_end = omega (arith, length_up_to is_space (drop 1 l), length-drop 1 l)
 
-  name-size : length (part l 1 n) ≡ n
-  name-size = length_part l 1 n (omega (arith, read_end))
+  name_size : length (part l 1 n) ≡ n
+  name_size = length_part l 1 n (omega (arith, read_end))
 
   pub read_name-room : (at : ℕ) (d : List ℕ) → at + length l ≤ length d → at + length (part l 1 n) ≤ length d
-  read_name-room at d h = omega (arith, name-size, read_end)
+  read_name-room at d h = omega (arith, name_size, read_end)
 
   module _ (clear : eqb (get_or l 0 0) 32 ≡ false) (d f : List ℕ) (at : ℕ) where
     pub read_nameless : (is_q_name (part l 1 n) ≡ false) × Kept d f (at + length (part l 1 n)) → (read_attribute l ≡ refuse NotPyx) × Kept d f (at + length l)
-    read_nameless m = (read_no_name l nonempty clear e m.0, kept_more m.1 (omega (arith, name-size, read_end)))
+    read_nameless m = (read_no_name l nonempty clear e m.0, kept_more m.1 (omega (arith, name_size, read_end)))
 
     module _ {c : ℕ} {g : List ℕ} (b : n + 1 < length l) (m : Name c (part l 1 n) d g at) where
       pub read_valueless : (unescape (drop (n + 2) l) ≡ refuse NotPyx) × Kept g f (at + n + length (drop (n + 2) l)) → (read_attribute l ≡ refuse NotPyx) × Kept d f (at + length l)
       read_valueless v = (
         read_wrong l nonempty clear e b m.qname v.0,
-        kept_then (kept_wrote m.wrote (omega (arith, name-size))) (kept_more v.1 (omega (arith, length-drop (n + 2) l))),
+        kept_then (kept_wrote m.wrote (omega (arith, name_size))) (kept_more v.1 (omega (arith, length-drop (n + 2) l))),
       )
 
       -- a name in the scratch, and a value behind it
@@ -310,11 +310,11 @@ module _ (l : Bytes) {n : ℕ} (nonempty : 0 < length l) (e : n ≡ length (up_t
             name = part l 1 n;
             value = p.text;
             is = read_good l nonempty clear e b p.text m.qname p.is;
-            wrote = rw z (and_then (rw name-size at m.wrote) p.wrote);
-            name-size = name-size;
-            value-size = omega arith;
+            wrote = rw z (and_then (rw name_size at m.wrote) p.wrote);
+            name_size = name_size;
+            value_size = omega arith;
             colon = m.colon;
-            colon-within = rw m.colon (omega (arith, colon-within (part l 1 n), name-size));
+            colon_within = rw m.colon (omega (arith, colon_within (part l 1 n), name_size));
             short = omega (arith, p.short, length-drop (n + 2) l);
           }
 
@@ -420,7 +420,7 @@ module _ {s : Bytes} {from size : ℕ} {d e w v : List ℕ} {at used k : ℕ} (t
       laying_within = omega (arith, r.short, sized, t.short)
 
       pub laying_small : Small used m c x
-      laying_small = record { ends = omega (arith, laying_within, laying_end, t.behind.most); colon-within = r.colon-within }
+      laying_small = record { ends = omega (arith, laying_within, laying_end, t.behind.most); colon_within = r.colon_within }
 
       module _ {u : List ℕ} {b : Bool} (p : Put v (k * 4) (row used m c x) u b) where
         module _ (fits : k + 1 ≤ length w / 4) where

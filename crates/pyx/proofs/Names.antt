@@ -35,8 +35,8 @@ colon s = go (ltb (before s) (length s)) refl
     go true e = let b = ltb-true (before s) (length s) e in let n = some-colon s refl b in with_one n b (rw n)
     go false e = let n = none_colon s refl (ltb-false (before s) (length s) e) in without n (rw n)
 
-pub colon-within : (s : Bytes) → colon_of s ≤ length s
-colon-within s = go (colon s)
+pub colon_within : (s : Bytes) → colon_of s ≤ length s
+colon_within s = go (colon s)
   where
     go : Colon s → colon_of s ≤ length s
     go (without n e) = omega arith
@@ -62,7 +62,7 @@ local_of_lem s = go (colon s)
 module _ (w : List ℕ) (at n : ℕ) where
   small : colon_of (part w at n) ≤ n
   unfolding part
-  small = omega (arith, colon-within (take n (drop at w)), length-take n (drop at w))
+  small = omega (arith, colon_within (take n (drop at w)), length-take n (drop at w))
 
   pub prefix_part : prefix_of (part w at n) ≡ part w at (colon_of (part w at n) - 1)
   unfolding part

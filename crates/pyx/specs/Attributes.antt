@@ -56,10 +56,10 @@ pub record Read (l : Bytes) (d e : List ℕ) (at n c v : ℕ) : Type 0 where
   pub value : Bytes
   pub is : read_attribute l ≡ good (attribute name value)
   pub wrote : Wrote d e at (at + n + v) (name ++ value)
-  pub name-size : length name ≡ n
-  pub value-size : length value ≡ v
+  pub name_size : length name ≡ n
+  pub value_size : length value ≡ v
   pub colon : c ≡ colon_of name
-  pub colon-within : c ≤ n
+  pub colon_within : c ≤ n
   pub short : n + v ≤ length l
 
 -- `put_attribute`
@@ -70,7 +70,7 @@ Reads (Held n c v) l d e at = Read l d e at n c v
 -- `enter`: what fits a word
 pub record Small (start name colon value : ℕ) : Type 0 where
   pub ends : start + name + value ≤ 32_768
-  pub colon-within : colon ≤ name
+  pub colon_within : colon ≤ name
 
 -- ---- all lines
 

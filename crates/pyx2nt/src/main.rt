@@ -1,6 +1,7 @@
 // PYX from standard input, N-Triples to standard output, as they come; after a refusal one last line, which says its number and event.
 // The first write or read that fails ends the program, and one line on standard error says which, and behind how much.
 #![tactic(auto)]
+
 ghost use Rattle.std.specs.Prelude.{◌<◌, ◌≡◌, length};
 ghost use Rattle.std.proofs.Math.Option.{none};
 ghost use Rattle.spec.specs.Modes.{base_mode};

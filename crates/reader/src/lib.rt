@@ -1,5 +1,6 @@
 // The three calls. What is kept of a document between them goes in and comes back by value; the stores are lent.
 #![tactic(auto)]
+
 ghost use Rattle.std.specs.Prelude.{◌≡◌, length};
 ghost use Rattle.reader_contract.specs.Meaning.{lawful_parts};
 ghost use Rattle.reader_contract.specs.Meets.{Starts, Steps, Finishes};

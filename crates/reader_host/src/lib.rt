@@ -1,6 +1,7 @@
 // The three calls for a host in C, on numbers and byte buffers: those of crate `reader`, with the state in a lent buffer. The rules of use
 // are in host/iceshaft.h.
 #![tactic(auto)]
+
 ghost use Rattle.std.specs.Prelude.{◌≡◌, ◌+◌, ◌*◌, ◌≤◌, false, [], ◌∷◌, length};
 ghost use Rattle.copy.specs.Copy.{part, Wrote};
 ghost use Rattle.reader_host.specs.Little.{little, value_of, rows_at};

@@ -22,7 +22,7 @@ use Rattle.spec.specs.Calls as calls
 use Rattle.spec.specs.Lists.{After, here, event}
 use Rattle.theorems.specs.Calls.{number_injective, number_positive}
 use Rattle.theorems.specs.Nesting.{always_mode, nested_in}
-use Rattle.rio.specs.Parser.{Result, Err, Ok, Emits, RdfXmlReader, new, parse-step, parse_all}
+use Rattle.rio.specs.Parser.{Result, Err, Ok, Emits, RdfXmlReader, new, parse_step, parse_all}
 use Rattle.rio.specs.Parser as P
 use Rattle.rio.specs.Domain.{InDomain}
 use Rattle.rio.specs.Related.{Related, Both, Same}
@@ -96,11 +96,11 @@ next_refuses last s room d e n f q roomy = on-cut (cut last s) f q
 
 -- an event in the domain that is refused
 rust_refuses : (e : Event) (d : Doc) (n : Refusal) (r : RdfXmlReader) → next e d ≡ refuse n
-    → Both Same (next e d) (parse-step e r)
-    → parse-step e r ≡ Err
-rust_refuses e d n r q h = go (parse-step e r) refl (subst (λ (x : Answer Step). Both Same x (parse-step e r)) q h)
+    → Both Same (next e d) (parse_step e r)
+    → parse_step e r ≡ Err
+rust_refuses e d n r q h = go (parse_step e r) refl (subst (λ (x : Answer Step). Both Same x (parse_step e r)) q h)
   where
-    go : (x : Result (Emits RdfXmlReader)) → parse-step e r ≡ x → Both Same (refuse n) x → parse-step e r ≡ Err
+    go : (x : Result (Emits RdfXmlReader)) → parse_step e r ≡ x → Both Same (refuse n) x → parse_step e r ≡ Err
     go Err p h = p
     go (Ok y) p h = absurd h
 

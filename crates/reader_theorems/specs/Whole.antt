@@ -13,7 +13,7 @@ use Rattle.spec.specs.NTriplesGrammar.{is_n_triples}
 use Rattle.spec.specs.NTriplesReading.{ntriples_doc}
 use Rattle.spec.specs.declared.Mode.{Mode}
 use Rattle.spec.specs.Document.{Doc, fresh}
-use Rattle.spec.specs.StartTag.{rdf-node_id, judge}
+use Rattle.spec.specs.StartTag.{rdf_node_id, judge}
 use Rattle.spec.specs.RdfXml.{next}
 use Rattle.spec.specs.Within.{Within}
 use Rattle.spec.specs.Calls.{is_open, is_closed, unlawful, mark_closed, marked_by, refused, refused_in, may_start, call_start, call_step}
@@ -222,7 +222,7 @@ module _ {mode : Mode} {based : Bool} {base : Bytes} {s : State} {w i : List ℕ
   -- the labels that a next event generates are new
   pub run_labels_new : (d' : Doc) (us : List Triple) (e : Event) → next e (run-lines h).doc ≡ good (us, d')
       → (k : ℕ) → (run-lines h).doc.labels < k → k ≤ d'.labels
-      → ((l : Bytes) → judge rdf-node_id l ≡ good tt → l ≡ label k → ⊥)
+      → ((l : Bytes) → judge rdf_node_id l ≡ good tt → l ≡ label k → ⊥)
       × ((j : ℕ) → j ≤ d'.labels → label j ≡ label k → j ≡ k)
       × Unnamed (blank (label k)) (run-lines h).lines
   run_labels_new d' us e q k lo hi = labels.labels_new mode (base_of based base) (run-lines h).doc d' (run-lines h).lines us e (run-lines h).after q k lo hi

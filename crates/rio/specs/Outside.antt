@@ -16,7 +16,7 @@ use Rattle.spec.specs.XmlLang.{unsaid}
 use Rattle.spec.specs.Document.{node_element, ordinary, Doc, fresh}
 use Rattle.spec.specs.RdfXml.{next}
 use Rattle.spec.specs.RdfXml as X
-use Rattle.rio.specs.Parser.{Ok, RdfXmlReader, new, parse-step, parse_all}
+use Rattle.rio.specs.Parser.{Ok, RdfXmlReader, new, parse_step, parse_all}
 use Rattle.rio.specs.Parser as P
 use Rattle.rio.specs.Related.{object_of_rust, value_state, above, states, depth, scopes, reader_of}
 use Rattle.rio.specs.SameAsRust.{then_read, read_all}
@@ -133,13 +133,13 @@ abbrev labels_spent : Doc
 labels_spent = record { mode = base_mode; start_base = none; frames = []; rooted = false; labels = 99_999_999; ids = [] }
 
 label-again : (next (start_P []) labels_spent ≡ refuse LabelsSpent)
-    × (r : RdfXmlReader) × (parse-step (start_P []) (reader_of labels_spent []) ≡ Ok (is_P "riog00000000" ∷ [], r))
+    × (r : RdfXmlReader) × (parse_step (start_P []) (reader_of labels_spent []) ≡ Ok (is_P "riog00000000" ∷ [], r))
 unfolding X.all P.all reader_of states depth scopes
 label-again = (refl, _, refl)
 
 -- and behind 99,999,999 rdf:li the number is one more
-abbrev lis-spent : Doc
-lis-spent = record {
+abbrev lis_spent : Doc
+lis_spent = record {
   mode = base_mode;
   start_base = none;
   frames = record {
@@ -158,8 +158,8 @@ lis-spent = record {
 abbrev li : List Event
 li = opening (ascii "rdf:li") [] ∷ closing (ascii "rdf:li") ∷ []
 
-li_goes_on : ((read_all li lis-spent).1 ≡ refuse LabelsSpent)
+li_goes_on : ((read_all li lis_spent).1 ≡ refuse LabelsSpent)
     × (r : RdfXmlReader)
-    × (parse_all li (reader_of lis-spent []) ≡ (triple (blank (ascii "k")) (rdf "_100000000") (plain []) ∷ [], Ok r))
+    × (parse_all li (reader_of lis_spent []) ≡ (triple (blank (ascii "k")) (rdf "_100000000") (plain []) ∷ [], Ok r))
 unfolding X.all P.all read_all then_read reader_of states depth scopes above value_state object_of_rust
 li_goes_on = (refl, _, refl)

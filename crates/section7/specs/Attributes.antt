@@ -21,14 +21,14 @@ use Rattle.spec.specs.Pyx.{Attribute, attribute}
 use Rattle.spec.specs.Namespaces.{Binding, is_declaration, name_of, is_known, namespace, joined, expand_attribute, expanded_names}
 use Rattle.spec.specs.Rdf.{rdf}
 use Rattle.spec.specs.Rdf as F
-use Rattle.spec.specs.StartTag.{Role, nothing, xml_lang, xml_base, rdf-ID, rdf_bag_id, rdf-node_id, rdf-about, rdf_resource, rdf_datatype, rdf-parse_type, rdf_type, forbidden, property, role_number, same_role, rdf_roles, role_among, role_of, is_generated, ends_in_stop, judge, known, Meaning, means, meaning, first, property_attributes}
+use Rattle.spec.specs.StartTag.{Role, nothing, xml_lang, xml_base, rdf_ID, rdf_bag_id, rdf_node_id, rdf_about, rdf_resource, rdf_datatype, rdf_parse_type, rdf_type, forbidden, property, role_number, same_role, rdf_roles, role_among, role_of, is_generated, ends_in_stop, judge, known, Meaning, means, meaning, first, property_attributes}
 use Rattle.spec.proofs.Booleans.{and_left, and_right, no_true}
 use Rattle.spec.proofs.Bytes.{same_true, same_refl}
 use Rattle.theorems.specs.AttributeNames.{declaration_xml, declaration_not, named_xml}
 use Rattle.theorems.specs.Roles.{or_none, name_in, has_name, same_role_lem, table_fits, among-name}
 use Rattle.section7.specs.Events.{written, AttributeEvent, uri_of, attribute_uri, is_reserved_term, is_named, attributes}
 use Rattle.section7.specs.Grammar.{old_terms, value, is_rdf_id}
-use Rattle.section7.specs.Differences.{says, is_free-label}
+use Rattle.section7.specs.Differences.{says, is_free_label}
 
 -- ---- an attribute that the reader accepts
 
@@ -86,13 +86,13 @@ in_table : Bytes → Role → Bool
 in_table u nothing = false
 in_table u xml_lang = false
 in_table u xml_base = false
-in_table u rdf-ID = true
+in_table u rdf_ID = true
 in_table u rdf_bag_id = member u no_attributes
-in_table u rdf-node_id = true
-in_table u rdf-about = true
+in_table u rdf_node_id = true
+in_table u rdf_about = true
 in_table u rdf_resource = true
 in_table u rdf_datatype = true
-in_table u rdf-parse_type = true
+in_table u rdf_parse_type = true
 in_table u rdf_type = true
 in_table u forbidden = member u no_attributes
 in_table u property = true
@@ -115,15 +115,15 @@ unfolding judge in_table name_in good_value if◌then◌else◌ F.all require◌
 judge_good nothing u v t n m g = absurd (false≢true t)
 judge_good xml_lang u v t n m g = absurd (false≢true t)
 judge_good xml_base u v t n m g = absurd (false≢true t)
-judge_good rdf-ID u v t n m g = rw (id_value u v (n refl) g)
+judge_good rdf_ID u v t n m g = rw (id_value u v (n refl) g)
 judge_good rdf_bag_id u v t n m g = absurd (false≢true (sym m ∙ t))
-judge_good rdf-node_id u v t n m g =
+judge_good rdf_node_id u v t n m g =
     let h : (is_nc_name v && (not (ends_in_stop v) && not (is_generated v))) ≡ true = label-value u v (n refl) g in
     rw (and_left (is_nc_name v) _ h, and_right (is_nc_name v) _ h)
-judge_good rdf-about u v t n m g = refl
+judge_good rdf_about u v t n m g = refl
 judge_good rdf_resource u v t n m g = refl
 judge_good rdf_datatype u v t n m g = refl
-judge_good rdf-parse_type u v t n m g = refl
+judge_good rdf_parse_type u v t n m g = refl
 judge_good rdf_type u v t n m g = refl
 judge_good forbidden u v t n m g = absurd (false≢true (sym m ∙ t))
 judge_good property u v t n m g = refl
@@ -205,8 +205,8 @@ fine_meaning bs (attribute n v) (event {ns = ns} x p e m g) =
     rw (undeclared n v z, expand_event bs n ns p e, known_event n (ns ++ local_of n) p, other_role n (ns ++ local_of n) z, j)
 
 -- it is one, by the grammar and without a difference
-good_value_lem : (u v : Bytes) → is_rdf_id (u, v) ≡ true → is_free-label (u, v) ≡ true → good_value u v ≡ true
-unfolding good_value is_rdf_id is_free-label member if◌then◌else◌
+good_value_lem : (u v : Bytes) → is_rdf_id (u, v) ≡ true → is_free_label (u, v) ≡ true → good_value u v ≡ true
+unfolding good_value is_rdf_id is_free_label member if◌then◌else◌
 good_value_lem u v h k = go (same u (rdf "ID")) (same u (rdf "nodeID")) (is_nc_name v) (not (ends_in_stop v) && not (is_generated v)) h k
   where
     go : (a b x y : Bool) → (if a || (b || false) then x else true) ≡ true → (if b then y else true) ≡ true → (if a then x else if b then x && y else true) ≡ true
@@ -237,7 +237,7 @@ pub record Accepted (bs : List Binding) (y : Attribute) : Type 0 where
 
 -- and of its event
 abbrev pub AcceptedEvent : AttributeEvent → Type 0
-AcceptedEvent a = (is_rdf_id a ≡ true) × (is_free-label a ≡ true) × (member a.0 no_attributes ≡ false)
+AcceptedEvent a = (is_rdf_id a ≡ true) × (is_free_label a ≡ true) × (member a.0 no_attributes ≡ false)
 
 module _ (bs : List Binding) (n v : Bytes) (k : Accepted bs (attribute n v)) where
   fine_reserved : is_declaration (attribute n v) ≡ false → is_reserved_term n ≡ true → Fine bs (attribute n v)
@@ -315,7 +315,7 @@ module _ (bs : List Binding) (n v : Bytes) (as' : List Attribute) where
 
 -- a role of the rdf namespace that has a name
 pub record RdfRole (r : Role) : Type 0 where
-  pub has-name : has_name r ≡ true
+  pub has_name_lem : has_name r ≡ true
   pub not_nothing : same_role r nothing ≡ false
   pub not_lang : same_role r xml_lang ≡ false
   pub not_base : same_role r xml_base ≡ false
@@ -336,7 +336,7 @@ module _ (bs : List Binding) (r : Role) (k : RdfRole r) where
   first_value (attribute n v ∷ as') (reserved d x q l b, h) =
       rw (means_reserved bs n v as' d x, events_skip bs n v as' x, not_reserved (same n (ascii "xml:lang")) (same n (ascii "xml:base"))) (first_value as' h)
   first_value (attribute n v ∷ as') (event {ns = ns} x p e m g, h) =
-      rw (means_event bs n v as' ns x p e, events_event bs n v as' ns x p e, role_named r (ns ++ local_of n) k.has-name k.in_rdf_context, first_value as' h)
+      rw (means_event bs n v as' ns x p e, events_event bs n v as' ns x p e, role_named r (ns ++ local_of n) k.has_name_lem k.in_rdf_context, first_value as' h)
 
 -- ---- no name twice
 

@@ -10,7 +10,7 @@ use Rattle.spec.specs.Namespaces.{declared, all_legal, expand_element}
 use Rattle.spec.specs.Rdf.{rdf}
 use Rattle.spec.specs.StartTag.{resolved}
 use Rattle.spec.proofs.Booleans.{and_left, and_right}
-use Rattle.section7.specs.Events.{Context, written, inside, is_named, repeats-name}
+use Rattle.section7.specs.Events.{Context, written, inside, is_named, repeats_name}
 use Rattle.section7.specs.Grammar.{value, values, fragment, all_resolved, attrs, is_rdf_id, terms_in, Identifier, identifier, is_new, StartElement}
 use Rattle.section7.specs.Differences as D
 
@@ -27,7 +27,7 @@ check_all test (a ∷ l) h = (and_left (test a) (check test l) h, check_all test
 -- what 7.2 asks of a start tag
 unfoldable pub tests : Context → List Attribute → List Identifier → Bool
 tests c as' ids =
-    all_legal (declared as') && (not (repeats-name (declared as' ++ c.bindings) as') && (check (is_named (declared as' ++ c.bindings)) as'
+    all_legal (declared as') && (not (repeats_name (declared as' ++ c.bindings) as') && (check (is_named (declared as' ++ c.bindings)) as'
     && (not (repeats (terms_in (attrs c as'))) && (check is_rdf_id (attrs c as') && is_new (identifier c as') ids))))
 
 -- its URI, xml:base, and references
@@ -52,24 +52,24 @@ unfolding says_all tests
 start c n as' ids uri base id about resource datatype types h =
     let t : tests c as' ids ≡ true = ap (λ (x : Said). x.0) h in
     let t₁ : _ ≡ true = and_right (all_legal (declared as')) _ t in
-    let t₂ : _ ≡ true = and_right (not (repeats-name (declared as' ++ c.bindings) as')) _ t₁ in
+    let t₂ : _ ≡ true = and_right (not (repeats_name (declared as' ++ c.bindings) as')) _ t₁ in
     let t₃ : _ ≡ true = and_right (check (is_named (declared as' ++ c.bindings)) as') _ t₂ in
     let t₄ : _ ≡ true = and_right (not (repeats (terms_in (attrs c as')))) _ t₃ in
     record {
       legal = and_left (all_legal (declared as')) _ t;
-      once = not-true _ (and_left (not (repeats-name (declared as' ++ c.bindings) as')) _ t₁);
+      once = not-true _ (and_left (not (repeats_name (declared as' ++ c.bindings) as')) _ t₁);
       uri = uri;
       expanded = ap (λ (x : Said). x.1) h;
       all_named = check_all _ as' (and_left (check (is_named (declared as' ++ c.bindings)) as') _ t₂);
       terms_once = not-true _ (and_left (not (repeats (terms_in (attrs c as')))) _ t₃);
       all_ids = check_all _ (attrs c as') (and_left (check is_rdf_id (attrs c as')) _ t₄);
       base = base;
-      base-resolved = ap (λ (x : Said). x.2) h;
+      base_resolved = ap (λ (x : Said). x.2) h;
       id = id;
       id_resolved = ap (λ (x : Said). x.3) h;
       id_new = and_right (check is_rdf_id (attrs c as')) _ t₄;
       about = about;
-      about-resolved = ap (λ (x : Said). x.4) h;
+      about_resolved = ap (λ (x : Said). x.4) h;
       resource = resource;
       resource_resolved = ap (λ (x : Said). x.5) h;
       datatype = datatype;

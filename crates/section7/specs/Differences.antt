@@ -43,8 +43,8 @@ unfoldable pub says : String → (Bytes → Bool) → Attribute → Bool
 says m test (attribute n v) = if same n (ascii m) then test v else true
 
 -- rdf:nodeID, as a label
-unfoldable pub is_free-label : AttributeEvent → Bool
-is_free-label a = if same a.0 (rdf "nodeID") then not (ends_in_stop a.1) && not (is_generated a.1) else true
+unfoldable pub is_free_label : AttributeEvent → Bool
+is_free_label a = if same a.0 (rdf "nodeID") then not (ends_in_stop a.1) && not (is_generated a.1) else true
 
 -- ---- of a start tag
 
@@ -62,7 +62,7 @@ pub record NoDifferenceInTag (c : Context) (as' : List Attribute) : Type 0 where
   -- 5.3: dot segments of xml:base are removed; kept
   pub dots_in_base : resolved c.base_uri (written (ascii "xml:base") as') ≡ good (written (ascii "xml:base") as')
   -- labels are any NCName; 13
-  pub refused-label : All (λ a. is_free-label a ≡ true) (attrs c as')
+  pub refused-label : All (λ a. is_free_label a ≡ true) (attrs c as')
 
 -- ---- of a property element
 
@@ -75,10 +75,10 @@ if_any none test = true
 if_any (some v) test = test v
 
 -- 7.2.16: the text of a property without rdf:parseType
-unfoldable pub literal-text : Option Bytes → Option Bytes → Option Bytes
-literal-text (some v) t = none
-literal-text none none = none
-literal-text none (some t) = if is_empty t then none else some t
+unfoldable pub literal_text : Option Bytes → Option Bytes → Option Bytes
+literal_text (some v) t = none
+literal_text none none = none
+literal_text none (some t) = if is_empty t then none else some t
 
 -- one text, and this
 unfoldable pub is_one : Bytes → List Bytes → Bool
@@ -92,10 +92,10 @@ is_literal_type (some v) = same v (ascii "Literal")
 
 pub record NoDifferenceInProperty (c : Context) (as' : List Attribute) (children : Content) : Type 0 where
   -- 7.2.16: white space is a literal; the empty one
-  pub blank_text : if_any (literal-text (parse_type c as') (text_of_content children)) (λ t. not (is_space_text t)) ≡ true
+  pub blank_text : if_any (literal_text (parse_type c as') (text_of_content children)) (λ t. not (is_space_text t)) ≡ true
   -- 6: text on both sides of an instruction is one; the last piece
   pub divided_text :
-      if_any (literal-text (parse_type c as') (text_of_content children)) (λ t. is_one t (texts (events children))) ≡ true
+      if_any (literal_text (parse_type c as') (text_of_content children)) (λ t. is_one t (texts (events children))) ≡ true
   -- 7.2.21: rdf:type, the only property attribute, is of a node; nothing
   pub type_alone :
       (is_some (parse_type c as') || (is_some (value (rdf "resource") (attrs c as')) || (is_some (node_id c as')
@@ -157,9 +157,9 @@ OneIriEach ids = repeats (map iri_of_identifier ids) ≡ false
 -- of a document with this base, that uses these rdf:IDs
 pub record NoDifferences (b : Option Bytes) (x : Content) (u : Used) : Type 0 where
   pub in_elements : NoDifference document (outermost b) x
-  -- constraint-id: two pairs of a base and an rdf:ID are two; 12 where they are one IRI
+  -- constraint_id: two pairs of a base and an rdf:ID are two; 12 where they are one IRI
   pub ids_of_one_iri : OneIriEach u.ids
 
 unfoldable pub all : Unit {0}
-unfolding G.all texts xml_text says is_free-label if_any literal-text is_one is_literal_type by_parse_type place_under element_uri
+unfolding G.all texts xml_text says is_free_label if_any literal_text is_one is_literal_type by_parse_type place_under element_uri
 all = tt

@@ -202,14 +202,14 @@ xml_literal_comments = record {
 -- ---- of a start tag
 
 -- <e:P .. about="http://e/p"/>
-abbrev about-attributes : List Attribute
-about-attributes = attribute (ascii "about") (ascii "http://e/p") ∷ names
+abbrev about_attributes : List Attribute
+about_attributes = attribute (ascii "about") (ascii "http://e/p") ∷ names
 
-about-tag : StartElement top (ascii "e:P") about-attributes []
+about-tag : StartElement top (ascii "e:P") about_attributes []
 unfolding D.all
 about-tag = start _ _ _ _ (ascii "http://e/P") none none (some (ascii "http://e/p")) none none [] refl
 
-pub names-without_prefix : Differs none (element (ascii "e:P") about-attributes end end)
+pub names-without_prefix : Differs none (element (ascii "e:P") about_attributes end end)
     (type_of_p ∷ [])
     (refuse NoNamespace)
 unfolding D.all lines run gives about-tag
@@ -240,14 +240,14 @@ names_in_capitals = record {
 }
 
 -- <e:P .. xmlns:f="http://e/b" e:bc="1" f:c="2" rdf:about="http://e/p"/>
-abbrev joined-attributes : List Attribute
-joined-attributes = attribute (ascii "xmlns:f") (ascii "http://e/b") ∷ attribute (ascii "e:bc") (ascii "1") ∷ attribute (ascii "f:c") (ascii "2") ∷ p_attributes
+abbrev joined_attributes : List Attribute
+joined_attributes = attribute (ascii "xmlns:f") (ascii "http://e/b") ∷ attribute (ascii "e:bc") (ascii "1") ∷ attribute (ascii "f:c") (ascii "2") ∷ p_attributes
 
-joined-tag : StartElement top (ascii "e:P") joined-attributes []
+joined-tag : StartElement top (ascii "e:P") joined_attributes []
 unfolding D.all
 joined-tag = start _ _ _ _ (ascii "http://e/P") none none (some (ascii "http://e/p")) none none [] refl
 
-pub joined-names : Differs none (element (ascii "e:P") joined-attributes end end)
+pub joined-names : Differs none (element (ascii "e:P") joined_attributes end end)
     (triple p (ascii "http://e/bc") (plain (ascii "1")) ∷ triple p (ascii "http://e/bc") (plain (ascii "2")) ∷ type_of_p ∷ [])
     (refuse NotWellFormed)
 unfolding D.all lines run gives joined-tag
@@ -317,14 +317,14 @@ dots_in_base = record {
 }
 
 -- <e:P .. rdf:nodeID="a."/>
-abbrev label-attributes : Bytes → List Attribute
-label-attributes l = attribute (ascii "rdf:nodeID") l ∷ names
+abbrev label_attributes : Bytes → List Attribute
+label_attributes l = attribute (ascii "rdf:nodeID") l ∷ names
 
-stop_tag : StartElement top (ascii "e:P") (label-attributes (ascii "a.")) []
+stop_tag : StartElement top (ascii "e:P") (label_attributes (ascii "a.")) []
 unfolding D.all
 stop_tag = start _ _ _ _ (ascii "http://e/P") none none none none none [] refl
 
-pub refused-label : Differs none (element (ascii "e:P") (label-attributes (ascii "a.")) end end)
+pub refused-label : Differs none (element (ascii "e:P") (label_attributes (ascii "a.")) end end)
     (triple (blank (ascii "a.")) (rdf "type") (node (named (ascii "http://e/P"))) ∷ [])
     (refuse BadLabel)
 unfolding D.all lines run gives stop_tag
@@ -336,11 +336,11 @@ refused-label = record {
 }
 
 -- <e:P .. rdf:nodeID="riog00000001"/>
-riog_tag : StartElement top (ascii "e:P") (label-attributes (ascii "riog00000001")) []
+riog_tag : StartElement top (ascii "e:P") (label_attributes (ascii "riog00000001")) []
 unfolding D.all
 riog_tag = start _ _ _ _ (ascii "http://e/P") none none none none none [] refl
 
-pub refused-label_generated : Differs none (element (ascii "e:P") (label-attributes (ascii "riog00000001")) end end)
+pub refused-label_generated : Differs none (element (ascii "e:P") (label_attributes (ascii "riog00000001")) end end)
     (triple (blank (ascii "riog00000001")) (rdf "type") (node (named (ascii "http://e/P"))) ∷ [])
     (refuse BadLabel)
 unfolding D.all lines run gives riog_tag

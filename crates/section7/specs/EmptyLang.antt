@@ -18,8 +18,8 @@ use Rattle.section7.specs.Deriving as D
 
 -- ---- the document: <e:P .. xml:lang="en" rdf:about="http://e/p" e:a="v"><e:q xml:lang="">x</e:q></e:P>
 
-abbrev root-attributes : List Attribute
-root-attributes =
+abbrev root_attributes : List Attribute
+root_attributes =
     attribute (ascii "xmlns:rdf") (rdf "") ∷ attribute (ascii "xmlns:e") (ascii "http://e/") ∷
     attribute (ascii "xml:lang") (ascii "en") ∷ attribute (ascii "rdf:about") (ascii "http://e/p") ∷
     attribute (ascii "e:a") (ascii "v") ∷ []
@@ -29,7 +29,7 @@ caption_attributes = attribute (ascii "xml:lang") [] ∷ []
 
 abbrev pub document : Content
 document =
-    element (ascii "e:P") root-attributes
+    element (ascii "e:P") root_attributes
     (element (ascii "e:q") caption_attributes (characters (ascii "x") end) end)
     end
 
@@ -44,13 +44,13 @@ used = record { labels = 1; ids = [] }
 
 -- ---- section 7 accepts it
 
-abbrev root-context : Context
-root-context = outermost none
+abbrev root_context : Context
+root_context = outermost none
 
 abbrev caption_context : Context
-caption_context = inside root-attributes root-context
+caption_context = inside root_attributes root_context
 
-root : StartElement root-context (ascii "e:P") root-attributes []
+root : StartElement root_context (ascii "e:P") root_attributes []
 unfolding D.all
 root = start _ _ _ _ (ascii "http://e/P") none none (some (ascii "http://e/p")) none none [] refl
 
@@ -69,7 +69,7 @@ accepted =
 
 -- ---- and it shows no difference
 
-root-same : NoDifferenceInTag root-context root-attributes
+root-same : NoDifferenceInTag root_context root_attributes
 unfolding D.all
 root-same = record {
   names-without_prefix = (refl, (refl, (refl, (refl, (refl, tt)))));

@@ -17,7 +17,7 @@ use Rattle.spec.specs.Pyx.{Attribute, attribute, Event, opening, closing, text, 
 use Rattle.spec.specs.Namespaces.{Binding, namespace, in_namespace, expand_element, is_declaration, expand_attribute, known_attribute}
 use Rattle.spec.specs.Document.{Value, default, collection, literal, other, Property, Kind, rdf_rdf, wrapper, node_element, property_element, xml_element, Frame, Doc, with_frames, language_in_force, Place, outside, nodes, nodes_or_text, xml, properties, place_in, fits}
 use Rattle.spec.specs.XmlLang.{Language}
-use Rattle.spec.specs.StartTag.{Role, nothing, xml_lang, xml_base, rdf-ID, rdf_bag_id, rdf-node_id, rdf-about, rdf_resource, rdf_datatype, rdf-parse_type, rdf_type, forbidden, property, role_of, judge, known, Meaning, means, meaning, resolved, Tag, read_tag, is_short}
+use Rattle.spec.specs.StartTag.{Role, nothing, xml_lang, xml_base, rdf_ID, rdf_bag_id, rdf_node_id, rdf_about, rdf_resource, rdf_datatype, rdf_parse_type, rdf_type, forbidden, property, role_of, judge, known, Meaning, means, meaning, resolved, Tag, read_tag, is_short}
 use Rattle.spec.specs.Productions.{Opened, one_more, open_node, object_of, open_with_node, open_default, open_resource, open_with, no_parse_type, as_collection, as_resource, as_literal, as_other, ParseType, open_as, open_property, open_root}
 use Rattle.spec.specs.NTriples.{Subject}
 use Rattle.spec.specs.Opening.{Step, counts_fit, mode_rules, under_rules, copy_element, open_element, open_in, on_opening}
@@ -76,13 +76,13 @@ module _ (P : Refusal → Type 0) where
   for_judge nothing v = tt
   for_judge xml_lang v = for_other P _ BadLanguage refl
   for_judge xml_base v = for_other P _ BadIri refl
-  for_judge rdf-ID v = for_other P _ NotNcName refl
+  for_judge rdf_ID v = for_other P _ NotNcName refl
   for_judge rdf_bag_id v = for_other P _ NotNcName refl
-  for_judge rdf-node_id v = for_then P (require is_nc_name v or NotNcName) _ (for_other P _ NotNcName refl) (for_other P _ BadLabel refl)
-  for_judge rdf-about v = tt
+  for_judge rdf_node_id v = for_then P (require is_nc_name v or NotNcName) _ (for_other P _ NotNcName refl) (for_other P _ BadLabel refl)
+  for_judge rdf_about v = tt
   for_judge rdf_resource v = tt
   for_judge rdf_datatype v = tt
-  for_judge rdf-parse_type v = tt
+  for_judge rdf_parse_type v = tt
   for_judge rdf_type v = tt
   for_judge forbidden v = λ h. absurd (false≢true h)
   for_judge property v = tt

@@ -56,19 +56,19 @@ default_shape (some t) as' x =
     only (rdf "ID" ∷ rdf "datatype" ∷ []) as'
 
 -- 7.2.14, by rdf:parseType
-unfoldable pub property-shape : Option Bytes → List AttributeEvent → Content → Bool
-property-shape none as' x = default_shape (text_of_content x) as' x
-property-shape (some v) as' x = only (rdf "ID" ∷ rdf "parseType" ∷ []) as'
+unfoldable pub property_shape : Option Bytes → List AttributeEvent → Content → Bool
+property_shape none as' x = default_shape (text_of_content x) as' x
+property_shape (some v) as' x = only (rdf "ID" ∷ rdf "parseType" ∷ []) as'
 
 -- 7.2.11
-unfoldable pub node-shape : List AttributeEvent → Bool
-node-shape as' = or_properties (rdf "ID" ∷ rdf "nodeID" ∷ rdf "about" ∷ []) as'
+unfoldable pub node_shape : List AttributeEvent → Bool
+node_shape as' = or_properties (rdf "ID" ∷ rdf "nodeID" ∷ rdf "about" ∷ []) as'
 
 -- by where an element stands
 unfoldable pub shape : Place → Bytes → Context → List Attribute → Content → Bool
-shape document uri c as' x = if same uri (rdf "RDF") then is_empty (attrs c as') else node-shape (attrs c as')
-shape nodes uri c as' x = node-shape (attrs c as')
-shape properties uri c as' x = property-shape (parse_type c as') (attrs c as') x
+shape document uri c as' x = if same uri (rdf "RDF") then is_empty (attrs c as') else node_shape (attrs c as')
+shape nodes uri c as' x = node_shape (attrs c as')
+shape properties uri c as' x = property_shape (parse_type c as') (attrs c as') x
 shape xml uri c as' x = true
 
 unfoldable pub is_shaped : Place → Context → Content → Bool
@@ -81,7 +81,7 @@ is_shaped p c (element n as' children following) =
     && (is_shaped (place_under p (element_uri (declared as' ++ c.bindings) n) (parse_type c as')) (inside as' c) children && is_shaped p c following)
 
 unfoldable pub all : Unit {0}
-unfolding D.all only or_properties elements_in is_spaced default_shape property-shape node-shape shape is_shaped
+unfolding D.all only or_properties elements_in is_spaced default_shape property_shape node_shape shape is_shaped
 all = tt
 
 -- ---- the grammar passes it
@@ -148,21 +148,21 @@ inside-other uri v t h o =
 
 -- property elements without rdf:parseType
 module _ (as' : List AttributeEvent) (x : Content) where
-  text_passes : (t : Bytes) → text_of_content x ≡ some t → is_empty t ≡ false → G.Only (rdf "ID" ∷ rdf "datatype" ∷ []) as' → property-shape (value (rdf "parseType") as') as' x ≡ true
-  unfolding property-shape default_shape if◌then◌else◌
+  text_passes : (t : Bytes) → text_of_content x ≡ some t → is_empty t ≡ false → G.Only (rdf "ID" ∷ rdf "datatype" ∷ []) as' → property_shape (value (rdf "parseType") as') as' x ≡ true
+  unfolding property_shape default_shape if◌then◌else◌
   text_passes t h full a = rw (datatype_parse_type as' a, h, full) (passes_only _ as' a)
 
   empty_passes : text_of_content x ≡ some [] → value (rdf "parseType") as' ≡ none
-      → (or_properties (rdf "ID" ∷ rdf "resource" ∷ rdf "nodeID" ∷ []) as' || or_properties (rdf "ID" ∷ rdf "datatype" ∷ []) as') ≡ true → property-shape (value (rdf "parseType") as') as' x ≡ true
-  unfolding property-shape default_shape if◌then◌else◌ is_empty
+      → (or_properties (rdf "ID" ∷ rdf "resource" ∷ rdf "nodeID" ∷ []) as' || or_properties (rdf "ID" ∷ rdf "datatype" ∷ []) as') ≡ true → property_shape (value (rdf "parseType") as') as' x ≡ true
+  unfolding property_shape default_shape if◌then◌else◌ is_empty
   empty_passes h n a = rw (n, h) a
 
-  node_passes : {o : Subject} {c : Context} {u u' : Used} {ts : List Triple} → Matches (node_element_list (o ∷ [])) c x u u' ts → G.Only (rdf "ID" ∷ []) as' → property-shape (value (rdf "parseType") as') as' x ≡ true
-  unfolding property-shape default_shape
+  node_passes : {o : Subject} {c : Context} {u u' : Used} {ts : List Triple} → Matches (node_element_list (o ∷ [])) c x u u' ts → G.Only (rdf "ID" ∷ []) as' → property_shape (value (rdf "parseType") as') as' x ≡ true
+  unfolding property_shape default_shape
   node_passes m a = rw (only-parse_type as' a, no_text_with m, passes_only _ as' a, (counted-nodes m).0, (counted-nodes m).1) refl
 
-  parse_type_passes : (v : Bytes) → value (rdf "parseType") as' ≡ some v → G.Only (rdf "ID" ∷ rdf "parseType" ∷ []) as' → property-shape (value (rdf "parseType") as') as' x ≡ true
-  unfolding property-shape
+  parse_type_passes : (v : Bytes) → value (rdf "parseType") as' ≡ some v → G.Only (rdf "ID" ∷ rdf "parseType" ∷ []) as' → property_shape (value (rdf "parseType") as') as' x ≡ true
+  unfolding property_shape
   parse_type_passes v h a = rw h (passes_only _ as' a)
 
 placed : {p q : Place} (c : Context) (x : Content) → p ≡ q → is_shaped q c x ≡ true → is_shaped p c x ≡ true
@@ -172,7 +172,7 @@ three : (a b c : Bool) → a ≡ true → b ≡ true → c ≡ true → (a && (b
 three a b c p q r = rw (p, q, r)
 
 row_shaped : {r : G.Row} {c : Context} {x : Content} {u u' : Used} {ts : List Triple} → Matches r c x u u' ts → is_shaped (place_of r) c x ≡ true
-unfolding is_shaped shape place_under node-shape
+unfolding is_shaped shape place_under node_shape
 row_shaped G.no_node = refl
 row_shaped G.no_property = refl
 row_shaped (G.ws h m) = row_shaped m
@@ -210,13 +210,13 @@ root-shape : (uri : Bytes) (c : Context) (as' : List Attribute) (x : Content) �
 unfolding shape if◌then◌else◌ is_empty
 root-shape uri c as' x h a = rw (h, same_refl (rdf "RDF"), a)
 
-alone_shape : (uri : Bytes) (c : Context) (as' : List Attribute) (x : Content) → G.node_element_ur_is uri ≡ true → node-shape (attrs c as') ≡ true → shape document uri c as' x ≡ true
+alone_shape : (uri : Bytes) (c : Context) (as' : List Attribute) (x : Content) → G.node_element_ur_is uri ≡ true → node_shape (attrs c as') ≡ true → shape document uri c as' x ≡ true
 unfolding shape if◌then◌else◌
 alone_shape uri c as' x h a = rw (not_root uri h) a
 
 -- what section 7 accepts passes it
 pub accepted_shaped : (b : Option Bytes) {x : Content} {u : Used} {ts : List Triple} → Accepts b x u ts → is_shaped document (outermost b) x ≡ true
-unfolding is_shaped node-shape
+unfolding is_shaped node_shape
 accepted_shaped b (RDF {n = n} {as' = as'} {children = children} {f = f} e h a m misc) =
     let z : element_uri (declared as' ++ []) n ≡ rdf "RDF" = uri_same b n as' e ∙ h in
     three _ _ _ (root-shape _ _ as' children z a) (placed (inside as' (outermost b)) children (inside-rdf _ _ z) (row_shaped m)) (misc_shaped document (outermost b) f misc)

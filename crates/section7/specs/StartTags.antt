@@ -24,7 +24,7 @@ use Rattle.spec.proofs.Bytes.{same_true, same_refl}
 use Rattle.spec.specs.Rdf as F
 use Rattle.spec.specs.Modes.{base_mode}
 use Rattle.spec.specs.Document.{Kind, ordinary, Frame, Doc, with_kind, with_part, in_scope, language_in_force, base_in_force, place_in, in_kind}
-use Rattle.spec.specs.StartTag.{rdf-ID, rdf-node_id, rdf-about, rdf_resource, rdf_datatype, rdf-parse_type, rdf_type, role_number, same_role, rdf_roles, role_among, resolved, with_hash, is_unused, Tag, read_tag, is_short}
+use Rattle.spec.specs.StartTag.{rdf_ID, rdf_node_id, rdf_about, rdf_resource, rdf_datatype, rdf_parse_type, rdf_type, role_number, same_role, rdf_roles, role_among, resolved, with_hash, is_unused, Tag, read_tag, is_short}
 use Rattle.spec.specs.Productions.{Opened}
 use Rattle.spec.specs.Xmp.{starts_wrapper, new_part, noted}
 use Rattle.spec.specs.Opening.{enter, counted, count_li, opened, open_element, open_in, is_xml, is_second_root, repeated, on_opening}
@@ -34,40 +34,40 @@ use Rattle.theorems.specs.Rules.{no_rules}
 use Rattle.theorems.specs.Roles.{or_none, name_in}
 use Rattle.section7.specs.Events.{Context, written, target, language_under, inside, AttributeEvent, attributes, uri_of, is_reserved_term, is_named}
 use Rattle.section7.specs.Grammar.{value, values, is_rdf_id, all_resolved, type_triple, type_triples, Identifier, under, identifier, entered, fragment, iri_of_identifier, StartElement, Used, attrs, node_id}
-use Rattle.section7.specs.Differences.{says, is_free-label, NoDifferenceInTag, OneIriEach}
+use Rattle.section7.specs.Differences.{says, is_free_label, NoDifferenceInTag, OneIriEach}
 use Rattle.section7.specs.Reading.{Gives, Steps, doc, context}
 use Rattle.section7.specs.Giving.{gives-limit, gives_pass, gives-within, Produces}
 use Rattle.section7.specs.Attributes.{Fine, Accepted, AcceptedEvent, no_attributes, says_then, fine_all, fine_meanings, RdfRole, once_among, first_value, is_property, property-events, first_lang, first_base}
 
 -- ---- the roles
 
-id_role : RdfRole rdf-ID
+id_role : RdfRole rdf_ID
 unfolding same_role role_number role_among rdf_roles name_in if◌then◌else◌ F.all
-id_role = record { has-name = refl; not_nothing = refl; not_lang = refl; not_base = refl; in_rdf_context = refl }
+id_role = record { has_name_lem = refl; not_nothing = refl; not_lang = refl; not_base = refl; in_rdf_context = refl }
 
-node_id_role : RdfRole rdf-node_id
+node_id_role : RdfRole rdf_node_id
 unfolding same_role role_number role_among rdf_roles name_in if◌then◌else◌ F.all
-node_id_role = record { has-name = refl; not_nothing = refl; not_lang = refl; not_base = refl; in_rdf_context = refl }
+node_id_role = record { has_name_lem = refl; not_nothing = refl; not_lang = refl; not_base = refl; in_rdf_context = refl }
 
-about_role : RdfRole rdf-about
+about_role : RdfRole rdf_about
 unfolding same_role role_number role_among rdf_roles name_in if◌then◌else◌ F.all
-about_role = record { has-name = refl; not_nothing = refl; not_lang = refl; not_base = refl; in_rdf_context = refl }
+about_role = record { has_name_lem = refl; not_nothing = refl; not_lang = refl; not_base = refl; in_rdf_context = refl }
 
 resource_role : RdfRole rdf_resource
 unfolding same_role role_number role_among rdf_roles name_in if◌then◌else◌ F.all
-resource_role = record { has-name = refl; not_nothing = refl; not_lang = refl; not_base = refl; in_rdf_context = refl }
+resource_role = record { has_name_lem = refl; not_nothing = refl; not_lang = refl; not_base = refl; in_rdf_context = refl }
 
 datatype_role : RdfRole rdf_datatype
 unfolding same_role role_number role_among rdf_roles name_in if◌then◌else◌ F.all
-datatype_role = record { has-name = refl; not_nothing = refl; not_lang = refl; not_base = refl; in_rdf_context = refl }
+datatype_role = record { has_name_lem = refl; not_nothing = refl; not_lang = refl; not_base = refl; in_rdf_context = refl }
 
-parse_type_role : RdfRole rdf-parse_type
+parse_type_role : RdfRole rdf_parse_type
 unfolding same_role role_number role_among rdf_roles name_in if◌then◌else◌ F.all
-parse_type_role = record { has-name = refl; not_nothing = refl; not_lang = refl; not_base = refl; in_rdf_context = refl }
+parse_type_role = record { has_name_lem = refl; not_nothing = refl; not_lang = refl; not_base = refl; in_rdf_context = refl }
 
 type_role : RdfRole rdf_type
 unfolding same_role role_number role_among rdf_roles name_in if◌then◌else◌ F.all
-type_role = record { has-name = refl; not_nothing = refl; not_lang = refl; not_base = refl; in_rdf_context = refl }
+type_role = record { has_name_lem = refl; not_nothing = refl; not_lang = refl; not_base = refl; in_rdf_context = refl }
 
 -- ---- rdf:IDs
 
@@ -204,7 +204,7 @@ pub record Readable (c : Context) (n : Bytes) (as' : List Attribute) (u : Used) 
   pub fine : All (Fine (declared as' ++ c.bindings)) as'
   pub joined : repeats_expanded (declared as' ++ c.bindings) as' ≡ false
   pub base_same : (inside as' c).base_uri ≡ or_else (written (ascii "xml:base") as') c.base_uri
-  pub language-same : (inside as' c).language ≡ in_force (own_of (written (ascii "xml:lang") as')) c.language
+  pub language_same : (inside as' c).language ≡ in_force (own_of (written (ascii "xml:lang") as')) c.language
   pub unused : is_unused e.id (map iri_of_identifier u.ids) ≡ true
   pub one_type : few e.types ≡ true
 
@@ -216,7 +216,7 @@ all_accepted bs [] g h i k l = tt
 all_accepted bs (y ∷ as') g h i k l =
     (record { named = g.0; prefixed = h.0; small = i.0; tag = k.0; base = l.0 }, all_accepted bs as' g.1 h.1 i.1 k.1 l.1)
 
-all_events : (es : List AttributeEvent) → All (λ a. is_rdf_id a ≡ true) es → All (λ a. is_free-label a ≡ true) es → All (λ a. member a.0 no_attributes ≡ false) es → All AcceptedEvent es
+all_events : (es : List AttributeEvent) → All (λ a. is_rdf_id a ≡ true) es → All (λ a. is_free_label a ≡ true) es → All (λ a. member a.0 no_attributes ≡ false) es → All AcceptedEvent es
 all_events [] g h i = tt
 all_events (a ∷ es) g h i = ((g.0, h.0, i.0), all_events es g.1 h.1 i.1)
 
@@ -238,7 +238,7 @@ readable c n as' u e d a o =
       fine = fine;
       joined = d.joined-names;
       base_same = same-base_uri as' c.base_uri d.dots_in_base;
-      language-same = same-language as' c.language d.other-language;
+      language_same = same-language as' c.language d.other-language;
       unused = unused_iri u.ids e.id (rw (entered_iri u.ids (inside as' c).base_uri (value (rdf "ID") (attrs c as')) e.id e.id_resolved) o);
       one_type = few_types _ _ e.types (few-values (rdf "type") (attrs c as') (once_among bs as' fine (names_once bs as' d.joined-names))) e.types_resolved;
     }
@@ -298,21 +298,21 @@ module _ (c : Context) (n : Bytes) (as' : List Attribute) (u : Used) (e : StartE
           first_base bs as' r.fine,
           first_lang bs as' r.fine,
           ← r.base_same,
-          ← r.language-same,
-          first_value bs rdf-ID id_role as' r.fine,
+          ← r.language_same,
+          first_value bs rdf_ID id_role as' r.fine,
           hash_same (value (rdf "ID") (attrs c as')),
           e.id_resolved,
           r.unused,
-          first_value bs rdf-about about_role as' r.fine,
-          e.about-resolved,
+          first_value bs rdf_about about_role as' r.fine,
+          e.about_resolved,
           first_value bs rdf_resource resource_role as' r.fine,
           e.resource_resolved,
           first_value bs rdf_datatype datatype_role as' r.fine,
           e.datatype_resolved,
           first_value bs rdf_type type_role as' r.fine,
           type_first (inside as' c).base_uri (attrs c as') e.types e.types_resolved,
-          first_value bs rdf-node_id node_id_role as' r.fine,
-          first_value bs rdf-parse_type parse_type_role as' r.fine,
+          first_value bs rdf_node_id node_id_role as' r.fine,
+          first_value bs rdf_parse_type parse_type_role as' r.fine,
           property-events bs as' r.fine,
         )
 
@@ -347,4 +347,4 @@ module _ (c : Context) (n : Bytes) (as' : List Attribute) (u : Used) (e : StartE
         let qu : c.base_uri ≡ base_in_force b fs = ap (λ (x : Context). x.base_uri) q in
         let ql : c.language ≡ language_in_force fs = ap (λ (x : Context). x.language) q in
         same-context (inside as' c) (inside_bindings ∙ ap (λ (x : List Binding). declared as' ++ x) qb)
-        (r.base_same ∙ ap (or_else (written (ascii "xml:base") as')) qu) (r.language-same ∙ ap (in_force (own_of (written (ascii "xml:lang") as'))) ql)
+        (r.base_same ∙ ap (or_else (written (ascii "xml:base") as')) qu) (r.language_same ∙ ap (in_force (own_of (written (ascii "xml:lang") as'))) ql)

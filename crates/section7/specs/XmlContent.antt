@@ -23,7 +23,7 @@ use Rattle.spec.specs.RdfXml.{on_text, on_event, next}
 use Rattle.spec.proofs.Bytes.{same_refl}
 use Rattle.theorems.specs.AttributeNames.{known_each}
 use Rattle.theorems.specs.Roles.{or_none}
-use Rattle.section7.specs.Events.{Content, end, characters, instruction, comment, element, ended, events_after, same_name, stands_in, repeats-name}
+use Rattle.section7.specs.Events.{Content, end, characters, instruction, comment, element, ended, events_after, same_name, stands_in, repeats_name}
 use Rattle.section7.specs.Grammar.{WellFormedTag, XmlContent, Used}
 use Rattle.section7.specs.Differences.{xml_text}
 use Rattle.section7.specs.Reading.{Gives, Steps, Runs, doc}
@@ -39,11 +39,11 @@ not_written bs n (attribute m v ∷ as') h =
     rw (or_none (same n m) _ k.0).0 (not_written bs n as' k.1)
 
 -- attributes that are unique are so as written
-written_once : (bs : List Binding) (as' : List Attribute) → repeats-name bs as' ≡ false → repeats_written as' ≡ false
-unfolding repeats-name repeats_written repeats name_of
+written_once : (bs : List Binding) (as' : List Attribute) → repeats_name bs as' ≡ false → repeats_written as' ≡ false
+unfolding repeats_name repeats_written repeats name_of
 written_once bs [] h = refl
 written_once bs (attribute n v ∷ as') h =
-    let k : (stands_in bs n as' ≡ false) × (repeats-name bs as' ≡ false) = or_none (stands_in bs n as') (repeats-name bs as') h in
+    let k : (stands_in bs n as' ≡ false) × (repeats_name bs as' ≡ false) = or_none (stands_in bs n as') (repeats_name bs as') h in
     rw (not_written bs n as' k.0) (written_once bs as' k.1)
 
 -- ---- XML text

@@ -27,19 +27,19 @@ use Rattle.spec.specs.Rdf as F
 
 -- what an attribute is there for
 pub data Role : Type 0 where
-  nothing xml_lang xml_base rdf-ID rdf_bag_id rdf-node_id rdf-about rdf_resource rdf_datatype rdf-parse_type rdf_type forbidden property : Role
+  nothing xml_lang xml_base rdf_ID rdf_bag_id rdf_node_id rdf_about rdf_resource rdf_datatype rdf_parse_type rdf_type forbidden property : Role
 
 unfoldable pub role_number : Role → ℕ
 role_number nothing = 0
 role_number xml_lang = 1
 role_number xml_base = 2
-role_number rdf-ID = 3
+role_number rdf_ID = 3
 role_number rdf_bag_id = 4
-role_number rdf-node_id = 5
-role_number rdf-about = 6
+role_number rdf_node_id = 5
+role_number rdf_about = 6
 role_number rdf_resource = 7
 role_number rdf_datatype = 8
-role_number rdf-parse_type = 9
+role_number rdf_parse_type = 9
 role_number rdf_type = 10
 role_number forbidden = 11
 role_number property = 12
@@ -50,8 +50,8 @@ same_role a b = eqb (role_number a) (role_number b)
 -- the names of the rdf namespace that are no properties; four are reserved
 unfoldable pub rdf_roles : List (String × Role)
 rdf_roles =
-    ("ID", rdf-ID) ∷ ("bagID", rdf_bag_id) ∷ ("nodeID", rdf-node_id) ∷ ("about", rdf-about) ∷ ("resource", rdf_resource) ∷ ("datatype", rdf_datatype) ∷
-    ("parseType", rdf-parse_type) ∷ ("type", rdf_type) ∷
+    ("ID", rdf_ID) ∷ ("bagID", rdf_bag_id) ∷ ("nodeID", rdf_node_id) ∷ ("about", rdf_about) ∷ ("resource", rdf_resource) ∷ ("datatype", rdf_datatype) ∷
+    ("parseType", rdf_parse_type) ∷ ("type", rdf_type) ∷
     ("aboutEach", forbidden) ∷ ("aboutEachPrefix", forbidden) ∷ ("li", forbidden) ∷ ("RDF", forbidden) ∷ []
 
 -- any other name is a property
@@ -81,13 +81,13 @@ unfoldable pub judge : Role → Bytes → Answer (Unit {0})
 judge nothing v = good tt
 judge xml_lang v = require is_allowed (verdict v) or BadLanguage
 judge xml_base v = require is_iri v or BadIri
-judge rdf-ID v = require is_nc_name v or NotNcName
+judge rdf_ID v = require is_nc_name v or NotNcName
 judge rdf_bag_id v = require is_nc_name v or NotNcName
-judge rdf-node_id v = (require is_nc_name v or NotNcName) >> (require not (ends_in_stop v) && not (is_generated v) or BadLabel)
-judge rdf-about v = good tt
+judge rdf_node_id v = (require is_nc_name v or NotNcName) >> (require not (ends_in_stop v) && not (is_generated v) or BadLabel)
+judge rdf_about v = good tt
 judge rdf_resource v = good tt
 judge rdf_datatype v = good tt
-judge rdf-parse_type v = good tt
+judge rdf_parse_type v = good tt
 judge rdf_type v = good tt
 judge forbidden v = refuse Reserved
 judge property v = good tt
@@ -166,9 +166,9 @@ read_tag n as' d = do
   ms ← each (meaning scope) as'
   let base = or_else (first xml_base ms) (base_in_force d.start_base d.frames)
   let tag = own_of (first xml_lang ms)
-  id' ← resolved base (with_hash (first rdf-ID ms))
+  id' ← resolved base (with_hash (first rdf_ID ms))
   require is_unused id' d.ids or RepeatedId
-  about' ← resolved base (first rdf-about ms)
+  about' ← resolved base (first rdf_about ms)
   resource' ← resolved base (first rdf_resource ms)
   datatype' ← resolved base (first rdf_datatype ms)
   type' ← resolved base (first rdf_type ms)
@@ -180,8 +180,8 @@ read_tag n as' d = do
     own_base = first xml_base ms;
     own_tag = tag;
     language = in_force tag (language_in_force d.frames);
-    node_id = first rdf-node_id ms;
-    parse_type = first rdf-parse_type ms;
+    node_id = first rdf_node_id ms;
+    parse_type = first rdf_parse_type ms;
     attributes = property_attributes ms;
     id = id';
     about = about';

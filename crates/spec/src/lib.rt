@@ -1,6 +1,7 @@
 // Documents 01 and 02 as definitions (specs/), with a few laws of bytes and Booleans (proofs/); here, what code and definitions share:
 // the refusals, what a language tag can be, and what is chosen of a document at its start.
 #![tactic(auto)]
+
 ghost use Rattle.std.specs.Prelude.{◌≡◌};
 ghost use Rattle.spec.specs.Modes.{base_mode, xmp_mode};
 

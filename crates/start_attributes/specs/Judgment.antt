@@ -3,7 +3,7 @@ use Rattle.std.specs.Prelude.{◌≡◌, refl, Bool, true, false}
 use Rattle.spec.specs.Bytes.{Bytes, ◌>>◌, require◌or◌}
 use Rattle.spec.specs.Numbers.{Answer, refuse, good}
 use Rattle.spec.specs.declared.Refusal.TheVariants.{NotNcName, BadLabel, BadLanguage}
-use Rattle.spec.specs.StartTag.{xml_lang, rdf-node_id, ends_in_stop, is_generated, judge}
+use Rattle.spec.specs.StartTag.{xml_lang, rdf_node_id, ends_in_stop, is_generated, judge}
 use Rattle.spec.specs.XmlNames.{is_nc_name}
 use Rattle.spec.specs.declared.Verdict.{Verdict}
 use Rattle.spec.specs.declared.Verdict.TheVariants as verdict-is
@@ -19,20 +19,20 @@ said (Stop r) a = refuse r
 -- ---- the tests of `judge_label`
 
 module _ (v : Bytes) where
-  pub no_name : is_nc_name v ≡ false → refuse NotNcName ≡ judge rdf-node_id v
+  pub no_name : is_nc_name v ≡ false → refuse NotNcName ≡ judge rdf_node_id v
   unfolding judge ◌>>◌ require◌or◌
   no_name h = rw h
 
   module _ (n : is_nc_name v ≡ true) where
-    pub ends_in_stop_lem : ends_in_stop v ≡ true → refuse BadLabel ≡ judge rdf-node_id v
+    pub ends_in_stop_lem : ends_in_stop v ≡ true → refuse BadLabel ≡ judge rdf_node_id v
     unfolding judge ◌>>◌ require◌or◌
     ends_in_stop_lem h = rw (n, h)
 
-    pub is_generated_lem : ends_in_stop v ≡ false → is_generated v ≡ true → refuse BadLabel ≡ judge rdf-node_id v
+    pub is_generated_lem : ends_in_stop v ≡ false → is_generated v ≡ true → refuse BadLabel ≡ judge rdf_node_id v
     unfolding judge ◌>>◌ require◌or◌
     is_generated_lem h g = rw (n, h, g)
 
-    pub is_label : ends_in_stop v ≡ false → is_generated v ≡ false → good tt ≡ judge rdf-node_id v
+    pub is_label : ends_in_stop v ≡ false → is_generated v ≡ false → good tt ≡ judge rdf_node_id v
     unfolding judge ◌>>◌ require◌or◌
     is_label h g = rw (n, h, g)
 

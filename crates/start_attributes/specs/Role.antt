@@ -20,13 +20,13 @@ abbrev pub role_is : Role → S.Role
 role_is Nothing = S.nothing
 role_is XmlLang = S.xml_lang
 role_is XmlBase = S.xml_base
-role_is Id = S.rdf-ID
+role_is Id = S.rdf_ID
 role_is BagId = S.rdf_bag_id
-role_is NodeId = S.rdf-node_id
-role_is About = S.rdf-about
+role_is NodeId = S.rdf_node_id
+role_is About = S.rdf_about
 role_is Resource = S.rdf_resource
 role_is Datatype = S.rdf_datatype
-role_is ParseType = S.rdf-parse_type
+role_is ParseType = S.rdf_parse_type
 role_is «Type» = S.rdf_type
 role_is Forbidden = S.forbidden
 role_is Property = S.property

@@ -1,7 +1,7 @@
 // What an attribute is there for, its role, by its name; and whether its value is good in it.
 ghost use Rattle.std.specs.Prelude.{◌≡◌, ◌++◌};
 ghost use Rattle.spec.specs.Bytes.{require◌or◌};
-ghost use Rattle.spec.specs.StartTag.{role_number, role_of, judge, xml_lang, rdf-node_id};
+ghost use Rattle.spec.specs.StartTag.{role_number, role_of, judge, xml_lang, rdf_node_id};
 ghost use Rattle.start_attributes.specs.Role.{role_is, attribute_role};
 ghost use Rattle.start_attributes.specs.Judgment.{said};
 
@@ -117,7 +117,7 @@ fn attribute_role(term: RdfTerm) -> Role
 
 // 9 and 13 of a node's name.
 fn judge_label(value: &[u8]) -> Judgment
-    ensures { said result tt ≡ judge rdf-node_id value.now }
+    ensures { said result tt ≡ judge rdf_node_id value.now }
 {
     if !utils::is_nc_name(value) {
         return Judgment::Stop(Refusal::NotNcName);

@@ -1,5 +1,6 @@
 // A start tag outside Literal content that was judged good, carried out: its lines measured and written, its element and its rdf:ID kept.
 #![tactic(auto)]
+
 ghost use Rattle.std.specs.Prelude.{◌≡◌, true, false, ◌||◌, length, take};
 ghost use Rattle.spec.specs.NTriples.{write};
 ghost use Rattle.spec.specs.Pyx.{opening};

@@ -8,7 +8,7 @@ use Rattle.spec.specs.Numbers.{Answer, refuse, good}
 use Rattle.spec.specs.declared.Refusal.{Refusal}
 use Rattle.spec.specs.declared.Refusal.TheVariants.{BadIri, RepeatedId}
 use Rattle.spec.specs.Limits.{most_name_bytes}
-use Rattle.spec.specs.StartTag.{rdf-ID, rdf-about, rdf_resource, rdf_datatype, rdf_type, Meaning, first, resolved, with_hash, is_unused}
+use Rattle.spec.specs.StartTag.{rdf_ID, rdf_about, rdf_resource, rdf_datatype, rdf_type, Meaning, first, resolved, with_hash, is_unused}
 use Rattle.spec.proofs.Booleans.{no_true}
 use Rattle.copy.specs.Copy.{part}
 use Rattle.copy.specs.Texts.{same_true}
@@ -55,13 +55,13 @@ references base fresh v = do
 
 -- the values in the five roles
 unfoldable pub five_of : List Meaning → Five
-five_of ms = record { id = first rdf-ID ms; about = first rdf-about ms; resource = first rdf_resource ms; datatype = first rdf_datatype ms; type = first rdf_type ms }
+five_of ms = record { id = first rdf_ID ms; about = first rdf_about ms; resource = first rdf_resource ms; datatype = first rdf_datatype ms; type = first rdf_type ms }
 
 unfoldable pub five_at : List ℕ → List ℕ → ℕ → List ℕ → Five
 five_at e w k rs =
     record {
-      id = value_if e w k (first_in rs k rdf-ID);
-      about = value_if e w k (first_in rs k rdf-about);
+      id = value_if e w k (first_in rs k rdf_ID);
+      about = value_if e w k (first_in rs k rdf_about);
       resource = value_if e w k (first_in rs k rdf_resource);
       datatype = value_if e w k (first_in rs k rdf_datatype);
       type = value_if e w k (first_in rs k rdf_type);
@@ -70,7 +70,7 @@ five_at e w k rs =
 pub five_means : {e w v cs rs : List ℕ} {k : ℕ} → Roles e w v cs rs k → five_of (meanings_of e w v cs k) ≡ five_at e w k rs
 unfolding five_of five_at
 five_means h =
-    rw (first_value h rdf-ID, first_value h rdf-about, first_value h rdf_resource, first_value h rdf_datatype, first_value h rdf_type)
+    rw (first_value h rdf_ID, first_value h rdf_about, first_value h rdf_resource, first_value h rdf_datatype, first_value h rdf_type)
 
 -- ---- rdf:ID, and the table of those that were used
 

@@ -2,7 +2,7 @@
 #![tactic(auto)]
 
 ghost use Rattle.std.specs.Prelude.{◌≡◌};
-ghost use Rattle.spec.specs.StartTag.{resolved, with_hash, rdf-ID};
+ghost use Rattle.spec.specs.StartTag.{resolved, with_hash, rdf_ID};
 ghost use Rattle.state_inner.specs.Calls.{base_in};
 ghost use Rattle.start_references.specs.Reference.{given, Resolves};
 ghost use Rattle.start_attributes.specs.Role.{role_is};
@@ -177,7 +177,7 @@ fn resolve_id(
     area: &mut [u8],
 ) -> Reference
     requires { Ready scratch.now area.old 0 }
-    ensures { Resolves (resolved (given based base.now) (with_hash (value_if scratch.now spans.now k (first_in roles.now k rdf-ID)))) area.old area.new 0 result }
+    ensures { Resolves (resolved (given based base.now) (with_hash (value_if scratch.now spans.now k (first_in roles.now k rdf_ID)))) area.old area.new 0 result }
 {
     let j = start_attributes::first_in(roles, k, Role::Id);
     if k <= j {

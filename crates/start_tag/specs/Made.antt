@@ -13,7 +13,7 @@ use Rattle.spec.specs.declared.Refusal.TheVariants.{NoNamespace}
 use Rattle.spec.specs.Limits.{most_name_bytes, most_held_bytes}
 use Rattle.spec.specs.Abnf.{lower}
 use Rattle.spec.specs.Namespaces.{xml_name}
-use Rattle.spec.specs.StartTag.{xml_base, xml_lang, rdf-node_id, rdf-parse_type, property}
+use Rattle.spec.specs.StartTag.{xml_base, xml_lang, rdf_node_id, rdf_parse_type, property}
 use Rattle.copy.specs.Copy.{part, Put, Wrote, put-fits, then as row, wrote_part}
 use Rattle.spec.specs.XmlLang.{unsaid}
 use Rattle.state.specs.Language.{said_as, said_if, own_in, tag_of_own, own_of_code, is_said}
@@ -205,8 +205,8 @@ pub record Finished (f : Found) (name : Bytes) (c : ℕ) (e w : List ℕ) (k : �
   pub iri : Refers t.iri after 5120 (iri_of (found_bytes e v f) (back_of c name))
   pub base : t.base ≡ first_in rs k xml_base
   pub language : t.language ≡ tag_at_place e w (first_in rs k xml_lang) k
-  pub node : t.node ≡ first_in rs k rdf-node_id
-  pub parse : t.parse ≡ first_in rs k rdf-parse_type
+  pub node : t.node ≡ first_in rs k rdf_node_id
+  pub parse : t.parse ≡ first_in rs k rdf_parse_type
   pub properties : t.properties ≡ ltb (first_in rs k property) k
   pub id : t.id ≡ r.id
   pub about : t.about ≡ r.others.about
@@ -222,7 +222,7 @@ pub record Finished (f : Found) (name : Bytes) (c : ℕ) (e w : List ℕ) (k : �
 pub finished : {f : Found} {name : Bytes} {c : ℕ} {e w : List ℕ} {k : ℕ} {v cs rs : List ℕ} {r : References} {area b after : List ℕ} {iri : Reference}
     {base place node parse other : ℕ} {language : code.Own} {short : Bool}
     → Resolves (iri_of (found_bytes e v f) (back_of c name)) area b 5120 iri → MadeLanguage e w k place b after language
-    → base ≡ first_in rs k xml_base → place ≡ first_in rs k xml_lang → node ≡ first_in rs k rdf-node_id → parse ≡ first_in rs k rdf-parse_type → other ≡ first_in rs k property
+    → base ≡ first_in rs k xml_base → place ≡ first_in rs k xml_lang → node ≡ first_in rs k rdf_node_id → parse ≡ first_in rs k rdf_parse_type → other ≡ first_in rs k property
     → short ≡ short_by iri (every (short_at e w v cs) (places 0 k)) (value_if e w k base) r
     → Finished f name c e w k v cs rs r area after
     (record {

@@ -14,7 +14,7 @@ use Rattle.spec.specs.Abnf.{lower}
 use Rattle.spec.specs.Pyx.{Attribute}
 use Rattle.spec.specs.Namespaces.{declared, namespace, expand_element, expanded_names}
 use Rattle.spec.specs.Document.{Doc, in_scope, language_in_force, base_in_force}
-use Rattle.spec.specs.StartTag.{Meaning, meaning, first, xml_base, xml_lang, rdf-node_id, rdf-parse_type, property, property_attributes, resolved, with_hash, is_unused, read_tag, all_short, is_short}
+use Rattle.spec.specs.StartTag.{Meaning, meaning, first, xml_base, xml_lang, rdf_node_id, rdf_parse_type, property, property_attributes, resolved, with_hash, is_unused, read_tag, all_short, is_short}
 use Rattle.spec.specs.StartTag as S
 use Rattle.copy.specs.Copy.{part}
 use Rattle.state_words.specs.Kept.{Kept}
@@ -144,8 +144,8 @@ tag_from n as' d i ms x =
       own_base = first xml_base ms;
       own_tag = own_of (first xml_lang ms);
       language = X.in_force (own_of (first xml_lang ms)) (language_in_force d.frames);
-      node_id = first rdf-node_id ms;
-      parse_type = first rdf-parse_type ms;
+      node_id = first rdf_node_id ms;
+      parse_type = first rdf_parse_type ms;
       attributes = property_attributes ms;
       id = x.id;
       about = x.about;
@@ -199,8 +199,8 @@ module _ (n : Bytes) (as' : List Attribute) (d : Doc) where
       apart =
           rw (h, q)
           (made_of (λ o. is_unused o d.ids) (tag_from n as' d i ms)
-          (resolved (or_else (first xml_base ms) (base_in_force d.start_base d.frames)) (with_hash (first S.rdf-ID ms)))
-          (resolved (or_else (first xml_base ms) (base_in_force d.start_base d.frames)) (first S.rdf-about ms))
+          (resolved (or_else (first xml_base ms) (base_in_force d.start_base d.frames)) (with_hash (first S.rdf_ID ms)))
+          (resolved (or_else (first xml_base ms) (base_in_force d.start_base d.frames)) (first S.rdf_about ms))
           (resolved (or_else (first xml_base ms) (base_in_force d.start_base d.frames)) (first S.rdf_resource ms))
           (resolved (or_else (first xml_base ms) (base_in_force d.start_base d.frames)) (first S.rdf_datatype ms))
           (resolved (or_else (first xml_base ms) (base_in_force d.start_base d.frames)) (first S.rdf_type ms)))
@@ -412,8 +412,8 @@ module _ (r : Registers) (fs bs v : List ℕ) (count : ℕ) (at len store : List
                 said = fin.language;
                 own_tag = language_is roles_are after refl fin.lowered allowed;
                 language = refl;
-                node_id = value_is roles_are rdf-node_id fin.node;
-                parse_type = value_is roles_are rdf-parse_type fin.parse;
+                node_id = value_is roles_are rdf_node_id fin.node;
+                parse_type = value_is roles_are rdf_parse_type fin.parse;
                 attributes = refl;
                 properties = fin.properties ∙ properties_are roles_are;
                 id = moved 0 five.id fin.id reached.id (omega arith);

@@ -1,5 +1,6 @@
 // Start tags outside Literal content: judged rule by rule, and carried out where nothing is wrong.
 #![tactic(auto)]
+
 ghost use Rattle.std.specs.Prelude.{◌≡◌, false, [], length, take};
 ghost use Rattle.spec.specs.Pyx.{opening};
 ghost use Rattle.start_names.specs.Tag.{attributes_of};

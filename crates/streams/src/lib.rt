@@ -1,6 +1,7 @@
 // The input and the standard output of a program: what a call answered, tried again where nothing could be moved yet, told
 // where it failed.
 #![tactic(auto)]
+
 ghost use Rattle.std.specs.Prelude.{◌+◌, ◌≤◌, min, ◌≡◌, ◌++◌, map, length};
 ghost use Rattle.spec.specs.NTriples.{decimal};
 ghost use Rattle.copy.specs.Copy.{Wrote};

@@ -1,5 +1,6 @@
 // The verdict on each line of the files `iris` and `tags`.
 #![tactic(auto)]
+
 use libc::STDOUT_FILENO;
 use spec::Verdict;
 

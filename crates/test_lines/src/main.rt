@@ -1,5 +1,6 @@
 // The two ends of the reader: streams of events cut and decoded, and each kind of line written.
 #![tactic(auto)]
+
 mod events;
 mod lines;
 

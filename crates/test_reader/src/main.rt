@@ -1,5 +1,6 @@
 // The reader's three calls, run: the documents of data/ (see the README there), and what no file of documents can hold.
 #![tactic(auto)]
+
 mod calls;
 mod replay;
 

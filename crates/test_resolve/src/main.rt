@@ -1,5 +1,6 @@
 // Replays the vectors of data/, each result on a line of its own, and then the bounds: no form, the room, the length.
 #![tactic(auto)]
+
 ghost use Rattle.std.specs.Prelude.{◌<◌, ◌≤◌, length};
 ghost use Rattle.test_resolve.specs.Line.{Line};
 

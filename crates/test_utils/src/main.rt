@@ -1,5 +1,6 @@
 // Answers of the crate utils for the bytes on each line of the input, written as pairs of hexadecimal digits with one byte between them.
 #![tactic(auto)]
+
 ghost use Rattle.std.specs.Prelude.{◌<◌};
 
 use libc::{STDIN_FILENO, STDOUT_FILENO};

@@ -55,11 +55,11 @@ pub data Change (d : Doc) : List Triple → Doc → Type 0 where
   wraps : (n : Bytes) (as' : List Attribute) → is_second_root d ≡ false → d.mode.xmp ≡ true → d.frames ≡ [] → counts_fit as' d.frames ≡ true
       → Change d [] (wrapped n as' d)
   -- end tags
-  ends-root : (f : Frame) (fs : List Frame) → d.frames ≡ f ∷ fs → f.kind ≡ rdf_rdf → Change d [] (with_frames fs d)
-  ends-wrapper : (f : Frame) (fs : List Frame) (b : Bool) → d.frames ≡ f ∷ fs → f.kind ≡ wrapper b → Change d [] (with_frames fs d)
-  ends-node : (f : Frame) (fs : List Frame) (s : Subject) (li : ℕ) → d.frames ≡ f ∷ fs → f.kind ≡ node_element s li
+  ends_root : (f : Frame) (fs : List Frame) → d.frames ≡ f ∷ fs → f.kind ≡ rdf_rdf → Change d [] (with_frames fs d)
+  ends_wrapper : (f : Frame) (fs : List Frame) (b : Bool) → d.frames ≡ f ∷ fs → f.kind ≡ wrapper b → Change d [] (with_frames fs d)
+  ends_node : (f : Frame) (fs : List Frame) (s : Subject) (li : ℕ) → d.frames ≡ f ∷ fs → f.kind ≡ node_element s li
       → Change d [] (with_frames (change_value (takes_node s) fs) d)
-  ends-property : (f : Frame) (fs : List Frame) (p : Property) (v : Value) (l : Language) (us : List Triple) (n : ℕ)
+  ends_property : (f : Frame) (fs : List Frame) (p : Property) (v : Value) (l : Language) (us : List Triple) (n : ℕ)
       → d.frames ≡ f ∷ fs → f.kind ≡ property_element p v → end_value p v l (with_frames fs d) ≡ good (us, with_labels n (with_frames fs d))
       → Change d us (with_labels n (with_frames fs d))
   ends_xml : (f : Frame) (fs : List Frame) (x : Bytes) → d.frames ≡ f ∷ fs → f.kind ≡ xml_element
@@ -123,13 +123,13 @@ module _ (d : Doc) (f : Frame) (fs : List Frame) (is : d.frames ≡ f ∷ fs) wh
     where
       go : (a : Answer Step) → end_value p v l (with_frames fs d) ≡ a → Always (λ s. (n : ℕ) × (s.1 ≡ with_labels n (with_frames fs d))) a → Always (Changes d) a
       go (refuse r) e h = tt
-      go (good (us, d')) e (n, q) = subst (λ (x : Doc). Change d us x) (sym q) (ends-property f fs p v l us n is k (e ∙ ap (λ (x : Doc). good (us, x)) q))
+      go (good (us, d')) e (n, q) = subst (λ (x : Doc). Change d us x) (sym q) (ends_property f fs p v l us n is k (e ∙ ap (λ (x : Doc). good (us, x)) q))
 
   end_kind_lem : (k : Kind) (n : Bytes) (l : Language) → f.kind ≡ k → Always (Changes d) (C.end_kind k n l (with_frames fs d))
   unfolding C.end_kind add_xml with_frames
-  end_kind_lem rdf_rdf n l k = ends-root f fs is k
-  end_kind_lem (wrapper b) n l k = always_after (Changes d) _ _ (ends-wrapper f fs b is k)
-  end_kind_lem (node_element s li) n l k = ends-node f fs s li is k
+  end_kind_lem rdf_rdf n l k = ends_root f fs is k
+  end_kind_lem (wrapper b) n l k = always_after (Changes d) _ _ (ends_wrapper f fs b is k)
+  end_kind_lem (node_element s li) n l k = ends_node f fs s li is k
   end_kind_lem (property_element p v) n l k = end_property p v l k
   end_kind_lem xml_element n l k = ends_xml f fs (end_tag_xml n) is k
 

@@ -9,7 +9,7 @@ use Rattle.spec.specs.Document.{Value, Kind, rdf_rdf, wrapper, node_element, pro
 use Rattle.spec.specs.Xmp.{wrapped}
 use Rattle.spec.specs.Opening.{counted, count_li, opened}
 use Rattle.spec.specs.Lists.{After}
-use Rattle.theorems.specs.Changes.{Change, stays, takes_text_lem, takes_xml_lem, copies, opens, wraps, ends-root, ends-wrapper, ends-node, ends-property, ends_xml, all_changed, always_holds}
+use Rattle.theorems.specs.Changes.{Change, stays, takes_text_lem, takes_xml_lem, copies, opens, wraps, ends_root, ends_wrapper, ends_node, ends_property, ends_xml, all_changed, always_holds}
 
 -- a wrapper that had it
 abbrev pub HadRdf : Kind → Type 0
@@ -87,10 +87,10 @@ had {d} (takes_xml_lem x e) h = had_behind _ d.frames h
 had {d} (copies m as' x e c) h = had_changed _ d.frames (all_had d.frames e h)
 had {d} (opens m as' t o z c r g q s) h = had_count t.iri _ d.frames h
 had {d} (wraps m as' z p e c) h = rw e tt
-had {d} (ends-root f fs is k) h = tail_had fs (closed_had f fs d.frames is h)
-had {d} (ends-wrapper f fs b is k) h = tail_had fs (closed_had f fs d.frames is h)
-had {d} (ends-node f fs s li is k) h = had_behind _ fs (tail_had fs (closed_had f fs d.frames is h))
-had {d} (ends-property f fs p v l ws n is k q) h = tail_had fs (closed_had f fs d.frames is h)
+had {d} (ends_root f fs is k) h = tail_had fs (closed_had f fs d.frames is h)
+had {d} (ends_wrapper f fs b is k) h = tail_had fs (closed_had f fs d.frames is h)
+had {d} (ends_node f fs s li is k) h = had_behind _ fs (tail_had fs (closed_had f fs d.frames is h))
+had {d} (ends_property f fs p v l ws n is k q) h = tail_had fs (closed_had f fs d.frames is h)
 had {d} (ends_xml f fs x is k) h = had_behind _ fs (tail_had fs (closed_had f fs d.frames is h))
 
 -- Behind every accepted event.

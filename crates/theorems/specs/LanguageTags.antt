@@ -12,7 +12,7 @@ use Rattle.spec.specs.Bytes as B
 use Rattle.spec.specs.Grammar.{Grammar, one, ◌or◌, ◌then◌, many, Many, stop, more, Describes, accepts}
 use Rattle.spec.specs.Abnf.{lower, ALPHA, DIGIT, alphanum, letters, word, optional, times, at_most, ◌to◌, some}
 use Rattle.spec.specs.Rfc5646 as L
-use Rattle.spec.specs.Rfc5646.{is_language_tag, language-tag}
+use Rattle.spec.specs.Rfc5646.{is_language_tag, language_tag}
 use Rattle.spec.specs.NTriplesGrammar.{LANGTAG, text}
 use Rattle.spec.specs.NTriplesGrammar as G
 use Rattle.spec.proofs.Booleans.{and_left, and_right, and_both, or_cases, or_left, or_right_lem}
@@ -275,11 +275,11 @@ regular =
     also "zh-guoyu" refl refl (also "zh-hakka" refl refl (also "zh-min" refl refl (also "zh-min-nan" refl refl (
     lowers_word "zh-xiang" refl refl))))))))
 
-any-tag : Lowers language-tag (some ALPHA then Words)
-unfolding language-tag
+any-tag : Lowers language_tag (some ALPHA then Words)
+unfolding language_tag
 any-tag = lowers_or langtag (lowers_or private_first (lowers_or irregular regular))
 
 -- a good xml:lang, lowercased, written `@` and the tag, is a LANGTAG
 pub tag_in_grammar : (v : Bytes) → is_language_tag v ≡ true → In LANGTAG (ascii "@" ++ map lower v)
 unfolding is_language_tag LANGTAG ascii text every is_ascii
-tag_in_grammar v h = in_text (ascii "@") refl before any-tag.lowered v (accepts_sound language-tag v h)
+tag_in_grammar v h = in_text (ascii "@") refl before any-tag.lowered v (accepts_sound language_tag v h)

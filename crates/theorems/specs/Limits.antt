@@ -31,7 +31,7 @@ use Rattle.theorems.specs.Always.{Always, always_bind, always_any, always_then, 
 use Rattle.theorems.specs.Calls.{number_positive, Steps, written, always_lawful}
 use Rattle.theorems.specs.Decimal.{decimal-length}
 use Rattle.theorems.specs.Lists.{bound_after}
-use Rattle.theorems.specs.Changes.{Produces, copy, Change, stays, takes_text_lem, takes_xml_lem, copies, opens, wraps, ends-root, ends-wrapper, ends-node, ends-property, ends_xml, always_holds}
+use Rattle.theorems.specs.Changes.{Produces, copy, Change, stays, takes_text_lem, takes_xml_lem, copies, opens, wraps, ends_root, ends_wrapper, ends_node, ends_property, ends_xml, always_holds}
 
 -- ---- a start tag whose names are short
 
@@ -418,13 +418,13 @@ kept {d} (takes_xml_lem x e) h = with_frames_lem d _ h (change_frames (takes_xml
 kept {d} (copies m as' x e c) h = with_frames_lem d _ h (copy_frames m as' x d.frames (counts_fit_lem as' d.frames c) h.open_frames)
 kept {d} (opens m as' t o z c r g q s) h = open_kept m as' d t o h (counts_fit_lem as' d.frames c) r q (short_tag t s)
 kept {d} (wraps m as' z p e c) h = wrap_kept m as' d (counts_fit_lem as' d.frames c) h
-kept {d} (ends-root f fs is k) h = with_frames_lem d fs h (without d f fs is h).0
-kept {d} (ends-wrapper f fs b is k) h = with_frames_lem d fs h (without d f fs is h).0
-kept {d} (ends-node f fs s li is k) h =
+kept {d} (ends_root f fs is k) h = with_frames_lem d fs h (without d f fs is h).0
+kept {d} (ends_wrapper f fs b is k) h = with_frames_lem d fs h (without d f fs is h).0
+kept {d} (ends_node f fs s li is k) h =
     let w = without d f fs is h in
     let short : ShortKind (node_element s li) = rw k at w.1 in
     with_frames_lem d _ h (change_frames (C.takes_node s) fs (node_safe s short.0) w.0)
-kept {d} (ends-property f fs p v l ws n is k q) h =
+kept {d} (ends_property f fs p v l ws n is k q) h =
     let w : Kept (with_frames fs d) = with_frames_lem d fs h (without d f fs is h).0 in
     record { base = w.base; ids = w.ids; open_frames = w.open_frames }
 kept {d} (ends_xml f fs x is k) h = with_frames_lem d _ h (change_frames (takes_xml x) fs (xml_safe x) (without d f fs is h).0)

@@ -21,7 +21,7 @@ use Rattle.spec.specs.Limits.{most_held_bytes}
 use Rattle.spec.specs.Within.{Short?}
 use Rattle.spec.specs.Nesting.{Wraps, Stands, Nested}
 use Rattle.theorems.specs.Always.{Always, always_any, always_after, always_require, always_if, always_good}
-use Rattle.theorems.specs.Changes.{Produces, Change, stays, takes_text_lem, takes_xml_lem, copies, opens, wraps, ends-root, ends-wrapper, ends-node, ends-property, ends_xml, always_holds}
+use Rattle.theorems.specs.Changes.{Produces, Change, stays, takes_text_lem, takes_xml_lem, copies, opens, wraps, ends_root, ends_wrapper, ends_node, ends_property, ends_xml, always_holds}
 use Rattle.theorems.specs.Limits.{each-held, always_within}
 
 -- ---- Literal content
@@ -214,10 +214,10 @@ nested {d} (copies m as' x e c) h = (still_place (takes_xml x) d.frames (xml_sti
 nested {d} (opens m as' t o z c r g q s) h =
     (stands_in_counted d.mode o.kind t.iri _ d.frames (produced d.mode (place_in d.frames) t d.labels o q), count_nested d.mode t.iri _ d.frames h)
 nested {d} (wraps m as' z p e c) h = (wraps_in d.mode.xmp d.frames p e, h)
-nested {d} (ends-root f fs is k) h = without d.mode f fs d.frames is h
-nested {d} (ends-wrapper f fs b is k) h = without d.mode f fs d.frames is h
-nested {d} (ends-node f fs s li is k) h = change_nested d.mode (C.takes_node s) fs (node_still s) (without d.mode f fs d.frames is h)
-nested {d} (ends-property f fs p v l ws n is k q) h = without d.mode f fs d.frames is h
+nested {d} (ends_root f fs is k) h = without d.mode f fs d.frames is h
+nested {d} (ends_wrapper f fs b is k) h = without d.mode f fs d.frames is h
+nested {d} (ends_node f fs s li is k) h = change_nested d.mode (C.takes_node s) fs (node_still s) (without d.mode f fs d.frames is h)
+nested {d} (ends_property f fs p v l ws n is k q) h = without d.mode f fs d.frames is h
 nested {d} (ends_xml f fs x is k) h = change_nested d.mode (takes_xml x) fs (xml_still x) (without d.mode f fs d.frames is h)
 
 -- Behind every accepted event, rdf:RDF is the outermost element or in the wrapper, and each property stands directly in the node whose
@@ -234,10 +234,10 @@ mode_kept (takes_xml_lem x e) = refl
 mode_kept (copies m as' x e c) = refl
 mode_kept (opens m as' t o z c r g q s) = refl
 mode_kept (wraps m as' z p e c) = refl
-mode_kept (ends-root f fs is k) = refl
-mode_kept (ends-wrapper f fs b is k) = refl
-mode_kept (ends-node f fs s li is k) = refl
-mode_kept (ends-property f fs p v l ws n is k q) = refl
+mode_kept (ends_root f fs is k) = refl
+mode_kept (ends_wrapper f fs b is k) = refl
+mode_kept (ends_node f fs s li is k) = refl
+mode_kept (ends_property f fs p v l ws n is k q) = refl
 mode_kept (ends_xml f fs x is k) = refl
 
 -- the mode is that of the start

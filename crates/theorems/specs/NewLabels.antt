@@ -8,7 +8,7 @@ use Rattle.spec.specs.Pyx.{Event}
 use Rattle.spec.specs.NTriples.{Subject, blank, Term, node, plain, tagged, typed, Triple, label}
 use Rattle.spec.specs.declared.Mode.{Mode}
 use Rattle.spec.specs.Document.{Doc, fresh}
-use Rattle.spec.specs.StartTag.{rdf-node_id, means, same_role, role_number, judge, is_generated}
+use Rattle.spec.specs.StartTag.{rdf_node_id, means, same_role, role_number, judge, is_generated}
 use Rattle.spec.specs.RdfXml.{next}
 use Rattle.spec.specs.Lists.{same_subject, Unnamed, After, event}
 use Rattle.theorems.specs.Always.{always_good}
@@ -36,7 +36,7 @@ nodes n = record {
   obj = KnownTerm n;
   lang = λ l. Unit {0};
   name = λ i. tt;
-  other-label = λ l h g k. inl g;
+  other_label = λ l h g k. inl g;
   node_of = λ s h. h;
   plain_of = λ v. tt;
   typed_of = λ v d. tt;
@@ -71,17 +71,17 @@ unnamed n k p q (with_line {s = s} {o = o} h g t) =
     object (typed v t) g e = let z : ◌≡◌ {A = ℕ} 0 1 = cc in omega arith
 
 -- 13: a label that may be written is none that is generated
-pub written_not_generated : (l : Bytes) (k : ℕ) → judge rdf-node_id l ≡ good tt → l ≡ label k → ⊥
+pub written_not_generated : (l : Bytes) (k : ℕ) → judge rdf_node_id l ≡ good tt → l ≡ label k → ⊥
 unfolding same_role role_number
 written_not_generated l k q e =
-    let g : is_generated l ≡ false = ((always_good (λ u. Fair (means rdf-node_id [] l)) (judge_fair rdf-node_id [] l) q).0 refl).1 in
+    let g : is_generated l ≡ false = ((always_good (λ u. Fair (means rdf_node_id [] l)) (judge_fair rdf_node_id [] l) q).0 refl).1 in
     true≢false (sym (label_generated k) ∙ (ap is_generated (sym e) ∙ g))
 
 -- The labels that an accepted event generates are new: none may be written as rdf:nodeID, each has its own number, and no line
 -- before the event names one, as subject or as object.
 pub labels_new : (m : Mode) (b₀ : Option Bytes) (d d' : Doc) (ts us : List Triple) (e : Event) → After (fresh m b₀) d ts → next e d ≡ good (us, d')
     → (k : ℕ) → d.labels < k → k ≤ d'.labels
-    → ((l : Bytes) → judge rdf-node_id l ≡ good tt → l ≡ label k → ⊥)
+    → ((l : Bytes) → judge rdf_node_id l ≡ good tt → l ≡ label k → ⊥)
     × ((j : ℕ) → j ≤ d'.labels → label j ≡ label k → j ≡ k)
     × Unnamed (blank (label k)) ts
 unfolding fresh all_known_lem

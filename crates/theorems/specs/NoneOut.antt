@@ -22,7 +22,7 @@ use Rattle.spec.specs.Packets.{PlainValue, PlainKind, NoneOut}
 use Rattle.spec.proofs.Booleans.{and_left, and_right}
 use Rattle.spec.proofs.Bytes.{same_true}
 use Rattle.theorems.specs.Always.{Always, always_any, always_after, always_require, always_if, always_good}
-use Rattle.theorems.specs.Changes.{Produces, Change, stays, takes_text_lem, takes_xml_lem, copies, opens, wraps, ends-root, ends-wrapper, ends-node, ends-property, ends_xml, all_changed, all_but, always_holds}
+use Rattle.theorems.specs.Changes.{Produces, Change, stays, takes_text_lem, takes_xml_lem, copies, opens, wraps, ends_root, ends_wrapper, ends_node, ends_property, ends_xml, all_changed, all_but, always_holds}
 
 -- ---- a start tag with none of them
 
@@ -200,11 +200,11 @@ none_out {d} (opens m as' t o z c r g q s) (p, h) =
     let ids : enter t.id d.ids ≡ [] = entered_none t.id d.ids w.id h.ids in
     (p, record { elements = (new, plain-count t.iri _ d.frames h.elements); ids = ids })
 none_out (wraps m as' z p e c) (p', h) = (p', record { elements = (tt, h.elements); ids = h.ids })
-none_out {d} (ends-root f fs is k) h = still fs h (all_but _ f fs d.frames is h.1.elements)
-none_out {d} (ends-wrapper f fs b is k) h = still fs h (all_but _ f fs d.frames is h.1.elements)
-none_out {d} (ends-node f fs s li is k) h =
+none_out {d} (ends_root f fs is k) h = still fs h (all_but _ f fs d.frames is h.1.elements)
+none_out {d} (ends_wrapper f fs b is k) h = still fs h (all_but _ f fs d.frames is h.1.elements)
+none_out {d} (ends_node f fs s li is k) h =
     still _ h (plain_changed _ (node-plain s) fs (all_but _ f fs d.frames is h.1.elements))
-none_out {d} (ends-property f fs o v l ws n is k q) h =
+none_out {d} (ends_property f fs o v l ws n is k q) h =
     let r : Kept (with_frames fs d) = still fs h (all_but _ f fs d.frames is h.1.elements) in
     (r.0, record { elements = r.1.elements; ids = r.1.ids })
 none_out {d} (ends_xml f fs x is k) h =

@@ -28,7 +28,7 @@ use Rattle.spec.proofs.Bytes.{same_true}
 use Rattle.theorems.specs.Always.{Always, always_bind, always_after, always_require, always_self, always_good}
 use Rattle.theorems.specs.Rules.{rules_kept}
 use Rattle.theorems.specs.Frames.{always_next}
-use Rattle.theorems.specs.Changes.{Change, stays, takes_text_lem, takes_xml_lem, copies, opens, wraps, ends-root, ends-wrapper, ends-node, ends-property, ends_xml, all_changed, all_but, always_holds}
+use Rattle.theorems.specs.Changes.{Change, stays, takes_text_lem, takes_xml_lem, copies, opens, wraps, ends_root, ends_wrapper, ends_node, ends_property, ends_xml, all_changed, all_but, always_holds}
 use Rattle.theorems.specs.Nesting.{always_mode, always_nested, produced}
 use Rattle.theorems.specs.Parts.{always_parts, wrapper_place, NoRdf, one-rdf}
 use Rattle.theorems.specs.NoneOut.{kept_without}
@@ -211,10 +211,10 @@ begun a {d} (opens m as' t o z c r g q s) h =
       );
     }
 begun a {d} (wraps m as' z p e c) h = absurd (no_root d h.rooted z e)
-begun a {d} (ends-root f fs is k) h = still a fs h (all_but _ f fs d.frames is h.told)
-begun a {d} (ends-wrapper f fs b is k) h = still a fs h (all_but _ f fs d.frames is h.told)
-begun a {d} (ends-node f fs s li is k) h = still a _ h (told_changed a _ fs (all_but _ f fs d.frames is h.told))
-begun a {d} (ends-property f fs p v l ws n is k q) h =
+begun a {d} (ends_root f fs is k) h = still a fs h (all_but _ f fs d.frames is h.told)
+begun a {d} (ends_wrapper f fs b is k) h = still a fs h (all_but _ f fs d.frames is h.told)
+begun a {d} (ends_node f fs s li is k) h = still a _ h (told_changed a _ fs (all_but _ f fs d.frames is h.told))
+begun a {d} (ends_property f fs p v l ws n is k q) h =
     let r : Begun a (with_frames fs d) = still a fs h (all_but _ f fs d.frames is h.told) in
     record { xmp = r.xmp; rooted = r.rooted; told = r.told }
 begun a {d} (ends_xml f fs x is k) h = still a _ h (told_changed a _ fs (all_but _ f fs d.frames is h.told))

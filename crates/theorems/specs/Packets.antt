@@ -31,7 +31,7 @@ use Rattle.theorems.specs.Always.{Always, always_any, always_after, always_requi
 use Rattle.spec.specs.Calls.{State, is_open, is_closed, unlawful}
 use Rattle.theorems.specs.Frames.{always_next}
 use Rattle.theorems.specs.Calls.{Steps, Holds, written, always_lawful}
-use Rattle.theorems.specs.Changes.{Change, stays, takes_text_lem, takes_xml_lem, copies, opens, wraps, ends-root, ends-wrapper, ends-node, ends-property, ends_xml, always_holds}
+use Rattle.theorems.specs.Changes.{Change, stays, takes_text_lem, takes_xml_lem, copies, opens, wraps, ends_root, ends_wrapper, ends_node, ends_property, ends_xml, always_holds}
 use Rattle.theorems.specs.Rules.{Wrapping, wrapping, no_rules, no_wrapper, Unwrapped}
 
 -- ---- nothing but the profile asks what is remembered for it
@@ -265,10 +265,10 @@ rooted_kept (takes_xml_lem x e) h = h
 rooted_kept (copies m as' x e c) h = h
 rooted_kept (opens m as' t o z c r g q s) h = refl
 rooted_kept (wraps m as' z p e c) h = refl
-rooted_kept (ends-root f fs is k) h = h
-rooted_kept (ends-wrapper f fs b is k) h = h
-rooted_kept (ends-node f fs s li is k) h = h
-rooted_kept (ends-property f fs p v l ws n is k q) h = h
+rooted_kept (ends_root f fs is k) h = h
+rooted_kept (ends_wrapper f fs b is k) h = h
+rooted_kept (ends_node f fs s li is k) h = h
+rooted_kept (ends_property f fs p v l ws n is k q) h = h
 rooted_kept (ends_xml f fs x is k) h = h
 
 still_rooted : (e : Event) (d d' : Doc) (us : List Triple) → next e d ≡ good (us, d') → d.rooted ≡ true → d'.rooted ≡ true

@@ -18,7 +18,7 @@ use Rattle.spec.specs.Nesting.{Wraps, Stands, Nested}
 use Rattle.spec.specs.Packets.{Remembers, Parts}
 use Rattle.spec.proofs.Booleans.{and_left}
 use Rattle.theorems.specs.Always.{Always, always_any, always_after, always_require, always_if, always_good}
-use Rattle.theorems.specs.Changes.{Produces, Change, stays, takes_text_lem, takes_xml_lem, copies, opens, wraps, ends-root, ends-wrapper, ends-node, ends-property, ends_xml, all_changed, all_but, always_holds}
+use Rattle.theorems.specs.Changes.{Produces, Change, stays, takes_text_lem, takes_xml_lem, copies, opens, wraps, ends_root, ends_wrapper, ends_node, ends_property, ends_xml, all_changed, all_but, always_holds}
 
 -- ---- changes to an open element
 
@@ -147,10 +147,10 @@ parts {d} (copies m as' x e c) h = (always_ordinary d.mode.xmp, change_parts d.m
 parts {d} (opens m as' t o z c r g q s) h =
     (new_remembers d.mode.xmp (place_in d.frames) t d.labels o d.frames refl g q, count_parts d.mode.xmp t.iri t d.frames h)
 parts {d} (wraps m as' z p e c) h = (wrapper_ordinary d.mode.xmp false, h)
-parts {d} (ends-root f fs is k) h = all_but _ f fs d.frames is h
-parts {d} (ends-wrapper f fs b is k) h = all_but _ f fs d.frames is h
-parts {d} (ends-node f fs s li is k) h = change_parts d.mode.xmp _ fs (all_but _ f fs d.frames is h)
-parts {d} (ends-property f fs p v l ws n is k q) h = all_but _ f fs d.frames is h
+parts {d} (ends_root f fs is k) h = all_but _ f fs d.frames is h
+parts {d} (ends_wrapper f fs b is k) h = all_but _ f fs d.frames is h
+parts {d} (ends_node f fs s li is k) h = change_parts d.mode.xmp _ fs (all_but _ f fs d.frames is h)
+parts {d} (ends_property f fs p v l ws n is k q) h = all_but _ f fs d.frames is h
 parts {d} (ends_xml f fs x is k) h = change_parts d.mode.xmp _ fs (all_but _ f fs d.frames is h)
 
 -- Behind every accepted event what is remembered for the profile goes by the kind of the element; in the base mode it is nothing.

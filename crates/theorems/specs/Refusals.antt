@@ -20,7 +20,7 @@ use Rattle.spec.specs.NTriples.{Subject, Triple, write}
 use Rattle.spec.specs.declared.Mode.{Mode}
 use Rattle.spec.specs.Modes.{base_mode}
 use Rattle.spec.specs.Document.{Value, default, collection, literal, other, Property, Kind, rdf_rdf, wrapper, node_element, property_element, xml_element, Frame, Doc, Place, outside, nodes, nodes_or_text, xml, properties, place_in}
-use Rattle.spec.specs.StartTag.{Role, nothing, xml_lang, xml_base, rdf-ID, rdf_bag_id, rdf-node_id, rdf-about, rdf_resource, rdf_datatype, rdf-parse_type, rdf_type, forbidden, property, Tag, read_tag}
+use Rattle.spec.specs.StartTag.{Role, nothing, xml_lang, xml_base, rdf_ID, rdf_bag_id, rdf_node_id, rdf_about, rdf_resource, rdf_datatype, rdf_parse_type, rdf_type, forbidden, property, Tag, read_tag}
 use Rattle.spec.specs.StartTag as S
 use Rattle.spec.specs.Productions.{Opened, open_node, open_property, open_root, ParseType, no_parse_type, as_collection, as_resource, as_literal, as_other}
 use Rattle.spec.specs.Productions as O
@@ -212,13 +212,13 @@ module _ (Q : Refusal → Type 0) (d : Doc) (j : Behind Q d) where
   judge nothing v = tt
   judge xml_lang v = on_test Q _ _ j.ten
   judge xml_base v = on_test Q _ _ j.eleven
-  judge rdf-ID v = on_test Q _ _ j.nine
+  judge rdf_ID v = on_test Q _ _ j.nine
   judge rdf_bag_id v = on_test Q _ _ j.nine
-  judge rdf-node_id v = on_require Q _ _ _ j.nine (on_test Q _ _ j.thirteen)
-  judge rdf-about v = tt
+  judge rdf_node_id v = on_require Q _ _ _ j.nine (on_test Q _ _ j.thirteen)
+  judge rdf_about v = tt
   judge rdf_resource v = tt
   judge rdf_datatype v = tt
-  judge rdf-parse_type v = tt
+  judge rdf_parse_type v = tt
   judge rdf_type v = tt
   judge forbidden v = j.fourteen
   judge property v = tt

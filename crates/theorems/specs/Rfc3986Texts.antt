@@ -62,9 +62,9 @@ parse-text s t =
 abbrev Buffers : Bytes × Bytes → Type 0
 Buffers r = Text r.0 × Text r.1
 
-without-last : (o : Bytes) → Text o → Text (without_last o)
+without_last_lem : (o : Bytes) → Text o → Text (without_last o)
 unfolding without_last ascii every is_ascii
-without-last o t = last-past-text (ascii "/") refl o t 47
+without_last_lem o t = last-past-text (ascii "/") refl o t 47
 
 -- behind the first bytes of a beginning
 drop-text : (k : ℕ) (m i : Bytes) → k ≤ length m → every is_ascii m ≡ true → begins m i ≡ true → Text i → Text (drop k i)
@@ -89,8 +89,8 @@ turn-text c i o t u =
     either _ _ _ (λ e. (drop-text 2 (ascii "./") (c ∷ i) (omega arith) refl e t, u)) λ e₂.
     either _ _ _ (λ e. (drop-text 2 (ascii "/./") (c ∷ i) (omega arith) refl e t, u)) λ e₃.
     either _ _ _ (λ e. (ascii-text (ascii "/") refl, u)) λ e₄.
-    either _ _ _ (λ e. (drop-text 3 (ascii "/../") (c ∷ i) (omega arith) refl e t, without-last o u)) λ e₅.
-    either _ _ _ (λ e. (ascii-text (ascii "/") refl, without-last o u)) λ e₆.
+    either _ _ _ (λ e. (drop-text 3 (ascii "/../") (c ∷ i) (omega arith) refl e t, without_last_lem o u)) λ e₅.
+    either _ _ _ (λ e. (ascii-text (ascii "/") refl, without_last_lem o u)) λ e₆.
     either _ _ _ (λ e. (empty-text, u)) λ e₇.
     (let r = cut_behind (ascii "/") (c ∷ []) i refl t in (r.1, join u r.0))
 

@@ -25,7 +25,7 @@ use Rattle.spec.specs.declared.Verdict.TheVariants.{Good, Clears, Bad}
 use Rattle.spec.specs.XmlLang.{tag_of, written, Language, no_language, language, verdict, is_allowed, Own, unsaid, cleared, given, said_by, own_of, in_force}
 use Rattle.spec.specs.Document.{Object, no_object, node_object, text_object, Value, default, collection, literal, other, Property, Kind, rdf_rdf, wrapper, node_element, property_element, xml_element, Part, Frame, Doc, with_frames, with_labels, with_kind, with_part, language_in_force, Place, outside, nodes, nodes_or_text, xml, properties, in_value, in_kind, place_in, change_value, on_value, is_xml_element}
 use Rattle.spec.specs.StartTag as S
-use Rattle.spec.specs.StartTag.{Role, Meaning, means, same_role, role_number, judge, is_generated, ends_in_stop, Tag, read_tag, nothing, xml_lang, xml_base, rdf-ID, rdf_bag_id, rdf-node_id, rdf-about, rdf_resource, rdf_datatype, rdf-parse_type, rdf_type, forbidden, property}
+use Rattle.spec.specs.StartTag.{Role, Meaning, means, same_role, role_number, judge, is_generated, ends_in_stop, Tag, read_tag, nothing, xml_lang, xml_base, rdf_ID, rdf_bag_id, rdf_node_id, rdf_about, rdf_resource, rdf_datatype, rdf_parse_type, rdf_type, forbidden, property}
 use Rattle.spec.specs.Productions as O
 use Rattle.spec.specs.Productions.{Opened, open_node, open_property, open_root, statement, type_line, attribute_lines, tag_lines, ParseType, no_parse_type, as_collection, as_resource, as_literal, as_other}
 use Rattle.spec.specs.RdfXml as X
@@ -46,7 +46,7 @@ pub record Rule : Type 1 where
   pub obj : Term → Type 0
   pub lang : Bytes → Type 0
   pub name : (i : Bytes) → subj (named i)
-  pub other-label : (l : Bytes) → is_nc_name l ≡ true → is_generated l ≡ false → ends_in_stop l ≡ false → subj (blank l)
+  pub other_label : (l : Bytes) → is_nc_name l ≡ true → is_generated l ≡ false → ends_in_stop l ≡ false → subj (blank l)
   pub node_of : (s : Subject) → subj s → obj (node s)
   pub plain_of : (v : Bytes) → obj (plain v)
   pub typed_of : (v d : Bytes) → obj (typed v d)
@@ -120,7 +120,7 @@ abbrev pub GoodTag : Bytes → Type 0
 GoodTag v = is_allowed (verdict v) ≡ true
 
 abbrev pub Fair : Meaning → Type 0
-Fair (means q i v) = (same_role rdf-node_id q ≡ true → GoodLabel v) × (same_role xml_lang q ≡ true → GoodTag v)
+Fair (means q i v) = (same_role rdf_node_id q ≡ true → GoodLabel v) × (same_role xml_lang q ≡ true → GoodTag v)
 
 abbrev pub AllFair : List Meaning → Type 0
 AllFair [] = Unit {0}
@@ -136,13 +136,13 @@ first_of P r (means q i v ∷ ms) g h = go (same_role r q) refl (first_of P r ms
     go true e k = g q i v h.0 e
     go false e k = k
 
-first_label : (ms : List Meaning) → AllFair ms → Of? GoodLabel (S.first rdf-node_id ms)
-first_label ms = first_of GoodLabel rdf-node_id ms λ q i v h. h.0
+first_label : (ms : List Meaning) → AllFair ms → Of? GoodLabel (S.first rdf_node_id ms)
+first_label ms = first_of GoodLabel rdf_node_id ms λ q i v h. h.0
 
 pub first_tag : (ms : List Meaning) → AllFair ms → Of? GoodTag (S.first xml_lang ms)
 first_tag ms = first_of GoodTag xml_lang ms λ q i v h. h.1
 
-neither : (q : Role) (i v : Bytes) → same_role rdf-node_id q ≡ false → same_role xml_lang q ≡ false → Fair (means q i v)
+neither : (q : Role) (i v : Bytes) → same_role rdf_node_id q ≡ false → same_role xml_lang q ≡ false → Fair (means q i v)
 neither q i v h k = ((λ e. absurd (false≢true (sym h ∙ e))), (λ e. absurd (false≢true (sym k ∙ e))))
 
 pub judge_fair : (q : Role) (i v : Bytes) → Always (λ u. Fair (means q i v)) (judge q v)
@@ -150,16 +150,16 @@ unfolding judge same_role role_number
 judge_fair nothing i v = neither nothing i v refl refl
 judge_fair xml_lang i v = always_test _ _ _ λ h. ((λ e. absurd (false≢true e)), (λ e. h))
 judge_fair xml_base i v = always_test _ _ _ λ h. neither xml_base i v refl refl
-judge_fair rdf-ID i v = always_test _ _ _ λ h. neither rdf-ID i v refl refl
+judge_fair rdf_ID i v = always_test _ _ _ λ h. neither rdf_ID i v refl refl
 judge_fair rdf_bag_id i v = always_test _ _ _ λ h. neither rdf_bag_id i v refl refl
-judge_fair rdf-node_id i v =
+judge_fair rdf_node_id i v =
     always_require _ _ _ _ λ h. always_test _ _ _ λ k.
     (let stop : ends_in_stop v ≡ false = not-true (ends_in_stop v) (and_left (not (ends_in_stop v)) (not (is_generated v)) k) in
     ((λ e. (h, not-true (is_generated v) (and_right (not (ends_in_stop v)) (not (is_generated v)) k), stop)), (λ e. absurd (false≢true e))))
-judge_fair rdf-about i v = neither rdf-about i v refl refl
+judge_fair rdf_about i v = neither rdf_about i v refl refl
 judge_fair rdf_resource i v = neither rdf_resource i v refl refl
 judge_fair rdf_datatype i v = neither rdf_datatype i v refl refl
-judge_fair rdf-parse_type i v = neither rdf-parse_type i v refl refl
+judge_fair rdf_parse_type i v = neither rdf_parse_type i v refl refl
 judge_fair rdf_type i v = neither rdf_type i v refl refl
 judge_fair forbidden i v = tt
 judge_fair property i v = neither property i v refl refl
@@ -269,7 +269,7 @@ module _ (R : Rule) where
   subject_of_lem : (i l : Option Bytes) (g : Bytes) → Of? GoodLabel l → R.subj (blank g) → R.subj (O.subject_of i l g)
   unfolding O.subject_of
   subject_of_lem (some i) l g h k = R.name i
-  subject_of_lem none (some l) g h k = R.other-label l h.0 h.1 h.2
+  subject_of_lem none (some l) g h k = R.other_label l h.0 h.1 h.2
   subject_of_lem none none g h k = k
 
   open_node_lem : (t : Tag) (n : ℕ) → FairTag t → Always (Produced R n) (open_node t n)
@@ -292,7 +292,7 @@ module _ (R : Rule) where
   object_of_lem : (r l : Option Bytes) (n : ℕ) → n < 100_000_000 → Of? GoodLabel l → Always (Chosen n) (O.object_of r l n)
   unfolding O.object_of O.one_more most_labels
   object_of_lem (some r) l n le h = (omega arith, le, λ new. R.name r)
-  object_of_lem none (some l) n le h = (omega arith, le, λ new. R.other-label l h.0 h.1 h.2)
+  object_of_lem none (some l) n le h = (omega arith, le, λ new. R.other_label l h.0 h.1 h.2)
   object_of_lem none none n le h =
       always_require (Chosen n) _ _ _ λ e.
       (let le' : n < 99_999_999 = ltb-true n 99_999_999 e in

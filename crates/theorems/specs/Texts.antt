@@ -16,7 +16,7 @@ use Rattle.spec.specs.Namespaces as M
 use Rattle.spec.specs.NTriples.{Subject, named, blank, Term, node, plain, tagged, typed, Triple, triple, label, digits, drop_zeros, decimal}
 use Rattle.spec.specs.Document.{Object, no_object, node_object, text_object, Value, default, collection, literal, other, Property, Kind, rdf_rdf, wrapper, node_element, property_element, xml_element, Part, Frame, Doc, with_frames, with_labels, with_kind, with_part, in_scope, base_in_force, Place, outside, nodes, nodes_or_text, xml, properties, in_value, in_kind, place_in, change_value, on_value, is_xml_element}
 use Rattle.spec.specs.StartTag as S
-use Rattle.spec.specs.StartTag.{Role, same_role, Meaning, means, meaning, resolved, Tag, read_tag, xml_base, rdf-ID, rdf-about, rdf_resource, rdf_datatype, rdf_type, property}
+use Rattle.spec.specs.StartTag.{Role, same_role, Meaning, means, meaning, resolved, Tag, read_tag, xml_base, rdf_ID, rdf_about, rdf_resource, rdf_datatype, rdf_type, property}
 use Rattle.spec.specs.Productions as O
 use Rattle.spec.specs.Productions.{Opened, open_node, open_property, open_root, statement, type_line, attribute_lines, tag_lines, ParseType, no_parse_type, as_collection, as_resource, as_literal, as_other}
 use Rattle.spec.specs.XmlLiteral.{text_byte, value_byte, text_xml, attribute_xml, attributes_xml, start_tag_xml, end_tag_xml, takes_xml, add_xml}
@@ -225,9 +225,9 @@ tag-text n as' d t h k =
     always_bind Text TextTag _ _ (element_text _ n scope t) λ i ti.
     always_bind (All TextMeaning) TextTag _ _ (always_each TextAttribute TextMeaning _ (meaning-text _ scope) as' h) λ ms m.
     (let base : Text? (or_else (S.first xml_base ms) (base_in_force d.start_base d.frames)) = or_else_lem _ _ (first_text xml_base ms m) (base-text d.start_base d.frames k.0 k.1) in
-    always_bind Text? TextTag _ _ (resolved-text _ _ base (hash_text _ (first_text rdf-ID ms m))) λ id' t₁.
+    always_bind Text? TextTag _ _ (resolved-text _ _ base (hash_text _ (first_text rdf_ID ms m))) λ id' t₁.
     always_require TextTag _ _ _ λ e.
-    always_bind Text? TextTag _ _ (resolved-text _ _ base (first_text rdf-about ms m)) λ about' t₂.
+    always_bind Text? TextTag _ _ (resolved-text _ _ base (first_text rdf_about ms m)) λ about' t₂.
     always_bind Text? TextTag _ _ (resolved-text _ _ base (first_text rdf_resource ms m)) λ resource' t₃.
     always_bind Text? TextTag _ _ (resolved-text _ _ base (first_text rdf_datatype ms m)) λ datatype' t₄.
     always_bind Text? TextTag _ _ (resolved-text _ _ base (first_text rdf_type ms m)) λ type' t₅.
@@ -245,11 +245,11 @@ tag-text n as' d t h k =
 
 -- ---- lines
 
-literal-text : (d : Option Bytes) (l : Language) (v : Bytes) → Text? d → Text v → TextTerm (O.literal_of d l v)
+literal_text : (d : Option Bytes) (l : Language) (v : Bytes) → Text? d → Text v → TextTerm (O.literal_of d l v)
 unfolding O.literal_of
-literal-text (some d) l v h t = (t, h)
-literal-text none (language m) v h t = t
-literal-text none no_language v h t = t
+literal_text (some d) l v h t = (t, h)
+literal_text none (language m) v h t = t
+literal_text none no_language v h t = t
 
 type_lines : (s : Subject) (o : Option Bytes) → TextSubject s → Text? o → All TextTriple (type_line s o)
 unfolding type_line ascii every is_ascii
@@ -259,7 +259,7 @@ type_lines s (some i) h t = ((h, rdf-text "type" refl, t), tt)
 attribute_lines_lem : (s : Subject) (l : Language) (as' : List (Bytes × Bytes)) → TextSubject s → All TextPair as' → All TextTriple (attribute_lines s l as')
 unfolding attribute_lines
 attribute_lines_lem s l [] h t = tt
-attribute_lines_lem s l (a ∷ as') h t = ((h, t.0.0, literal-text none l a.1 tt t.0.1), attribute_lines_lem s l as' h t.1)
+attribute_lines_lem s l (a ∷ as') h t = ((h, t.0.0, literal_text none l a.1 tt t.0.1), attribute_lines_lem s l as' h t.1)
 
 tag-lines : (s : Subject) (t : Tag) → TextSubject s → TextTag t → All TextTriple (tag_lines s t)
 unfolding tag_lines
@@ -538,9 +538,9 @@ takes_node_lem s g other h = h
 
 object_term_lem : (d : Option Bytes) (l : Language) (o : Object) → Text? d → TextObject o → TextTerm (C.object_term d l o)
 unfolding C.object_term
-object_term_lem d l no_object h g = literal-text d l [] h empty-text
+object_term_lem d l no_object h g = literal_text d l [] h empty-text
 object_term_lem d l (node_object s) h g = g
-object_term_lem d l (text_object t) h g = literal-text d l t h g
+object_term_lem d l (text_object t) h g = literal_text d l t h g
 
 end_value_lem : (p : Property) (v : Value) (l : Language) (d : Doc) → TextProperty p → TextValue v → TextDoc d → Always TextStep (C.end_value p v l d)
 unfolding C.end_value with_labels ascii every is_ascii

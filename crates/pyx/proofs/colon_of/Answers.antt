@@ -2,11 +2,11 @@
 use native.Mathlib.Omega.{arith}
 use borrow.Author.Rules.{rules}
 use Rattle.utils.proofs.Names.{not_name}
-use Rattle.pyx.proofs.Names.{local_name, prefixed_name, colon-within}
+use Rattle.pyx.proofs.Names.{local_name, prefixed_name, colon_within}
 use Rattle.pyx.proofs.colon_of.Goals as goal
 
 pub overflow_add-result : goal.overflow_add-result
-overflow_add-result c = omega (arith, (prefixed_name _ (rw c.in-Prefixed.is at c.qname.ensures)).1, colon-within c.args.name.now)
+overflow_add-result c = omega (arith, (prefixed_name _ (rw c.in-Prefixed.is at c.qname.ensures)).1, colon_within c.args.name.now)
 
 pub returns-in-NotName : goal.returns-in-NotName
 returns-in-NotName c = not_name _ (rw c.in-NotName.is at c.qname.ensures)

@@ -117,7 +117,7 @@ same-length-13 : tie.Need-same-length-13
 same-length-13 c = c.before.before.area.given
 
 returns-4 : tie.Need-returns-4
-returns-4 c = (on_text_lem _ c.before.before.before.before.before.before.before.before.before.before.before.before.before.before.before.before.before.before.before.before.before.before.before.before.before.before.before.before.before.before.before.before.before.before.requires.2 c.before.before.before.before.before.before.before.before.before.before.before.before.before.before.before.before.before.before.before.before.before.decode.ensures c.before.before.before.before.before.before.before.before.before.before.before.before.before.before.before.before.before.before.before.before.before.before.before.before.before.before.before.before.before.before.before.before.before.before.requires.0 c.with-ids2.ensures c.before.before.before.before.before.before.before.before.before.before.before.before.before.before.before.decoded.given.1 c.before.before.before.before.before.before.before.parse-text_event.ensures, record { scratch = c.before.before.before.before.before.before.before.before.before.before.before.before.before.before.before.before.before.before.before.before.before.decode.ensures.kept.same; spans = c.before.before.before.before.before.before.before.before.before.before.before.before.before.before.before.before.before.before.before.before.before.decode.ensures.words; area = search rules })
+returns-4 c = (on_text_lem _ c.before.before.before.before.before.before.before.before.before.before.before.before.before.before.before.before.before.before.before.before.before.before.before.before.before.before.before.before.before.before.before.before.before.before.requires.2 c.before.before.before.before.before.before.before.before.before.before.before.before.before.before.before.before.before.before.before.before.before.decode.ensures c.before.before.before.before.before.before.before.before.before.before.before.before.before.before.before.before.before.before.before.before.before.before.before.before.before.before.before.before.before.before.before.before.before.before.requires.0 c.with-ids2.ensures c.before.before.before.before.before.before.before.before.before.before.before.before.before.before.before.decoded.given.1 c.before.before.before.before.before.before.before.parse_text_event.ensures, record { scratch = c.before.before.before.before.before.before.before.before.before.before.before.before.before.before.before.before.before.before.before.before.before.decode.ensures.kept.same; spans = c.before.before.before.before.before.before.before.before.before.before.before.before.before.before.before.before.before.before.before.before.before.decode.ensures.words; area = search rules })
 
 same-length-14 : tie.Need-same-length-14
 same-length-14 c = c.before.before.before.before.before.before.before.before.frames2.given
