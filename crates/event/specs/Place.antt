@@ -79,7 +79,7 @@ module _ {r : Registers} {fs bs is w : List ℕ} (x : Valid r fs bs is w) where
           let e : r.counts.depth - 1 ≡ d = omega arith in
           rw (eq-eqb r.counts.inner 0 p, ne_eqb r.counts.depth 0 (λ z. omega arith), e, load_frame_lem fs d (omega (arith, x.frame_words, x.deep))) (in_frame p d q)
 
--- ---- how `place_at_lem` comes to its answer
+-- ---- how `place_at` comes to its answer
 
 module _ (r : Registers) (fs : List ℕ) where
   pub place_inside : (r.counts.inner ≡ 0 → ⊥) → Xml ≡ place_at r fs

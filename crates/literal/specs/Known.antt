@@ -59,7 +59,7 @@ module _ (bs : List Binding) (e sp : List ℕ) (j : ℕ) where
   unfolding known_at is_known attribute_at name_of
   known_means s = rw s.front
 
--- ---- the loop of `all_known_lem`: the prefixes of the first j attributes are known
+-- ---- the loop of `all_known`: the prefixes of the first j attributes are known
 
 pub record Knowing (bs : List Binding) (e sp : List ℕ) (k j : ℕ) : Type 0 where
   pub upto : j ≤ k

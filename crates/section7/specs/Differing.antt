@@ -182,7 +182,7 @@ unfolding D.all lines run gives literal-tag
 xml_literal_namespaces = record {
   used = behind_root;
   accepted = accepted_in_node (parse_type_literal_property_elt literal-tag refl (refl, tt) refl
-      (record { legal = refl; once = refl; known = refl; all_known_lem = (λ h. refl, (λ h. refl, tt)) }, tt, tt) no_property);
+      (record { legal = refl; once = refl; known = refl; all_known = (λ h. refl, (λ h. refl, tt)) }, tt, tt) no_property);
   read = refl;
   others = refl;
 }

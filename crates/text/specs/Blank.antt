@@ -58,7 +58,7 @@ module _ {r : Registers} (s : Bytes) where
   unfolding on_event doc_of require◌or◌ ◌>>◌ with_frames
   blank_stays h u = record { quietly = λ a b. u.quietly a (record { step = λ ids. bare-text b s _ ∙ rw h }) }
 
--- ---- the places, as `place_at_lem` tells them
+-- ---- the places, as `place_at` tells them
 
 module _ {r : Registers} {fs bs is w : List ℕ} (v : Valid r fs bs is w) {p : Place} (e : p ≡ place_at r fs) where
   pub stands-outside : p ≡ Outside → Bare (place_in (elements_of r fs bs is w))

@@ -1,4 +1,4 @@
--- `event::place_at_lem` meets its contract: a law for each return.
+-- `event::place_at` meets its contract: a law for each return.
 use Rattle.event.specs.Place.{place_inside, place_outside, place_there}
 use native.Mathlib.Omega.{arith}
 use borrow.Author.Rules.{rules}

@@ -1,4 +1,4 @@
--- `literal::all_known_lem` meets its contract.
+-- `literal::all_known` meets its contract.
 use Prim.Native.Nat.{◌-◌}
 use Rattle.state.specs.Tests.{yes, no}
 use Rattle.start_names.specs.Found.{scope}

@@ -1,4 +1,4 @@
--- `pyx::goes_on_lem` meets its contract. By computation.
+-- `pyx::goes_on` meets its contract. By computation.
 use borrow.Author.Rules.{rules}
 use Rattle.spec.specs.Bytes.{byte}
 use Rattle.spec.specs.PyxCut.{goes_on}

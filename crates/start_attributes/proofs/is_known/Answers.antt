@@ -1,4 +1,4 @@
--- `start_attributes::is_known_lem` meets its contract, arm by arm.
+-- `start_attributes::is_known` meets its contract, arm by arm.
 use Rattle.spec.specs.Bytes.{ascii}
 use Rattle.start_attributes.specs.Attributes.{known_by}
 use borrow.Author.Rules.{rules}

@@ -1,4 +1,4 @@
--- `start_lines::node_lines_lem` meets its contract: two rows of lines.
+-- `start_lines::node_lines` meets its contract: two rows of lines.
 use mathlib.Core.Path.{◌∙◌}
 use Rattle.start_lines.specs.Lines.{lines_then}
 use Rattle.writer.specs.Put.{puts, put_as}

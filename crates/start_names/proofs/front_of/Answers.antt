@@ -1,4 +1,4 @@
--- `start_names::front_of_lem` meets its contract.
+-- `start_names::front_of` meets its contract.
 use mathlib.Core.Path.{◌∙◌}
 use Rattle.start_names.specs.Tag.{front_none, front_piece}
 use native.Mathlib.Omega.{arith}
