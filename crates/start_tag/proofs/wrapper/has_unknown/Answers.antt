@@ -1,0 +1,22 @@
+-- `start_tag::wrapper::has_unknown` meets its contract.
+use mathlib.Core.Path.{ap}
+use mathlib.Core.Bool.{not}
+use Prim.Native.Nat.{◌-◌}
+use Rattle.copy.specs.Scan.{Passed, passed-begins}
+use Rattle.start_attributes.specs.Places.{places, place_stops, place_passes, places_pass}
+use Rattle.start_tag.specs.Wrapper.{known_at, unknown_here, known_here}
+use native.Mathlib.Omega.{arith}
+use borrow.Author.Rules.{rules}
+use Rattle.start_tag.proofs.wrapper.has_unknown.Goals as goal
+
+pub loop-j-init : goal.loop-j-init
+loop-j-init c = passed-begins
+
+pub returns-then-kind-eq1 : goal.returns-then-kind-eq1
+returns-then-kind-eq1 c = ap not (place_stops c.loop-j.invariant (omega arith) (unknown_here _ _ c.load-class.ensures c.kind.ensures c.if-kind-eq1.true))
+
+pub loop-j-preserved : goal.loop-j-preserved
+loop-j-preserved c = place_passes c.loop-j.invariant (omega arith) (known_here _ _ c.load-class.ensures c.kind.ensures c.if-kind-eq1.false)
+
+pub returns : goal.returns
+returns c = ap not (places_pass c.loop-j.invariant (omega arith))
