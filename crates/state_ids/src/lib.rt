@@ -12,7 +12,7 @@ use resolve::Resolved;
 
 // Place `i` holds the ID that lies in the store from `at[i]` on and is `len[i]` bytes long. `count` places are in use, the oldest first;
 // their bytes lie end to end and fill the store up to `used`.
-#[derive(Drop)]
+#[derive(Clone, Copy)]
 pub struct IdTable {
     pub count: usize,
     pub used: usize,
