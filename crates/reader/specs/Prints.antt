@@ -84,7 +84,7 @@ does_runs : {k : ℕ} {rest : Bytes} {ps : List Bytes} {d : Doc} {w : Bytes} {j 
     → Does (is_empty ps) rest d j n o d' → Runs (k + j) (drop n rest) ps d' w → Runs k rest ps d (o ++ w)
 does_runs {k} none r = rw (add-zero k) at r
 does_runs {k} {rest} {ps} {w = w} (one {k = j} {n = n} {o = o} {d' = e} h a q) r =
-    rw append_assoc (does_runs h (runs_on a q (rw (drop-drop, ← add-suc k j) r)))
+    rw append_assoc (does_runs {w = a.lines ++ w} h (runs_on a q (rw (drop-drop, ← add-suc k j) r)))
 
 refused_runs : {k : ℕ} {rest : Bytes} {ps : List Bytes} {d : Doc} {n : Refusal} → first_accepted (is_empty ps) rest program_room d ≡ refuse n → (n ≡ Incomplete → ⊥)
     → Runs k rest ps d (last_line (number n) k)
