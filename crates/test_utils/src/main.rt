@@ -1,20 +1,35 @@
 // Answers of the crate utils for the bytes on each line of the input, written as pairs of hexadecimal digits with one byte between them.
 #![tactic(auto)]
 
-ghost use Rattle.std.specs.Prelude.{◌<◌};
+ghost use Rattle.std.specs.Prelude.{◌<◌, ◌≤◌, length};
 
-use libc::{STDIN_FILENO, STDOUT_FILENO};
+use std::io::{Read, Stdout};
 use utils::{Decoded, Name};
 
-fn main() {
-    let mut input = io::large_buffer();
-    let n = io::read_full(STDIN_FILENO, &mut input);
-    report(b"");
-    report_lines(&input[..n]);
+fn main(rt: HostRuntime) {
+    let mut input = [0u8; 65536];
+    let n = read_full(&mut rt.stdin(), &mut input);
+    report(rt.stdout(), b"");
+    report_lines(rt.stdout(), &input[..n]);
+}
+
+// Reads until `buf` is full, the input ends or a read fails: how many bytes are at its front.
+fn read_full<R: Read>(from: &mut R, buf: &mut [u8]) -> usize
+    ensures { result ≤ length buf.new }
+{
+    let mut done = 0;
+    while done < buf.len() {
+        match from.read(&mut buf[done..]) {
+            Ok(0) => return done,
+            Ok(n) => done += n,
+            Err(_) => return done,
+        }
+    }
+    done
 }
 
 // Each line's bytes are gathered, at most 32.
-fn report_lines(input: &[u8]) {
+fn report_lines(out: Stdout, input: &[u8]) {
     let mut bytes = [0u8; 32];
     let mut n = 0;
     let mut i = 0;
@@ -25,7 +40,7 @@ fn report_lines(input: &[u8]) {
         bytes[n] = digit(input[i]) * 16 + digit(input[i + 1]);
         n += 1;
         if input[i + 2] == b'\n' {
-            report(&bytes[..n]);
+            report(out, &bytes[..n]);
             n = 0;
         }
         i += 3;
@@ -39,70 +54,83 @@ fn digit(b: u8) -> u8
     if b >= 97 { (b - 97) % 6 + 10 } else { b % 16 }
 }
 
-fn report(s: &[u8]) {
-    print_bytes(s);
-    print_first(s);
-    say(utils::is_text(s), b", text");
-    say(utils::is_blank(s), b", blank");
-    say(utils::is_nc_name(s), b", NCName");
-    print_name(s);
-    io::write_all(STDOUT_FILENO, b"\n");
+fn report(out: Stdout, s: &[u8]) {
+    print_bytes(out, s);
+    print_first(out, s);
+    say(out, utils::is_text(s), b", text");
+    say(out, utils::is_blank(s), b", blank");
+    say(out, utils::is_nc_name(s), b", NCName");
+    print_name(out, s);
+    print(out, b"\n");
 }
 
-fn print_bytes(s: &[u8]) {
+fn print_bytes(out: Stdout, s: &[u8]) {
     let mut i = 0;
     while i < s.len() {
-        io::print_hex(STDOUT_FILENO, as_u64(s[i]), 2);
-        io::write_all(STDOUT_FILENO, b" ");
+        print_hex(out, as_u64(s[i]), 2);
+        print(out, b" ");
         i += 1;
     }
 }
 
-fn print_first(s: &[u8]) {
+fn print_first(out: Stdout, s: &[u8]) {
     match utils::decode(s) {
         Decoded::End => {
-            io::write_all(STDOUT_FILENO, b"end");
+            print(out, b"end");
         }
-        Decoded::Malformed => print_malformed(s),
-        Decoded::Character(c, n) => print_character(c, n),
+        Decoded::Malformed => print_malformed(out, s),
+        Decoded::Character(c, n) => print_character(out, c, n),
     }
 }
 
-fn print_malformed(s: &[u8]) {
-    io::write_all(STDOUT_FILENO, b"malformed");
+fn print_malformed(out: Stdout, s: &[u8]) {
+    print(out, b"malformed");
     if 0 < s.len() {
-        io::write_all(STDOUT_FILENO, b", leading ones ");
-        io::print_decimal(STDOUT_FILENO, utils::sequence_length(s[0]) as u64);
+        print(out, b", leading ones ");
+        print_decimal(out, utils::sequence_length(s[0]) as u64);
     }
 }
 
-fn print_character(c: u32, n: usize) {
-    io::write_all(STDOUT_FILENO, b"U+");
-    io::print_hex(STDOUT_FILENO, c as u64, 4);
-    io::write_all(STDOUT_FILENO, b" of ");
-    io::print_decimal(STDOUT_FILENO, n as u64);
-    say(utils::is_char(c), b", Char");
-    say(utils::is_name_start_char(c), b", NameStartChar");
-    say(utils::is_name_char(c), b", NameChar");
+fn print_character(out: Stdout, c: u32, n: usize) {
+    print(out, b"U+");
+    print_hex(out, c as u64, 4);
+    print(out, b" of ");
+    print_decimal(out, n as u64);
+    say(out, utils::is_char(c), b", Char");
+    say(out, utils::is_name_start_char(c), b", NameStartChar");
+    say(out, utils::is_name_char(c), b", NameChar");
 }
 
-fn print_name(s: &[u8]) {
+fn print_name(out: Stdout, s: &[u8]) {
     match utils::qname(s) {
         Name::NotName => {}
         Name::Local => {
-            io::write_all(STDOUT_FILENO, b", local name");
+            print(out, b", local name");
         }
         Name::Prefixed(k) => {
-            io::write_all(STDOUT_FILENO, b", colon at ");
-            io::print_decimal(STDOUT_FILENO, k as u64);
+            print(out, b", colon at ");
+            print_decimal(out, k as u64);
         }
     }
 }
 
-fn say(yes: bool, words: &[u8]) {
+fn say(out: Stdout, yes: bool, words: &[u8]) {
     if yes {
-        io::write_all(STDOUT_FILENO, words);
+        print(out, words);
     }
+}
+
+// An output that takes no more loses what is printed, and the program goes on.
+fn print(out: Stdout, s: &[u8]) {
+    let _ = out.write_all(s);
+}
+
+fn print_decimal(out: Stdout, n: u64) {
+    let _ = print!(out; "{n}");
+}
+
+fn print_hex(out: Stdout, n: u64, width: usize) {
+    let _ = print!(out; "{n:0width$x}");
 }
 
 fn as_u64(b: u8) -> u64 {
