@@ -1,22 +1,39 @@
 // Streams of events, parted by the byte FF in the input. Of each are printed where the first event of every beginning ends,
 // as long as more may follow and where no more does, and what each event of the whole is.
-use libc::{STDIN_FILENO, STDOUT_FILENO};
-use pyx::{Event, First};
+ghost use Rattle.std.specs.Prelude.{◌≤◌, length};
 
-pub fn try_all() {
-    let mut input = io::large_buffer();
-    let n = io::read_full(STDIN_FILENO, &mut input);
-    streams(&input[..n]);
-    longest();
-    scratches();
+use pyx::{Event, First};
+use std::io::{Read, Stdin, Stdout};
+
+pub fn try_all(mut from: Stdin, out: Stdout) {
+    let mut input = [0u8; 65536];
+    let n = read_full(&mut from, &mut input);
+    streams(out, &input[..n]);
+    longest(out);
+    scratches(out);
 }
 
-fn streams(input: &[u8]) {
+// Reads until `buf` is full, the input ends or a read fails: how many bytes are at its front.
+fn read_full<R: Read>(from: &mut R, buf: &mut [u8]) -> usize
+    ensures { result ≤ length buf.new }
+{
+    let mut done = 0;
+    while done < buf.len() {
+        match from.read(&mut buf[done..]) {
+            Ok(0) => return done,
+            Ok(n) => done += n,
+            Err(_) => return done,
+        }
+    }
+    done
+}
+
+fn streams(out: Stdout, input: &[u8]) {
     let mut at = 0;
     while at < input.len() {
         let n = copy::find(&input[at..], 255);
         let end = at + n;
-        stream(&input[at..end]);
+        stream(out, &input[at..end]);
         if end == input.len() {
             return;
         }
@@ -24,28 +41,28 @@ fn streams(input: &[u8]) {
     }
 }
 
-fn stream(s: &[u8]) {
-    print(b"stream of ");
-    print_number(s.len());
-    print(b"\n  more may follow:");
-    cuts(s, false);
-    print(b"\n  no more:");
-    cuts(s, true);
-    print(b"\n");
-    events(s);
+fn stream(out: Stdout, s: &[u8]) {
+    print(out, b"stream of ");
+    print_number(out, s.len());
+    print(out, b"\n  more may follow:");
+    cuts(out, s, false);
+    print(out, b"\n  no more:");
+    cuts(out, s, true);
+    print(out, b"\n");
+    events(out, s);
 }
 
 // The first event of every beginning, where it differs from that of the beginning one byte shorter.
-fn cuts(s: &[u8], last: bool) {
+fn cuts(out: Stdout, s: &[u8], last: bool) {
     let mut before = 0;
     let mut n = 0;
     while n < s.len() {
         let now = cut(&s[..n], last);
-        print_change(n, now, before);
+        print_change(out, n, now, before);
         before = now;
         n += 1;
     }
-    print_change(n, cut(s, last), before);
+    print_change(out, n, cut(s, last), before);
 }
 
 // How many bytes the first event has, or a number above all such.
@@ -58,35 +75,35 @@ fn cut(s: &[u8], last: bool) -> usize {
     }
 }
 
-fn print_change(n: usize, now: usize, before: usize) {
+fn print_change(out: Stdout, n: usize, now: usize, before: usize) {
     if now == before {
         return;
     }
-    print(b" ");
-    print_number(n);
-    print(b" ");
-    print_cut(now);
-    print(b";");
+    print(out, b" ");
+    print_number(out, n);
+    print(out, b" ");
+    print_cut(out, now);
+    print(out, b";");
 }
 
-fn print_cut(cut: usize) {
+fn print_cut(out: Stdout, cut: usize) {
     if cut == 100_001 {
-        print(b"wait");
+        print(out, b"wait");
         return;
     }
     if cut == 100_002 {
-        print(b"unended");
+        print(out, b"unended");
         return;
     }
     if cut == 100_003 {
-        print(b"too long");
+        print(out, b"too long");
         return;
     }
-    print_number(cut);
+    print_number(out, cut);
 }
 
 // The spans have places for two attributes.
-fn events(s: &[u8]) {
+fn events(out: Stdout, s: &[u8]) {
     let mut scratch = [0u8; Event::MOST_BYTES];
     let mut spans = [0u32; 8];
     let mut at = 0;
@@ -94,7 +111,7 @@ fn events(s: &[u8]) {
         match pyx::first_event(pyx::rest(s, at), true) {
             First::Whole(n) => {
                 let end = at + n;
-                event(&s[at..end], &mut scratch, &mut spans);
+                event(out, &s[at..end], &mut scratch, &mut spans);
                 at = end;
             }
             First::Wait => return,
@@ -104,41 +121,42 @@ fn events(s: &[u8]) {
     }
 }
 
-fn event(s: &[u8], scratch: &mut [u8], spans: &mut [u32]) {
+fn event(out: Stdout, s: &[u8], scratch: &mut [u8], spans: &mut [u32]) {
     let decoded = pyx::decode(s, scratch, spans);
-    print_event(decoded, scratch, spans);
-    print(b"\n");
+    print_event(out, decoded, scratch, spans);
+    print(out, b"\n");
 }
 
-fn print_event(event: Event, scratch: &[u8], spans: &[u32]) {
+fn print_event(out: Stdout, event: Event, scratch: &[u8], spans: &[u32]) {
     match event {
-        Event::Malformed => print(b"  malformed"),
-        Event::NoScratch => print(b"  no scratch"),
-        Event::Instruction => print(b"  instruction"),
-        Event::Crowded => print(b"  crowded"),
-        Event::Text(n) => print_named(b"  text ", scratch, n),
-        Event::Closing(n) => print_named(b"  closing ", scratch, n),
+        Event::Malformed => print(out, b"  malformed"),
+        Event::NoScratch => print(out, b"  no scratch"),
+        Event::Instruction => print(out, b"  instruction"),
+        Event::Crowded => print(out, b"  crowded"),
+        Event::Text(n) => print_named(out, b"  text ", scratch, n),
+        Event::Closing(n) => print_named(out, b"  closing ", scratch, n),
         Event::Opening(n, colon, k) => {
-            print_named(b"  opening ", scratch, n);
-            print(b" ");
-            print_number(colon);
-            print_attributes(scratch, spans, k);
+            print_named(out, b"  opening ", scratch, n);
+            print(out, b" ");
+            print_number(out, colon);
+            print_attributes(out, scratch, spans, k);
         }
     }
 }
 
-fn print_named(what: &[u8], scratch: &[u8], n: usize) {
-    print(what);
-    print_part(scratch, 0, n);
+fn print_named(out: Stdout, what: &[u8], scratch: &[u8], n: usize) {
+    print(out, what);
+    print_part(out, scratch, 0, n);
 }
 
-fn print_attributes(scratch: &[u8], spans: &[u32], k: usize) {
+fn print_attributes(out: Stdout, scratch: &[u8], spans: &[u32], k: usize) {
     let mut j = 0;
     while j < spans.len() / 4 {
         if j == k {
             return;
         }
         print_attribute(
+            out,
             scratch,
             spans[j * 4],
             spans[j * 4 + 1],
@@ -149,19 +167,19 @@ fn print_attributes(scratch: &[u8], spans: &[u32], k: usize) {
     }
 }
 
-fn print_attribute(scratch: &[u8], start: u32, name: u32, colon: u32, value: u32) {
-    print(b"\n    ");
-    print_number(start as usize);
-    print(b" ");
-    print_part(scratch, start as usize, name as usize);
-    print(b" ");
-    print_number(colon as usize);
-    print(b" ");
-    print_part(scratch, start as usize + name as usize, value as usize);
+fn print_attribute(out: Stdout, scratch: &[u8], start: u32, name: u32, colon: u32, value: u32) {
+    print(out, b"\n    ");
+    print_number(out, start as usize);
+    print(out, b" ");
+    print_part(out, scratch, start as usize, name as usize);
+    print(out, b" ");
+    print_number(out, colon as usize);
+    print(out, b" ");
+    print_part(out, scratch, start as usize + name as usize, value as usize);
 }
 
 // So many bytes of the scratch from a place on, if it has them.
-fn print_part(scratch: &[u8], from: usize, n: usize) {
+fn print_part(out: Stdout, scratch: &[u8], from: usize, n: usize) {
     if scratch.len() < from {
         return;
     }
@@ -169,80 +187,81 @@ fn print_part(scratch: &[u8], from: usize, n: usize) {
         return;
     }
     let end = from + n;
-    show(&scratch[from..end]);
+    show(out, &scratch[from..end]);
 }
 
 // Between apostrophes, what is no letter, digit or mark of ASCII in hexadecimal.
-fn show(s: &[u8]) {
-    print(b"'");
+fn show(out: Stdout, s: &[u8]) {
+    print(out, b"'");
     let mut i = 0;
     while i < s.len() {
-        show_byte(s[i]);
+        show_byte(out, s[i]);
         i += 1;
     }
-    print(b"'");
+    print(out, b"'");
 }
 
-fn show_byte(b: u8) {
+fn show_byte(out: Stdout, b: u8) {
     if (b > 32) & (b < 127) {
         let one = [b];
-        print(&one);
+        print(out, &one);
         return;
     }
-    print(b"<");
-    io::print_hex(STDOUT_FILENO, b as u64, 2);
-    print(b">");
+    print(out, b"<");
+    let _ = print!(out; "{b:02x}");
+    print(out, b">");
 }
 
 // Events of the most bytes, and of one more.
-fn longest() {
+fn longest(out: Stdout) {
     let mut s = [97u8; Event::MOST_BYTES + 3];
     s[0] = b'-';
     s[Event::MOST_BYTES - 1] = b'\n';
-    print(b"longest:");
-    print_front(&s, 32_768, false);
-    print_front(&s, 32_768, true);
-    print_front(&s, 32_769, false);
+    print(out, b"longest:");
+    print_front(out, &s, 32_768, false);
+    print_front(out, &s, 32_768, true);
+    print_front(out, &s, 32_769, false);
     s[Event::MOST_BYTES] = b'-';
-    print_front(&s, 32_769, false);
-    unended();
+    print_front(out, &s, 32_769, false);
+    unended(out);
 }
 
 // And a line that does not end there.
-fn unended() {
+fn unended(out: Stdout) {
     let mut s = [97u8; Event::MOST_BYTES + 3];
     let mut scratch = [0u8; Event::MOST_BYTES];
     let mut spans = [0u32; 8];
     s[0] = b'-';
     s[Event::MOST_BYTES] = b'-';
-    print_front(&s, 32_768, true);
-    print_front(&s, 32_769, true);
-    print_front(&s, 32_771, true);
-    print(b"\n");
-    event(&s[..32_769], &mut scratch, &mut spans);
+    print_front(out, &s, 32_768, true);
+    print_front(out, &s, 32_769, true);
+    print_front(out, &s, 32_771, true);
+    print(out, b"\n");
+    event(out, &s[..32_769], &mut scratch, &mut spans);
 }
 
 // Where the first event of the first n bytes ends.
-fn print_front(s: &[u8], n: usize, last: bool) {
+fn print_front(out: Stdout, s: &[u8], n: usize, last: bool) {
     if n <= s.len() {
-        print_change(n, cut(&s[..n], last), 0);
+        print_change(out, n, cut(&s[..n], last), 0);
     }
 }
 
 // A scratch that is just long enough, one that is too short, and a line that no event has.
-fn scratches() {
+fn scratches(out: Stdout) {
     let mut scratch = [0u8; 9];
     let mut spans = [0u32; 8];
-    event(b"(a\nAb cd\n", &mut scratch, &mut spans);
-    event(b"(a\nAb cde\n", &mut scratch, &mut spans);
-    event(b"(a\n b cd\n", &mut scratch, &mut spans);
-    event(b"", &mut scratch, &mut spans);
+    event(out, b"(a\nAb cd\n", &mut scratch, &mut spans);
+    event(out, b"(a\nAb cde\n", &mut scratch, &mut spans);
+    event(out, b"(a\n b cd\n", &mut scratch, &mut spans);
+    event(out, b"", &mut scratch, &mut spans);
 }
 
-fn print(s: &[u8]) {
-    io::write_all(STDOUT_FILENO, s);
+// An output that takes no more loses what is printed, and the program goes on.
+fn print(out: Stdout, s: &[u8]) {
+    let _ = out.write_all(s);
 }
 
-fn print_number(n: usize) {
-    io::print_decimal(STDOUT_FILENO, n as u64);
+fn print_number(out: Stdout, n: usize) {
+    let _ = print!(out; "{n}");
 }

@@ -1,35 +1,45 @@
 // Each kind of term with every byte from 0 to 127 that needs an escape, measured first and then written; and the bounds of room and counts.
-use libc::STDOUT_FILENO;
 use ntriples::{Node, Term};
+use std::io::Stdout;
 
-pub fn try_all() {
-    names();
-    texts();
-    marked_texts();
-    rows();
-    xml();
-    bounds();
-    most();
+pub fn try_all(stdout: Stdout) {
+    names(stdout);
+    texts(stdout);
+    marked_texts(stdout);
+    rows(stdout);
+    xml(stdout);
+    bounds(stdout);
+    most(stdout);
 }
 
-fn say(s: &[u8]) {
-    io::write_all(STDOUT_FILENO, s);
+// An output that takes no more loses what is printed, and the program goes on.
+fn say(stdout: Stdout, s: &[u8]) {
+    let _ = stdout.write_all(s);
 }
 
 // What was written, if it was measured as written.
-fn show(out: &[u8], measured: usize, written: usize) {
+fn show(stdout: Stdout, out: &[u8], measured: usize, written: usize) {
     if measured != written {
-        say(b"not as measured\n");
+        say(stdout, b"not as measured\n");
         return;
     }
     if out.len() < written {
-        say(b"no room\n");
+        say(stdout, b"no room\n");
         return;
     }
-    say(&out[..written]);
+    say(stdout, &out[..written]);
 }
 
-fn line(node: Node, s: &[u8], name: &[u8], term: Term, front: &[u8], back: &[u8], extra: &[u8]) {
+fn line(
+    stdout: Stdout,
+    node: Node,
+    s: &[u8],
+    name: &[u8],
+    term: Term,
+    front: &[u8],
+    back: &[u8],
+    extra: &[u8],
+) {
     let mut out = [0u8; 2048];
     let e = b"http://e/";
     let n = ntriples::line(
@@ -38,10 +48,10 @@ fn line(node: Node, s: &[u8], name: &[u8], term: Term, front: &[u8], back: &[u8]
     let m = ntriples::line(
         &mut out, 0, true, node, s, e, name, term, front, back, extra,
     );
-    show(&out, n, m);
+    show(stdout, &out, n, m);
 }
 
-fn statement(has: bool, id: &[u8], term: Term, front: &[u8], extra: &[u8]) {
+fn statement(stdout: Stdout, has: bool, id: &[u8], term: Term, front: &[u8], extra: &[u8]) {
     let mut out = [0u8; 2048];
     let b = Node::Blank;
     let r = ntriples::RDF;
@@ -51,10 +61,10 @@ fn statement(has: bool, id: &[u8], term: Term, front: &[u8], extra: &[u8]) {
     let m = ntriples::statement(
         &mut out, 0, true, has, id, b, b"s", &r, b"value", term, front, b"", extra,
     );
-    show(&out, n, m);
+    show(stdout, &out, n, m);
 }
 
-fn cell(rest: Node, others: &[u8]) {
+fn cell(stdout: Stdout, rest: Node, others: &[u8]) {
     let mut out = [0u8; 2048];
     let f = Node::Named;
     let n = ntriples::cell(
@@ -77,7 +87,7 @@ fn cell(rest: Node, others: &[u8]) {
         rest,
         others,
     );
-    show(&out, n, m);
+    show(stdout, &out, n, m);
 }
 
 fn tag(out: &mut [u8], on: bool) -> usize {
@@ -89,10 +99,11 @@ fn tag(out: &mut [u8], on: bool) -> usize {
     xmltext::end_tag(out, to, on, b"e:a")
 }
 
-fn names() {
+fn names(stdout: Stdout) {
     let n = Node::Named;
     let marks = b"a<b>c\"d{e}f|g^h`i\\j";
     line(
+        stdout,
         n,
         b"http://e/s",
         b"p",
@@ -101,60 +112,88 @@ fn names() {
         marks,
         b"",
     );
-    line(n, marks, b"p q", Term::Named, b"", b"", b"");
+    line(stdout, n, marks, b"p q", Term::Named, b"", b"", b"");
 }
 
-fn texts() {
+fn texts(stdout: Stdout) {
     let b = Node::Blank;
-    line(b, b"s", b"p", Term::Blank, b"o", b"1", b"");
-    line(b, b"s", b"p", Term::Plain, b"\"\\\n\r", b"plain", b"");
-    line(b, b"s", b"p", Term::Plain, b"", b"a\"b\\c\nd\re", b"");
+    line(stdout, b, b"s", b"p", Term::Blank, b"o", b"1", b"");
+    line(
+        stdout,
+        b,
+        b"s",
+        b"p",
+        Term::Plain,
+        b"\"\\\n\r",
+        b"plain",
+        b"",
+    );
+    line(
+        stdout,
+        b,
+        b"s",
+        b"p",
+        Term::Plain,
+        b"",
+        b"a\"b\\c\nd\re",
+        b"",
+    );
 }
 
-fn marked_texts() {
+fn marked_texts(stdout: Stdout) {
     let b = Node::Blank;
-    line(b, b"s", b"p", Term::Tagged, b"chat", b"", b"fr-be");
-    line(b, b"s", b"p", Term::Typed, b"1", b"2", b"http://e/t t");
+    line(stdout, b, b"s", b"p", Term::Tagged, b"chat", b"", b"fr-be");
+    line(
+        stdout,
+        b,
+        b"s",
+        b"p",
+        Term::Typed,
+        b"1",
+        b"2",
+        b"http://e/t t",
+    );
 }
 
-fn rows() {
-    statement(false, b"http://e/#i", Term::Plain, b"v", b"");
+fn rows(stdout: Stdout) {
+    statement(stdout, false, b"http://e/#i", Term::Plain, b"v", b"");
     statement(
+        stdout,
         true,
         b"http://e/#i",
         Term::Typed,
         b"<a></a>",
         &ntriples::RDF_XML_LITERAL,
     );
-    cell(Node::Named, &ntriples::RDF_NIL);
-    cell(Node::Blank, b"riog00000002");
+    cell(stdout, Node::Named, &ntriples::RDF_NIL);
+    cell(stdout, Node::Blank, b"riog00000002");
 }
 
-fn xml() {
+fn xml(stdout: Stdout) {
     let mut out = [0u8; 256];
     let n = tag(&mut out, false);
     let m = tag(&mut out, true);
-    show(&out, n, m);
-    say(b"\n");
+    show(stdout, &out, n, m);
+    say(stdout, b"\n");
 }
 
 // Room for all, and one short.
-fn bounds() {
+fn bounds(stdout: Stdout) {
     let mut exact = *b"......";
     let n = writer::quoted::write(&mut exact, 1, true, b"a\"bc");
-    say(&exact);
+    say(stdout, &exact);
     let mut short = *b".....";
     let m = writer::quoted::write(&mut short, 1, true, b"a\"bc");
-    say(&short);
+    say(stdout, &short);
     if n == m {
-        say(b" as counted");
+        say(stdout, b" as counted");
     }
 }
 
 // A count stays at its largest.
-fn most() {
+fn most(stdout: Stdout) {
     if writer::bytes(&mut [0u8; 6], writer::MOST - 1, true, b"abc") == writer::MOST {
-        say(b" most");
+        say(stdout, b" most");
     }
-    say(b"\n");
+    say(stdout, b"\n");
 }

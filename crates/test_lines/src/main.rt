@@ -4,7 +4,7 @@
 mod events;
 mod lines;
 
-fn main() {
-    events::try_all();
-    lines::try_all();
+fn main(rt: HostRuntime) {
+    events::try_all(rt.stdin(), rt.stdout());
+    lines::try_all(rt.stdout());
 }

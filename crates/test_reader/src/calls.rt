@@ -1,13 +1,13 @@
 // What no file of documents can hold: output one byte short, input that is no text or not whole, stores of another size, states that are
 // not the reader's, and the last label. What each is, and the number that a call gives.
 use crate::replay::{ahead, part};
-use libc::STDOUT_FILENO;
 use reader_contract::fed::Fed;
 use reader_contract::{Report, State};
 use spec::Mode;
 use state::Registers;
 use state_ids::IdTable;
 use state_words::Frame;
+use std::io::Stdout;
 
 // What is made of a state by hand: nothing; another number of open elements, end of what is held, number of labels; another word of the
 // table of elements; another number of rdf:IDs.
@@ -50,34 +50,41 @@ impl Change {
     }
 }
 
-pub fn try_all() {
-    rooms();
-    room_of_id();
-    incomplete();
-    not_pyx();
-    stores();
-    states();
-    counters();
+pub fn try_all(stdout: Stdout) {
+    rooms(stdout);
+    room_of_id(stdout);
+    incomplete(stdout);
+    not_pyx(stdout);
+    stores(stdout);
+    states(stdout);
+    counters(stdout);
 }
 
 // ---- output room
 
-fn rooms() {
+fn rooms(stdout: Stdout) {
     let mut text = [0u8; 256];
     let at = root(&mut text);
     let mut short = [0u8; 79];
     let mut exact = [0u8; 80];
-    repeat(b"a node", part(&text, 0, at), &mut short, &mut exact);
+    repeat(
+        stdout,
+        b"a node",
+        part(&text, 0, at),
+        &mut short,
+        &mut exact,
+    );
 }
 
 // The rdf:ID must not have been entered where the event is to be repeated.
-fn room_of_id() {
+fn room_of_id(stdout: Stdout) {
     let mut text = [0u8; 256];
     let at = root(&mut text);
     let at = add(&mut text, at, b"Axml:base http://e/\nAr:ID i\n");
     let mut short = [0u8; 78];
     let mut exact = [0u8; 79];
     repeat(
+        stdout,
         b"a node with rdf:ID",
         part(&text, 0, at),
         &mut short,
@@ -86,98 +93,126 @@ fn room_of_id() {
 }
 
 // The first event with a byte too little, and then with room.
-fn repeat(what: &[u8], text: &[u8], short: &mut [u8], exact: &mut [u8]) {
+fn repeat(stdout: Stdout, what: &[u8], text: &[u8], short: &mut [u8], exact: &mut [u8]) {
     let mut work = [0u8; Registers::STORE];
     let mut ids = [0u8; IdTable::BYTES];
     let state = begun(&mut work, &ids);
-    print(b"one byte short, ");
-    let state = step(what, state, &mut work, &mut ids, text, true, short);
-    print(b"just room, ");
-    step(what, state, &mut work, &mut ids, text, true, exact);
-    print(exact);
+    print(stdout, b"one byte short, ");
+    let state = step(stdout, what, state, &mut work, &mut ids, text, true, short);
+    print(stdout, b"just room, ");
+    step(stdout, what, state, &mut work, &mut ids, text, true, exact);
+    print(stdout, exact);
 }
 
 // ---- input
 
-fn incomplete() {
+fn incomplete(stdout: Stdout) {
     first_step(
+        stdout,
         b"an event that may go on",
         b"(e:a\nAxmlns:e http://e/\n",
         false,
     );
-    first_step(b"a line that goes on", b"(e:a", false);
-    first_step(b"nothing, where more may follow", b"", false);
-    first_step(b"nothing, and no more follows", b"", true);
+    first_step(stdout, b"a line that goes on", b"(e:a", false);
+    first_step(stdout, b"nothing, where more may follow", b"", false);
+    first_step(stdout, b"nothing, and no more follows", b"", true);
 }
 
-fn not_pyx() {
-    first_step(b"not UTF-8", b"-\xff\n", true);
-    first_step(b"a forbidden character", b"-\x01\n", true);
-    first_step(b"the last line unended", b"-x", true);
+fn not_pyx(stdout: Stdout) {
+    first_step(stdout, b"not UTF-8", b"-\xff\n", true);
+    first_step(stdout, b"a forbidden character", b"-\x01\n", true);
+    first_step(stdout, b"the last line unended", b"-x", true);
 }
 
 // ---- what is lent, and the state
 
-fn stores() {
+fn stores(stdout: Stdout) {
     let mut work = [0u8; Registers::STORE];
     let mut short = [0u8; Registers::STORE - 1];
     let mut ids = [0u8; IdTable::BYTES];
     let mut few = [0u8; IdTable::BYTES - 1];
-    begins(b"a short work store", &mut short, &mut ids);
-    begins(b"a short ID store", &mut work, &mut few);
-    begins(b"no document", &mut work, &mut ids);
+    begins(stdout, b"a short work store", &mut short, &mut ids);
+    begins(stdout, b"a short ID store", &mut work, &mut few);
+    begins(stdout, b"no document", &mut work, &mut ids);
 }
 
 // Start with the stores, and step and finish of no document.
-fn begins(what: &[u8], work: &mut [u8], ids: &mut [u8]) {
+fn begins(stdout: Stdout, what: &[u8], work: &mut [u8], ids: &mut [u8]) {
     let before = State::none();
     let started = reader::start(before, Mode::base(), false, b"", work, ids);
-    print(b"start, ");
-    report(what, started);
-    behind(what, before, work, ids);
+    print(stdout, b"start, ");
+    report(stdout, what, started);
+    behind(stdout, what, before, work, ids);
 }
 
-fn states() {
-    state(b"the root's end", Change::Nothing, b")e:a\n");
-    state(b"a wrong end", Change::Nothing, b")e:b\n");
-    state(b"65 open elements in a state", Change::Depth(65), b"?x\n");
+fn states(stdout: Stdout) {
+    state(stdout, b"the root's end", Change::Nothing, b")e:a\n");
+    state(stdout, b"a wrong end", Change::Nothing, b")e:b\n");
     state(
+        stdout,
+        b"65 open elements in a state",
+        Change::Depth(65),
+        b"?x\n",
+    );
+    state(
+        stdout,
         b"a work store used beyond its end",
         Change::Top(65_537),
         b"?x\n",
     );
-    state(b"a root that starts at 1", Change::Word(1, 1), b"?x\n");
-    state(b"513 rdf:IDs in a state", Change::Ids(513), b"?x\n");
+    state(
+        stdout,
+        b"a root that starts at 1",
+        Change::Word(1, 1),
+        b"?x\n",
+    );
+    state(stdout, b"513 rdf:IDs in a state", Change::Ids(513), b"?x\n");
 }
 
 // 99,999,999 is the last label, and the last rdf:li of a node.
-fn counters() {
+fn counters(stdout: Stdout) {
     let last = Change::Labels(99_999_998);
-    state(b"label 99,999,999", last, b"(e:a\n(e:a\n)e:a\n)e:a\n)e:a\n");
-    state(b"label 100,000,000", last, b"(e:a\n(e:a\n)e:a\n(e:a\n");
+    state(
+        stdout,
+        b"label 99,999,999",
+        last,
+        b"(e:a\n(e:a\n)e:a\n)e:a\n)e:a\n",
+    );
+    state(
+        stdout,
+        b"label 100,000,000",
+        last,
+        b"(e:a\n(e:a\n)e:a\n(e:a\n",
+    );
     let last = Change::Word(16, 99_999_998);
-    state(b"rdf:li 99,999,999", last, b"(r:li\n)r:li\n)e:a\n");
-    state(b"rdf:li 100,000,000", last, b"(r:li\n)r:li\n(r:li\n");
+    state(stdout, b"rdf:li 99,999,999", last, b"(r:li\n)r:li\n)e:a\n");
+    state(
+        stdout,
+        b"rdf:li 100,000,000",
+        last,
+        b"(r:li\n)r:li\n(r:li\n",
+    );
 }
 
 // A document whose root is open, its state changed, and what follows; then a step and finish behind it.
-fn state(what: &[u8], change: Change, input: &[u8]) {
+fn state(stdout: Stdout, what: &[u8], change: Change, input: &[u8]) {
     let mut work = [0u8; Registers::STORE];
     let mut ids = [0u8; IdTable::BYTES];
     let mut out = [0u8; Fed::ROOM];
-    let state = change.of(opened(&mut work, &mut ids));
+    let state = change.of(opened(stdout, &mut work, &mut ids));
     let ended = crate::replay::go_on(state, input, b"", &mut work, &mut ids, &mut out);
-    line(what, ended.number);
-    behind(what, ended.state, &mut work, &mut ids);
+    line(stdout, what, ended.number);
+    behind(stdout, what, ended.state, &mut work, &mut ids);
 }
 
 // A document whose root is open.
-fn opened(work: &mut [u8], ids: &mut [u8]) -> State {
+fn opened(stdout: Stdout, work: &mut [u8], ids: &mut [u8]) -> State {
     let state = begun(work, ids);
     let mut text = [0u8; 256];
     let at = root(&mut text);
     let mut out = [0u8; 256];
     step(
+        stdout,
         b"the root's start",
         state,
         work,
@@ -188,21 +223,23 @@ fn opened(work: &mut [u8], ids: &mut [u8]) -> State {
     )
 }
 
-fn behind(what: &[u8], state: State, work: &mut [u8], ids: &mut [u8]) {
+fn behind(stdout: Stdout, what: &[u8], state: State, work: &mut [u8], ids: &mut [u8]) {
     let mut out = [0u8; 256];
-    print(b"finish behind ");
-    report(what, reader::finish(state, work, ids));
-    print(b"step behind ");
-    step(what, state, work, ids, b"?x\n", true, &mut out);
+    print(stdout, b"finish behind ");
+    report(stdout, what, reader::finish(state, work, ids));
+    print(stdout, b"step behind ");
+    step(stdout, what, state, work, ids, b"?x\n", true, &mut out);
 }
 
 // The first step of a document.
-fn first_step(what: &[u8], input: &[u8], last: bool) {
+fn first_step(stdout: Stdout, what: &[u8], input: &[u8], last: bool) {
     let mut work = [0u8; Registers::STORE];
     let mut ids = [0u8; IdTable::BYTES];
     let mut out = [0u8; 256];
     let state = begun(&mut work, &ids);
-    step(what, state, &mut work, &mut ids, input, last, &mut out);
+    step(
+        stdout, what, state, &mut work, &mut ids, input, last, &mut out,
+    );
 }
 
 // A document that begins without a base.
@@ -213,6 +250,7 @@ fn begun(work: &mut [u8], ids: &[u8]) -> State {
 
 // A step, told by what it is on.
 fn step(
+    stdout: Stdout,
     what: &[u8],
     state: State,
     work: &mut [u8],
@@ -222,7 +260,7 @@ fn step(
     out: &mut [u8],
 ) -> State {
     let done = reader::step(state, work, ids, input, last, out);
-    report(what, done);
+    report(stdout, what, done);
     done.state
 }
 
@@ -245,22 +283,23 @@ fn add(text: &mut [u8], at: usize, s: &[u8]) -> usize {
 
 // ---- lines
 
-fn report(what: &[u8], done: Report) {
+fn report(stdout: Stdout, what: &[u8], done: Report) {
     let answer = done.answer;
-    line(what, answer.number());
+    line(stdout, what, answer.number());
 }
 
-fn line(what: &[u8], number: u8) {
-    print(what);
-    print(b": ");
-    print_number(number as usize);
-    print(b"\n");
+fn line(stdout: Stdout, what: &[u8], number: u8) {
+    print(stdout, what);
+    print(stdout, b": ");
+    print_number(stdout, number as usize);
+    print(stdout, b"\n");
 }
 
-fn print(s: &[u8]) {
-    io::write_all(STDOUT_FILENO, s);
+// An output that takes no more loses what is printed, and the program goes on.
+fn print(stdout: Stdout, s: &[u8]) {
+    let _ = stdout.write_all(s);
 }
 
-fn print_number(n: usize) {
-    io::print_decimal(STDOUT_FILENO, n as u64);
+fn print_number(stdout: Stdout, n: usize) {
+    let _ = print!(stdout; "{n}");
 }

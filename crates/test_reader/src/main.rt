@@ -6,12 +6,13 @@ mod replay;
 
 use spec::Mode;
 
-fn main() {
-    replay::replay_file(b"documents", Mode::base());
-    replay::replay_file(b"numbers", Mode::base());
-    replay::replay_file(b"limits", Mode::base());
-    replay::replay_file(b"w3c/tests", Mode::base());
-    replay::replay_file(b"languages", Mode::base());
-    replay::replay_file(b"packets", Mode::xmp());
-    calls::try_all();
+fn main(rt: HostRuntime) {
+    let stdout = rt.stdout();
+    replay::replay_file(&rt, stdout, "documents", Mode::base());
+    replay::replay_file(&rt, stdout, "numbers", Mode::base());
+    replay::replay_file(&rt, stdout, "limits", Mode::base());
+    replay::replay_file(&rt, stdout, "w3c/tests", Mode::base());
+    replay::replay_file(&rt, stdout, "languages", Mode::base());
+    replay::replay_file(&rt, stdout, "packets", Mode::xmp());
+    calls::try_all(stdout);
 }

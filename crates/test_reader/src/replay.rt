@@ -5,12 +5,14 @@ ghost use Rattle.reader_contract.specs.Meets.{lengths_right};
 ghost use Rattle.test_reader.specs.Lines.{part_of, Within, Behind};
 ghost use Rattle.test_reader.specs.Ways.{Ends, Runs, Turns, Finished, way_of, advanced, stopped, ended_of};
 
-use libc::STDOUT_FILENO;
 use reader_contract::fed::Fed;
 use reader_contract::{Report, State};
 use spec::Mode;
 use state::Registers;
 use state_ids::IdTable;
+use std::fs::File;
+use std::io::{Read, Stdout};
+use std::rt::Files;
 
 // How a document ended: its state, the number of its last call, and whether its lines were the expected ones.
 #[derive(Clone, Copy)]
@@ -75,18 +77,34 @@ impl Way {
 //
 // A document is a line `= NAME`, or `= NAME BASE`, its PYX lines, a line `> NUMBER` with the number that it must end in, the lines that it
 // must give, and a line `.`. These marks begin no line of PYX or N-Triples.
-pub fn replay_file(path: &[u8], mode: Mode) -> Tally
+pub fn replay_file<R: Files + Eprint>(rt: &R, stdout: Stdout, path: &str, mode: Mode) -> Tally
     ensures { result.same ≤ result.count }
 {
-    let file = os::open_read(path);
-    if file < 0 {
-        os::fail(path);
-        return Tally { count: 0, same: 0 };
-    }
+    let mut file = match File::open(rt, path) {
+        Ok(file) => file,
+        Err(why) => {
+            let _ = eprintln!(rt; "{path}: {why}");
+            return Tally { count: 0, same: 0 };
+        }
+    };
     let mut text = file_buffer();
-    let n = io::read_full(file, &mut text);
-    libc::close(file);
-    replay_all(&text[..n], mode)
+    let n = read_full(&mut file, &mut text);
+    replay_all(stdout, &text[..n], mode)
+}
+
+// Reads until `buf` is full, the input ends or a read fails: how many bytes are at its front.
+fn read_full<R: Read>(from: &mut R, buf: &mut [u8]) -> usize
+    ensures { result ≤ length buf.new }
+{
+    let mut done = 0;
+    while done < buf.len() {
+        match from.read(&mut buf[done..]) {
+            Ok(0) => return done,
+            Ok(n) => done += n,
+            Err(_) => return done,
+        }
+    }
+    done
 }
 
 // A document from start to finish, or to its refusal.
@@ -182,22 +200,29 @@ pub fn line_after(s: &[u8], from: usize) -> usize
     s.len()
 }
 
-fn replay_all(text: &[u8], mode: Mode) -> Tally
+fn replay_all(stdout: Stdout, text: &[u8], mode: Mode) -> Tally
     ensures { result.same ≤ result.count }
 {
     let mut work = [0u8; Registers::STORE];
     let mut ids = [0u8; IdTable::BYTES];
     let mut out = [0u8; Fed::ROOM];
-    let tally = replay_each(text, mode, &mut work, &mut ids, &mut out);
-    print_number(tally.same);
-    print(b" the same of ");
-    print_number(tally.count);
-    print(b"\n");
+    let tally = replay_each(stdout, text, mode, &mut work, &mut ids, &mut out);
+    print_number(stdout, tally.same);
+    print(stdout, b" the same of ");
+    print_number(stdout, tally.count);
+    print(stdout, b"\n");
     tally
 }
 
 // A document finds stores and output as the one before left them.
-fn replay_each(text: &[u8], mode: Mode, work: &mut [u8], ids: &mut [u8], out: &mut [u8]) -> Tally
+fn replay_each(
+    stdout: Stdout,
+    text: &[u8],
+    mode: Mode,
+    work: &mut [u8],
+    ids: &mut [u8],
+    out: &mut [u8],
+) -> Tally
     ensures { result.same ≤ result.count }
 {
     let mut at = 0;
@@ -205,7 +230,7 @@ fn replay_each(text: &[u8], mode: Mode, work: &mut [u8], ids: &mut [u8], out: &m
     let mut same: usize = 0;
     while at < text.len() {
         let end = line_with(text, at, b'.');
-        same += replay_document(part(text, at, end), mode, work, ids, out);
+        same += replay_document(stdout, part(text, at, end), mode, work, ids, out);
         count += 1;
         at = line_after(text, end);
     }
@@ -213,7 +238,14 @@ fn replay_each(text: &[u8], mode: Mode, work: &mut [u8], ids: &mut [u8], out: &m
 }
 
 // The document up to its line `.`: 1 where it is as it must be.
-fn replay_document(doc: &[u8], mode: Mode, work: &mut [u8], ids: &mut [u8], out: &mut [u8]) -> usize
+fn replay_document(
+    stdout: Stdout,
+    doc: &[u8],
+    mode: Mode,
+    work: &mut [u8],
+    ids: &mut [u8],
+    out: &mut [u8],
+) -> usize
     ensures { result ≤ 1 }
 {
     let body = line_after(doc, 0);
@@ -233,6 +265,7 @@ fn replay_document(doc: &[u8], mode: Mode, work: &mut [u8], ids: &mut [u8], out:
     );
     let digits = ahead(wanted, 2, lines);
     verdict(
+        stdout,
         part(doc, 2, name),
         ended,
         part(doc, digits, word_end(doc, digits)),
@@ -240,31 +273,37 @@ fn replay_document(doc: &[u8], mode: Mode, work: &mut [u8], ids: &mut [u8], out:
 }
 
 // One line: did the document end in the number that is written there, with its lines?
-fn verdict(name: &[u8], ended: Ended, wanted: &[u8]) -> usize
+fn verdict(stdout: Stdout, name: &[u8], ended: Ended, wanted: &[u8]) -> usize
     ensures { result ≤ 1 }
 {
     if ended.same & is_written(ended.number, wanted) {
-        print(b"same ");
-        print(name);
+        print(stdout, b"same ");
+        print(stdout, name);
         if ended.number > 0 {
-            print(b" refused ");
-            print_number(ended.number as usize);
+            print(stdout, b" refused ");
+            print_number(stdout, ended.number as usize);
         }
-        print(b"\n");
+        print(stdout, b"\n");
         return 1;
     }
-    print(b"DIFFERENT ");
-    print(name);
-    print(b" got ");
-    print_number(ended.number as usize);
-    print(b"\n");
+    print(stdout, b"DIFFERENT ");
+    print(stdout, name);
+    print(stdout, b" got ");
+    print_number(stdout, ended.number as usize);
+    print(stdout, b"\n");
     0
 }
 
 fn is_written(number: u8, text: &[u8]) -> bool {
-    let mut digits = [0u8; 20];
-    let n = io::decimal(number as u64, &mut digits);
-    copy::equal(&digits[..n], text)
+    let ones = b'0' + number % 10;
+    if number < 10 {
+        return copy::equal(&[ones], text);
+    }
+    let tens = b'0' + number / 10 % 10;
+    if number < 100 {
+        return copy::equal(&[tens, ones], text);
+    }
+    copy::equal(&[b'0' + number / 100, tens, ones], text)
 }
 
 // One step with all that is left of the input; behind the last event, finish.
@@ -358,10 +397,11 @@ fn word_end(s: &[u8], from: usize) -> usize {
     s.len()
 }
 
-fn print(s: &[u8]) {
-    io::write_all(STDOUT_FILENO, s);
+// An output that takes no more loses what is printed, and the program goes on.
+fn print(stdout: Stdout, s: &[u8]) {
+    let _ = stdout.write_all(s);
 }
 
-fn print_number(n: usize) {
-    io::print_decimal(STDOUT_FILENO, n as u64);
+fn print_number(stdout: Stdout, n: usize) {
+    let _ = print!(stdout; "{n}");
 }

@@ -4,17 +4,18 @@ use spec::Mode;
 use state::Registers;
 use state_stack::Found;
 use state_words::{Frame, Kind, Row};
+use std::io::Stdout;
 
-pub fn try_all() {
-    deepest();
-    most_bindings();
-    most_inside();
-    held_texts();
-    stored_texts();
-    children();
-    room_again();
-    starts();
-    bases();
+pub fn try_all(out: Stdout) {
+    deepest(out);
+    most_bindings(out);
+    most_inside(out);
+    held_texts(out);
+    stored_texts(out);
+    children(out);
+    room_again(out);
+    starts(out);
+    bases(out);
 }
 
 // The registers of a fresh document in the base mode.
@@ -25,7 +26,7 @@ fn started(based: bool, base: usize) -> Registers {
 // ---- the limits
 
 // How many nodes can be open: 64.
-fn deepest() {
+fn deepest(out: Stdout) {
     let mut frames = [0u32; Frame::TABLE];
     let mut r = started(false, 0);
     let mut n: usize = 0;
@@ -33,8 +34,8 @@ fn deepest() {
     while n < 70 {
         let c = state_stack::push(r, &mut frames, Kind::NodeElt, places(at), [0u32; 8], 0);
         if !c.ok {
-            number(b"open elements", n);
-            answer(b"valid", is_valid(r, &frames));
+            number(out, b"open elements", n);
+            answer(out, b"valid", is_valid(r, &frames));
             return;
         }
         r = c.registers;
@@ -44,7 +45,7 @@ fn deepest() {
 }
 
 // How many bindings there is room for: 128.
-fn most_bindings() {
+fn most_bindings(out: Stdout) {
     let mut bindings = [0u32; Row::BINDINGS];
     let mut work = [0u8; Registers::STORE];
     let mut n: usize = 0;
@@ -54,11 +55,11 @@ fn most_bindings() {
         }
         n += 1;
     }
-    number(b"bindings", n);
+    number(out, b"bindings", n);
 }
 
 // How many elements can be open inside a Literal property that is the only other one: 63.
-fn most_inside() {
+fn most_inside(out: Stdout) {
     let mut inners = [0u32; Row::INNERS];
     let mut frames = [0u32; Frame::TABLE];
     let mut r = pushed(
@@ -76,64 +77,67 @@ fn most_inside() {
         r = d.registers;
         n += 1;
     }
-    number(b"inside", n);
-    number(b"held", state_inner::held(r));
+    number(out, b"inside", n);
+    number(out, b"held", state_inner::held(r));
 }
 
 // The text of a default property in a node, up to the limit on held bytes.
-fn held_texts() {
+fn held_texts(out: Stdout) {
     let mut work = [97u8; Registers::STORE];
     let mut frames = [0u32; Frame::TABLE];
     let r = in_node(&mut frames, Kind::PropertyElt);
     let c = state_stack::set_text(r, &mut frames, &mut work, &[97u8; 49_148]);
     answer(
+        out,
         b"text of 49,148 may be held",
         state_inner::holds_no_more(c.registers),
     );
     let d = state_stack::set_text(c.registers, &mut frames, &mut work, &[97u8; 49_149]);
     answer(
+        out,
         b"text of 49,149 may be held",
         state_inner::holds_no_more(d.registers),
     );
 }
 
 // And up to the end of the store.
-fn stored_texts() {
+fn stored_texts(out: Stdout) {
     let mut work = [97u8; Registers::STORE];
     let mut frames = [0u32; Frame::TABLE];
     let r = in_node(&mut frames, Kind::PropertyElt);
     let c = state_stack::set_text(r, &mut frames, &mut work, &[97u8; 65_532]);
-    answer(b"text of 65,532 has room", c.ok);
-    answer(b"valid", is_valid(c.registers, &frames));
+    answer(out, b"text of 65,532 has room", c.ok);
+    answer(out, b"valid", is_valid(c.registers, &frames));
     let d = state_stack::set_text(c.registers, &mut frames, &mut work, &[97u8; 65_533]);
-    answer(b"text of 65,533 has room", d.ok);
-    number(b"held", state_inner::held(d.registers));
+    answer(out, b"text of 65,533 has room", d.ok);
+    number(out, b"held", state_inner::held(d.registers));
 }
 
 // ---- operations
 
 // Two nodes close in a Collection: its children, last to first.
-fn children() {
+fn children(out: Stdout) {
     let mut work = [97u8; Registers::STORE];
     let mut frames = [0u32; Frame::TABLE];
     let r = in_node(&mut frames, Kind::ParseTypeCollectionPropertyElt);
-    let r = child(r, &mut frames, &mut work, 4);
-    let r = child(r, &mut frames, &mut work, 9);
-    number(b"held", state_inner::held(r));
+    let r = child(out, r, &mut frames, &mut work, 4);
+    let r = child(out, r, &mut frames, &mut work, 9);
+    number(out, b"held", state_inner::held(r));
     let last = state_stack::nodes::child_at(&work, r.store.top);
-    number(b"last child at", last.at);
+    number(out, b"last child at", last.at);
     let first = state_stack::nodes::child_at(&work, last.at);
-    number(b"first child at", first.at);
+    number(out, b"first child at", first.at);
 }
 
 // A node that closes as a child: is the state behind it valid?
-fn child(r: Registers, frames: &mut [u32], work: &mut [u8], at: u32) -> Registers {
+fn child(out: Stdout, r: Registers, frames: &mut [u32], work: &mut [u8], at: u32) -> Registers {
     let r = pushed(r, frames, Kind::NodeElt, at);
     let c = state_stack::nodes::close_node(r, frames, work);
-    answer(b"closed", c.ok);
+    answer(out, b"closed", c.ok);
     let bindings = [0u32; Row::BINDINGS];
     let inners = [0u32; Row::INNERS];
     answer(
+        out,
         b"valid",
         state::valid(c.registers, frames, &bindings, &inners, work),
     );
@@ -141,37 +145,42 @@ fn child(r: Registers, frames: &mut [u32], work: &mut [u8], at: u32) -> Register
 }
 
 // A pop gives room back.
-fn room_again() {
+fn room_again(out: Stdout) {
     let mut frames = [0u32; Frame::TABLE];
     let r = in_node(&mut frames, Kind::PropertyElt);
-    number(b"held", state_inner::held(r));
+    number(out, b"held", state_inner::held(r));
     let c = state_stack::pop(r, &frames);
-    number(b"held", state_inner::held(c.registers));
+    number(out, b"held", state_inner::held(c.registers));
 }
 
 // ---- the rules
 
 // A state at its start, and one whose store is short.
-fn starts() {
+fn starts(out: Stdout) {
     let frames = [0u32; Frame::TABLE];
     let bindings = [0u32; Row::BINDINGS];
     let inners = [0u32; Row::INNERS];
     let short = [0u8; Registers::STORE - 1];
     let r = started(false, 0);
-    answer(b"started", is_valid(r, &frames));
+    answer(out, b"started", is_valid(r, &frames));
     answer(
+        out,
         b"short store",
         state::valid(r, &frames, &bindings, &inners, &short),
     );
 }
 
 // A base has bytes only where there is one.
-fn bases() {
+fn bases(out: Stdout) {
     let frames = [0u32; Frame::TABLE];
-    answer(b"base without one", is_valid(started(false, 1), &frames));
-    answer(b"base", is_valid(started(true, 1), &frames));
+    answer(
+        out,
+        b"base without one",
+        is_valid(started(false, 1), &frames),
+    );
+    answer(out, b"base", is_valid(started(true, 1), &frames));
     let found = state_inner::base_in_force(started(true, 7), &frames);
-    number(b"base of", length_of(found));
+    number(out, b"base of", length_of(found));
 }
 
 fn length_of(f: Found) -> usize {

@@ -2,18 +2,19 @@
 use crate::printing::{answer, number};
 use resolve::Resolved;
 use state_ids::{Added, IdTable};
+use std::io::Stdout;
 
-pub fn try_all() {
-    fresh();
-    places();
-    bytes();
-    strange();
+pub fn try_all(out: Stdout) {
+    fresh(out);
+    places(out);
+    bytes(out);
+    strange(out);
 }
 
 // How many IDs there are, and how many bytes they have.
-fn write_numbers(table: Added) {
-    number(b"IDs", table.count);
-    number(b"bytes", table.used);
+fn write_numbers(out: Stdout, table: Added) {
+    number(out, b"IDs", table.count);
+    number(out, b"bytes", table.used);
 }
 
 // The longest ID of a number: four digits, and then what makes it long. Its beginnings are shorter IDs.
@@ -62,6 +63,7 @@ fn fill(
 
 // Is the ID of a number there, with its first `n` bytes? A table that is not valid is not searched.
 fn seek(
+    out: Stdout,
     what: &[u8],
     count: usize,
     used: usize,
@@ -78,24 +80,27 @@ fn seek(
     if !state_ids::valid(count, used, at, len, store.len()) {
         return;
     }
-    answer(what, state_ids::find(count, at, len, store, &id[0..n]));
+    answer(out, what, state_ids::find(count, at, len, store, &id[0..n]));
 }
 
 // A table as a document starts: nothing is in it, and it is valid beside a store of the right length alone.
-fn fresh() {
+fn fresh(out: Stdout) {
     let table = IdTable::new();
     let at = table.at;
     let len = table.len;
     let store = [0u8; IdTable::BYTES];
     answer(
+        out,
         b"fresh, valid",
         state_ids::valid(table.count, table.used, &at, &len, store.len()),
     );
     answer(
+        out,
         b"fresh, beside a shorter store",
         state_ids::valid(table.count, table.used, &at, &len, store.len() - 1),
     );
     seek(
+        out,
         b"fresh, the empty ID",
         table.count,
         table.used,
@@ -108,36 +113,63 @@ fn fresh() {
 }
 
 // Every place, and one more.
-fn places() {
+fn places(out: Stdout) {
     let empty = IdTable::new();
     let mut at = empty.at;
     let mut len = empty.len;
     let mut store = [0u8; IdTable::BYTES];
     let full = fill(&mut at, &mut len, &mut store, IdTable::MOST, 5);
-    answer(b"the last place", full.ok);
-    write_numbers(full);
+    answer(out, b"the last place", full.ok);
+    write_numbers(out, full);
     let more = enter(full, &mut at, &mut len, &mut store, IdTable::MOST, 5);
-    answer(b"one place more", more.ok);
-    write_numbers(more);
-    seek_numbers(more, &at, &len, &store);
+    answer(out, b"one place more", more.ok);
+    write_numbers(out, more);
+    seek_numbers(out, more, &at, &len, &store);
 }
 
-fn seek_numbers(table: Added, at: &[u32; IdTable::MOST], len: &[u32; IdTable::MOST], store: &[u8]) {
+fn seek_numbers(
+    out: Stdout,
+    table: Added,
+    at: &[u32; IdTable::MOST],
+    len: &[u32; IdTable::MOST],
+    store: &[u8],
+) {
     let count = table.count;
     let used = table.used;
     answer(
+        out,
         b"valid",
         state_ids::valid(count, used, at, len, store.len()),
     );
-    seek(b"the first ID", count, used, at, len, store, 0, 5);
-    seek(b"the last ID", count, used, at, len, store, 511, 5);
-    seek(b"an absent ID", count, used, at, len, store, 512, 5);
-    seek(b"the front of an ID", count, used, at, len, store, 511, 4);
-    seek(b"an ID and one byte", count, used, at, len, store, 511, 6);
+    seek(out, b"the first ID", count, used, at, len, store, 0, 5);
+    seek(out, b"the last ID", count, used, at, len, store, 511, 5);
+    seek(out, b"an absent ID", count, used, at, len, store, 512, 5);
+    seek(
+        out,
+        b"the front of an ID",
+        count,
+        used,
+        at,
+        len,
+        store,
+        511,
+        4,
+    );
+    seek(
+        out,
+        b"an ID and one byte",
+        count,
+        used,
+        at,
+        len,
+        store,
+        511,
+        6,
+    );
 }
 
 // Every byte, and one more.
-fn bytes() {
+fn bytes(out: Stdout) {
     let empty = IdTable::new();
     let mut at = empty.at;
     let mut len = empty.len;
@@ -151,25 +183,33 @@ fn bytes() {
         31,
         Resolved::MOST_BYTES - 1,
     );
-    write_numbers(short);
+    write_numbers(out, short);
     let over = enter(short, &mut at, &mut len, &mut store, 32, 2);
-    answer(b"two bytes where one is left", over.ok);
+    answer(out, b"two bytes where one is left", over.ok);
     let full = enter(over, &mut at, &mut len, &mut store, 33, 1);
-    answer(b"the last byte", full.ok);
-    write_numbers(full);
+    answer(out, b"the last byte", full.ok);
+    write_numbers(out, full);
     let more = enter(full, &mut at, &mut len, &mut store, 34, 1);
-    answer(b"one byte more", more.ok);
-    seek_lengths(more, &at, &len, &store);
+    answer(out, b"one byte more", more.ok);
+    seek_lengths(out, more, &at, &len, &store);
 }
 
-fn seek_lengths(table: Added, at: &[u32; IdTable::MOST], len: &[u32; IdTable::MOST], store: &[u8]) {
+fn seek_lengths(
+    out: Stdout,
+    table: Added,
+    at: &[u32; IdTable::MOST],
+    len: &[u32; IdTable::MOST],
+    store: &[u8],
+) {
     let count = table.count;
     let used = table.used;
     answer(
+        out,
         b"valid",
         state_ids::valid(count, used, at, len, store.len()),
     );
     seek(
+        out,
         b"the first ID",
         count,
         used,
@@ -180,6 +220,7 @@ fn seek_lengths(table: Added, at: &[u32; IdTable::MOST], len: &[u32; IdTable::MO
         Resolved::MOST_BYTES,
     );
     seek(
+        out,
         b"the last long ID",
         count,
         used,
@@ -189,25 +230,43 @@ fn seek_lengths(table: Added, at: &[u32; IdTable::MOST], len: &[u32; IdTable::MO
         31,
         Resolved::MOST_BYTES - 1,
     );
-    seek(b"the last ID", count, used, at, len, store, 33, 1);
-    seek(b"the refused ID", count, used, at, len, store, 32, 2);
+    seek(out, b"the last ID", count, used, at, len, store, 33, 1);
+    seek(out, b"the refused ID", count, used, at, len, store, 32, 2);
 }
 
 // Tables that no call leaves, each beside one that is right.
-fn strange() {
-    judge(b"empty IDs in every place", IdTable::MOST, 0, 0, 0, 0, 0);
-    judge(b"one place too many", IdTable::MOST + 1, 0, 0, 0, 0, 0);
-    judge(b"the longest span", 1, 1024, 0, 1024, 0, 0);
-    judge(b"a span one too long", 1, 1025, 0, 1025, 0, 0);
-    judge(b"two spans end to end", 2, 7, 0, 3, 3, 4);
-    judge(b"an end one further", 2, 8, 0, 3, 3, 4);
-    judge(b"two that overlap", 2, 6, 0, 3, 2, 4);
-    judge(b"two with a gap", 2, 8, 0, 3, 4, 4);
-    judge(b"a first span from 1", 1, 4, 1, 3, 0, 0);
+fn strange(out: Stdout) {
+    judge(
+        out,
+        b"empty IDs in every place",
+        IdTable::MOST,
+        0,
+        0,
+        0,
+        0,
+        0,
+    );
+    judge(out, b"one place too many", IdTable::MOST + 1, 0, 0, 0, 0, 0);
+    judge(out, b"the longest span", 1, 1024, 0, 1024, 0, 0);
+    judge(out, b"a span one too long", 1, 1025, 0, 1025, 0, 0);
+    judge(out, b"two spans end to end", 2, 7, 0, 3, 3, 4);
+    judge(out, b"an end one further", 2, 8, 0, 3, 3, 4);
+    judge(out, b"two that overlap", 2, 6, 0, 3, 2, 4);
+    judge(out, b"two with a gap", 2, 8, 0, 3, 4, 4);
+    judge(out, b"a first span from 1", 1, 4, 1, 3, 0, 0);
 }
 
 // A table whose first two spans start and are as long as this.
-fn judge(what: &[u8], count: usize, used: usize, at0: u32, len0: u32, at1: u32, len1: u32) {
+fn judge(
+    out: Stdout,
+    what: &[u8],
+    count: usize,
+    used: usize,
+    at0: u32,
+    len0: u32,
+    at1: u32,
+    len1: u32,
+) {
     let mut at = [0u32; IdTable::MOST];
     let mut len = [0u32; IdTable::MOST];
     at[0] = at0;
@@ -215,6 +274,7 @@ fn judge(what: &[u8], count: usize, used: usize, at0: u32, len0: u32, at1: u32, 
     at[1] = at1;
     len[1] = len1;
     answer(
+        out,
         what,
         state_ids::valid(count, used, &at, &len, IdTable::BYTES),
     );

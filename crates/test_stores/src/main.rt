@@ -9,10 +9,11 @@ mod labels;
 mod namespaces;
 mod printing;
 
-fn main() {
-    elements::try_all();
-    identifiers::try_all();
-    namespaces::try_all();
-    labels::try_all();
+fn main(rt: HostRuntime) {
+    let out = rt.stdout();
+    elements::try_all(out);
+    identifiers::try_all(out);
+    namespaces::try_all(out);
+    labels::try_all(out);
     copies::try_all();
 }
