@@ -1,5 +1,5 @@
 -- The contracts of the program's functions.
-use Rattle.std.specs.Prelude.{ℕ, ◌+◌, ◌-◌, ◌≤◌, ◌<◌, ◌≡◌, true, false, List, eqb, ℤ, length, take}
+use Rattle.std.specs.Prelude.{ℕ, ◌+◌, ◌-◌, ◌≤◌, ◌<◌, ◌≡◌, true, false, List, eqb, length, take}
 use Rattle.std.proofs.Math.Option.{Option}
 use Rattle.spec.specs.Bytes.{Bytes}
 use Rattle.spec.specs.Numbers.{number, refuse}
@@ -30,14 +30,13 @@ use Rattle.convert.specs.Way.{Spot, spot, beginning, start, Leads, Ended, Cut, U
 
 -- ---- places
 
-abbrev pub first_place : ℤ → Registers → Place
-first_place source r = record { source = source; registers = r; count = 0; used = 0; event = 1; bytes = 0; from = 0; to = 0; last = false }
+abbrev pub first_place : Registers → Place
+first_place r = record { registers = r; count = 0; used = 0; event = 1; bytes = 0; from = 0; to = 0; last = false }
 
 -- behind the events that were done, with n bytes of their lines taken; the sums fit a word
 abbrev pub behind_of : Place → Fed → ℕ → Place
 behind_of p f n =
     record {
-      source = p.source;
       registers = f.registers;
       count = f.count;
       used = f.used;
@@ -55,7 +54,7 @@ pub record Sums (p : Place) (f : Fed) (n : ℕ) : Type 0 where
 
 -- with n bytes of the rest at the front, and m more
 abbrev pub with_more : Place → ℕ → ℕ → Place
-with_more p n m = record { source = p.source; registers = p.registers; count = p.count; used = p.used; event = p.event; bytes = p.bytes; from = 0; to = n + m; last = eqb m 0 }
+with_more p n m = record { registers = p.registers; count = p.count; used = p.used; event = p.event; bytes = p.bytes; from = 0; to = n + m; last = eqb m 0 }
 
 -- here the program ends
 abbrev pub over_at : Place → How → Next

@@ -59,7 +59,7 @@ lengths_then p q =
 
 -- ---- the first turn
 
-pub running_begins : {source : ℤ} {r : Registers} {p : Place} {l : Lent} {input : List ℕ} → p ≡ first_place source r → Ready r l input → Running (doc_in p.registers 0 l) p 17_592_186_044_416 l input
+pub running_begins : {r : Registers} {p : Place} {l : Lent} {input : List ℕ} → p ≡ first_place r → Ready r l input → Running (doc_in p.registers 0 l) p 17_592_186_044_416 l input
 unfolding part
 running_begins e m =
     rw e

@@ -1,4 +1,4 @@
-// A stream of PYX bytes from a descriptor to lines on standard output, as they come: a document, up to its end, its refusal, or the first write or
+// A stream of PYX bytes from a reader to lines for a writer, as they come: a document, up to its end, its refusal, or the first write or
 // read that fails. How it ended is handed back, and each program tells it in its own way.
 #![tactic(auto)]
 
@@ -17,13 +17,13 @@ use spec::{Mode, Refusal};
 use state::Registers;
 use state_ids::IdTable;
 use state_words::{Frame, Row};
-use streams::{Got, Printed};
+use std::io::{Read, Write};
+use streams::{Got, Printed, Stream};
 
-// Where the program stands: which descriptor it reads, what is behind the events so far, the number of the next one, how many
-// bytes of lines standard output took, which bytes of the input are at hand, and whether no more follow.
+// Where the program stands: what is behind the events so far, the number of the next one, how many bytes of lines the
+// writer took, which bytes of the input are at hand, and whether no more follow.
 #[derive(Clone, Copy)]
 struct Place {
-    source: i32,
     registers: Registers,
     count: usize,
     used: usize,
@@ -41,8 +41,8 @@ enum Next {
     Over(Outcome),
 }
 
-// How a document ends; and the event, the next behind those that are whole, and how many bytes of lines standard
-// output took.
+// How a document ends; and the event, the next behind those that are whole, and how many bytes of lines the writer
+// took.
 #[derive(Clone, Copy)]
 pub struct Outcome {
     pub how: How,
@@ -70,11 +70,10 @@ impl Place {
     const TURNS: usize = 17_592_186_044_416;
 
     // Before the first event.
-    fn first(source: i32, registers: Registers) -> Self
-        ensures { result ≡ first_place source registers }
+    fn first(registers: Registers) -> Self
+        ensures { result ≡ first_place registers }
     {
         Place {
-            source,
             registers,
             count: 0,
             used: 0,
@@ -93,7 +92,6 @@ impl Place {
     {
         let registers = fed.registers;
         Place {
-            source: self.source,
             registers,
             count: fed.count,
             used: fed.used,
@@ -112,7 +110,6 @@ impl Place {
     {
         let registers = self.registers;
         Place {
-            source: self.source,
             registers,
             count: self.count,
             used: self.used,
@@ -148,8 +145,14 @@ impl Place {
     }
 }
 
-// The document that a descriptor gives, in this mode, with a start base or without, over tables, stores and buffers of its own.
-pub fn document(source: i32, mode: Mode, based: bool, base: &[u8]) -> Outcome
+// The document that a reader gives, in this mode, with a start base or without, over tables, stores and buffers of its own.
+pub fn document<R: Read, W: Write>(
+    source: &mut Stream<R>,
+    target: &mut Stream<W>,
+    mode: Mode,
+    based: bool,
+    base: &[u8],
+) -> Outcome
     ensures { Converts mode (base_of based base.now) result × Few result }
 {
     let mut frames = [0u32; Frame::TABLE];
@@ -173,6 +176,7 @@ pub fn document(source: i32, mode: Mode, based: bool, base: &[u8]) -> Outcome
         },
         Begun::On(registers) => run(
             source,
+            target,
             registers,
             &mut frames,
             &mut bindings,
@@ -191,8 +195,9 @@ pub fn document(source: i32, mode: Mode, based: bool, base: &[u8]) -> Outcome
 }
 
 // Turn after turn, over the tables and stores of a document, the two buffers, and scratch.
-fn run(
-    source: i32,
+fn run<R: Read, W: Write>(
+    source: &mut Stream<R>,
+    target: &mut Stream<W>,
     registers: Registers,
     frames: &mut [u32],
     bindings: &mut [u32],
@@ -214,13 +219,13 @@ fn run(
         result
         × Few result }
 {
-    let mut place = Place::first(source, registers);
+    let mut place = Place::first(registers);
     let mut turns = Place::TURNS;
     while turns > 0 {
         turns -= 1;
         let next = turn(
-            place, frames, bindings, inners, work, places, sizes, ids, input, output, scratch,
-            spans, area,
+            source, target, place, frames, bindings, inners, work, places, sizes, ids, input,
+            output, scratch, spans, area,
         );
         match next {
             Next::On(p) => place = p,
@@ -236,7 +241,9 @@ fn run(
 }
 
 // The events at hand, as many as the output has room for; their lines, printed; and what follows.
-fn turn(
+fn turn<R: Read, W: Write>(
+    source: &mut Stream<R>,
+    target: &mut Stream<W>,
     place: Place,
     frames: &mut [u32],
     bindings: &mut [u32],
@@ -281,12 +288,18 @@ fn turn(
         area,
     );
     let written = fed.written;
-    let printed = streams::print(&output[..written]);
-    go_on(place, fed, printed, input)
+    let printed = streams::print(target, &output[..written]);
+    go_on(source, place, fed, printed, input)
 }
 
 // What follows the lines of a turn. Behind a write that failed nothing does.
-fn go_on(place: Place, fed: Fed, printed: Printed, input: &mut [u8]) -> Next
+fn go_on<R: Read>(
+    source: &mut Stream<R>,
+    place: Place,
+    fed: Fed,
+    printed: Printed,
+    input: &mut [u8],
+) -> Next
     requires { Counted place fed printed input.old }
     ensures { GoesOn place input.old fed printed result input.new }
 {
@@ -300,11 +313,11 @@ fn go_on(place: Place, fed: Fed, printed: Printed, input: &mut [u8]) -> Next
         });
     }
     let pause = fed.pause;
-    follow(place.behind(fed, taken), pause, input)
+    follow(source, place.behind(fed, taken), pause, input)
 }
 
 // By why no further event was done: the next ones, more input, or the end.
-fn follow(place: Place, pause: Pause, input: &mut [u8]) -> Next
+fn follow<R: Read>(source: &mut Stream<R>, place: Place, pause: Pause, input: &mut [u8]) -> Next
     requires { Paused place pause input.old }
     ensures { Follows place input.old pause result input.new }
 {
@@ -318,7 +331,7 @@ fn follow(place: Place, pause: Pause, input: &mut [u8]) -> Next
             if place.last {
                 return place.over(How::Done(finish(place.registers)));
             }
-            read(place, input)
+            read(source, place, input)
         }
     }
 }
@@ -334,12 +347,12 @@ fn finish(registers: Registers) -> u8
 }
 
 // A block behind the rest.
-fn read(place: Place, input: &mut [u8]) -> Next
+fn read<R: Read>(source: &mut Stream<R>, place: Place, input: &mut [u8]) -> Next
     requires { Readable place input.old }
     ensures { Reads place input.old result input.new }
 {
     let rest = to_front(input, place.from, place.to);
-    let got = streams::read(place.source, &mut input[rest..]);
+    let got = streams::read(source, &mut input[rest..]);
     place.resumed(rest, got)
 }
 

@@ -9,82 +9,127 @@ mod arguments;
 mod telling;
 
 use arguments::{Chosen, Looked};
-use libc::STDIN_FILENO;
+use convert::How;
 use spec::Mode;
+use std::env::{Env, FillError};
+use std::fs::File;
+use std::io;
+use std::io::{Read, Stderr, Stdin, Stdout};
+use std::rt::Files;
+use streams::Stream;
 
-fn main() {
-    let count = os::arg_count();
-    let settled = choose(count);
+// The system's number of the error of a name that is no text.
+const EILSEQ: i32 = 84;
+
+fn main(rt: HostRuntime) {
+    let count = streams::argument_count(&rt);
+    let stderr = rt.stderr();
+    let settled = choose(&rt, stderr, count);
     match settled {
-        Looked::On(chosen) => convert_all(chosen, count),
+        Looked::On(chosen) => {
+            let mut target = Stream::over(rt.stdout());
+            convert_all(&rt, rt.stdin(), &mut target, stderr, chosen, count);
+        }
         Looked::Wrong => return,
     }
 }
 
 // What all arguments say; or one of them is wrong, and that is told.
-fn choose(count: usize) -> Looked
+fn choose<E: Env>(env: &E, stderr: Stderr, count: usize) -> Looked
     ensures { Settled result }
 {
     let mut word = [0u8; Chosen::MOST];
     let mut chosen = Chosen::none();
     let mut i = 1;
     while i < count {
-        let looked = look_at(chosen, i, &mut word);
+        let looked = look_at(env, stderr, chosen, i, &mut word);
         match looked {
             Looked::On(next) => chosen = next,
             Looked::Wrong => return Looked::Wrong,
         }
         i += 1;
     }
-    settle(chosen)
+    settle(stderr, chosen)
 }
 
 // Argument `i`, by way of `word`; one that is wrong is told.
-fn look_at(chosen: Chosen, i: usize, word: &mut [u8]) -> Looked
+fn look_at<E: Env>(env: &E, stderr: Stderr, chosen: Chosen, i: usize, word: &mut [u8]) -> Looked
     requires { length word.old ≤ 4_096 }
 {
-    let n = os::arg(i, word);
-    if os::errno() == libc::ENAMETOOLONG {
-        telling::tell_long(i);
-        return Looked::Wrong;
-    }
+    let n = match env.arg(i, word) {
+        Ok(n) => n,
+        Err(FillError::TooLong) => {
+            telling::tell_long(stderr, i);
+            return Looked::Wrong;
+        }
+        Err(FillError::NotPresent) => 0,
+    };
     let looked = chosen.look(i, &word[..n]);
     match looked {
         Looked::On(next) => Looked::On(next),
         Looked::Wrong => {
             streams::keep_to_line(word);
-            telling::tell_unknown(&word[..n]);
+            telling::tell_unknown(stderr, &word[..n]);
             Looked::Wrong
         }
     }
 }
 
 // Behind the last argument: a base was said whole, and PYX is what is read.
-fn settle(chosen: Chosen) -> Looked
+fn settle(stderr: Stderr, chosen: Chosen) -> Looked
     ensures { Settled result }
 {
     if chosen.waits {
-        telling::tell_line(b"iceshaft: --base without an IRI\n");
+        telling::tell_line(stderr, b"iceshaft: --base without an IRI\n");
         return Looked::Wrong;
     }
     if !chosen.pyx {
-        telling::tell_line(b"iceshaft: --pyx is missing: PYX is all that it reads\n");
+        telling::tell_line(
+            stderr,
+            b"iceshaft: --pyx is missing: PYX is all that it reads\n",
+        );
         return Looked::Wrong;
     }
     Looked::On(chosen)
 }
 
+// Argument `i` to the front of `word`: its length, 0 where there is none or it has no room.
+fn argument<E: Env>(env: &E, i: usize, word: &mut [u8]) -> usize
+    ensures { result ≤ length word.new }
+{
+    env.arg(i, word).unwrap_or(0)
+}
+
 // The files, or standard input where there are none, all in the same mode and with the same base. Argument 0 is the program's name, and no base.
-fn convert_all(chosen: Chosen, count: usize) {
+fn convert_all<R: Env + Files>(
+    rt: &R,
+    stdin: Stdin,
+    target: &mut Stream<Stdout>,
+    stderr: Stderr,
+    chosen: Chosen,
+    count: usize,
+) {
     let mut base = [0u8; Chosen::MOST];
     let based = chosen.base > 0;
-    let n = os::arg(chosen.base, &mut base);
+    let n = argument(rt, chosen.base, &mut base);
     if chosen.file > 0 {
-        convert_files(chosen.file, count, chosen.mode(), based, &base[..n]);
+        convert_files(
+            rt,
+            target,
+            stderr,
+            chosen.file,
+            count,
+            chosen.mode(),
+            based,
+            &base[..n],
+        );
         return;
     }
+    let mut source = Stream::over(stdin);
     convert_one(
-        STDIN_FILENO,
+        &mut source,
+        target,
+        stderr,
         b"standard input",
         chosen.mode(),
         based,
@@ -93,11 +138,20 @@ fn convert_all(chosen: Chosen, count: usize) {
 }
 
 // The files from argument `first` on, up to the first write that fails.
-fn convert_files(first: usize, count: usize, mode: Mode, based: bool, base: &[u8]) {
+fn convert_files<R: Env + Files>(
+    rt: &R,
+    target: &mut Stream<Stdout>,
+    stderr: Stderr,
+    first: usize,
+    count: usize,
+    mode: Mode,
+    based: bool,
+    base: &[u8],
+) {
     let mut name = [0u8; Chosen::MOST];
     let mut i = first;
     while i < count {
-        if !convert_file(i, &mut name, mode, based, base) {
+        if !convert_file(rt, target, stderr, i, &mut name, mode, based, base) {
             return;
         }
         i += 1;
@@ -105,27 +159,59 @@ fn convert_files(first: usize, count: usize, mode: Mode, based: bool, base: &[u8
 }
 
 // The file that argument `i` names, by way of `name`: whether the next is to be read. One that cannot be opened is told.
-fn convert_file(i: usize, name: &mut [u8], mode: Mode, based: bool, base: &[u8]) -> bool
+fn convert_file<R: Env + Files>(
+    rt: &R,
+    target: &mut Stream<Stdout>,
+    stderr: Stderr,
+    i: usize,
+    name: &mut [u8],
+    mode: Mode,
+    based: bool,
+    base: &[u8],
+) -> bool
     requires { length name.old ≤ 4_096 }
 {
-    let n = os::arg(i, name);
-    let source = os::open_read(&name[..n]);
+    let n = argument(rt, i, name);
+    let opened = open(rt, &name[..n]);
     streams::keep_to_line(name);
-    if source < 0 {
-        telling::tell_unopened(&name[..n]);
-        return true;
+    match opened {
+        Ok(file) => {
+            let mut source = Stream::over(file);
+            convert_one(&mut source, target, stderr, &name[..n], mode, based, base)
+        }
+        Err(error) => {
+            telling::tell_unopened(stderr, streams::errno_of(&error), &name[..n]);
+            true
+        }
     }
-    let on = convert_one(source, &name[..n], mode, based, base);
-    libc::close(source);
-    on
+}
+
+// The file of this name, to be read. The library opens files by names that are text alone.
+fn open<R: Files>(rt: &R, name: &[u8]) -> io::Result<R::File> {
+    match str::from_utf8(name) {
+        Ok(path) => File::open(rt, path),
+        Err(_) => Err(io::Error::from_raw_os_error(EILSEQ)),
+    }
 }
 
 // A document, and how it ended, told: whether the next is to be read.
-fn convert_one(source: i32, name: &[u8], mode: Mode, based: bool, base: &[u8]) -> bool
+fn convert_one<R: Read>(
+    source: &mut Stream<R>,
+    target: &mut Stream<Stdout>,
+    stderr: Stderr,
+    name: &[u8],
+    mode: Mode,
+    based: bool,
+    base: &[u8],
+) -> bool
     requires { length name.now ≤ 4_096 }
 {
-    let outcome = convert::document(source, mode, based, base);
+    let outcome = convert::document(source, target, mode, based, base);
     let how = outcome.how;
-    telling::tell(name, outcome);
+    let errno = match how {
+        How::Unwritten => target.errno(),
+        _ => source.errno(),
+    };
+    telling::tell(stderr, errno, name, outcome);
     telling::goes_on(how)
 }

@@ -4,7 +4,7 @@ ghost use Rattle.copy.specs.Copy.{Wrote};
 ghost use Rattle.iceshaft.specs.Telling.{Came, goes_on, refusal_line, start_line, unknown_line, long_line};
 
 use convert::{How, Outcome};
-use libc::STDERR_FILENO;
+use std::io::Stderr;
 
 // Room for a name, and what is said of it.
 const LINE: usize = 4_192;
@@ -22,23 +22,23 @@ pub fn goes_on(how: How) -> bool
     }
 }
 
-// How the document of this name ended, where it is not whole.
-pub fn tell(name: &[u8], outcome: Outcome)
+// How the document of this name ended, where it is not whole; of a call that failed with errno's text.
+pub fn tell(stderr: Stderr, errno: i32, name: &[u8], outcome: Outcome)
     requires { (length name.now ≤ 4_096) × Came outcome }
 {
     let event = outcome.event;
     let bytes = outcome.bytes;
     let how = outcome.how;
     match how {
-        How::Done(number) => tell_refused(name, number, event),
-        How::Unwritten => tell_failed(name, b": write failed", event - 1, bytes),
-        How::Unread => tell_failed(name, b": read failed", event - 1, bytes),
-        How::Unstarted(number) => tell_unstarted(number),
+        How::Done(number) => tell_refused(stderr, name, number, event),
+        How::Unwritten => tell_failed(stderr, errno, name, b": write failed", event - 1, bytes),
+        How::Unread => tell_failed(stderr, errno, name, b": read failed", event - 1, bytes),
+        How::Unstarted(number) => tell_unstarted(stderr, number),
     }
 }
 
 // A refusal, if there is one.
-fn tell_refused(name: &[u8], number: u8, event: usize)
+fn tell_refused(stderr: Stderr, name: &[u8], number: u8, event: usize)
     requires { length name.now ≤ 4_096 }
 {
     if number == 0 {
@@ -46,7 +46,7 @@ fn tell_refused(name: &[u8], number: u8, event: usize)
     }
     let mut line = [0u8; LINE];
     let n = refusal_line(&mut line, name, number, event);
-    tell_line(&line[..n]);
+    tell_line(stderr, &line[..n]);
 }
 
 fn refusal_line(line: &mut [u8], name: &[u8], number: u8, event: usize) -> usize
@@ -61,10 +61,10 @@ fn refusal_line(line: &mut [u8], name: &[u8], number: u8, event: usize) -> usize
 }
 
 // A start base that is none.
-fn tell_unstarted(number: u8) {
+fn tell_unstarted(stderr: Stderr, number: u8) {
     let mut line = [0u8; LINE];
     let n = start_line(&mut line, number);
-    tell_line(&line[..n]);
+    tell_line(stderr, &line[..n]);
 }
 
 fn start_line(line: &mut [u8], number: u8) -> usize
@@ -77,12 +77,12 @@ fn start_line(line: &mut [u8], number: u8) -> usize
 }
 
 // An argument that is unknown where it stands.
-pub fn tell_unknown(word: &[u8])
+pub fn tell_unknown(stderr: Stderr, word: &[u8])
     requires { length word.now ≤ 4_096 }
 {
     let mut line = [0u8; LINE];
     let n = unknown_line(&mut line, word);
-    tell_line(&line[..n]);
+    tell_line(stderr, &line[..n]);
 }
 
 fn unknown_line(line: &mut [u8], word: &[u8]) -> usize
@@ -100,10 +100,10 @@ fn unknown_line(line: &mut [u8], word: &[u8]) -> usize
 }
 
 // An argument that is longer than is read.
-pub fn tell_long(i: usize) {
+pub fn tell_long(stderr: Stderr, i: usize) {
     let mut line = [0u8; LINE];
     let n = long_line(&mut line, i);
-    tell_line(&line[..n]);
+    tell_line(stderr, &line[..n]);
 }
 
 fn long_line(line: &mut [u8], i: usize) -> usize
@@ -116,21 +116,21 @@ fn long_line(line: &mut [u8], i: usize) -> usize
 }
 
 // A call that failed on the document of this name, and errno's text.
-fn tell_failed(name: &[u8], what: &[u8], events: usize, bytes: usize)
+fn tell_failed(stderr: Stderr, errno: i32, name: &[u8], what: &[u8], events: usize, bytes: usize)
     requires { (length name.now ≤ 4_096) × (length what.now ≤ 64) }
 {
     let mut line = [0u8; LINE];
     let n = named(&mut line, name, what);
-    streams::tell(&line[..n], events, bytes);
+    streams::tell(stderr, errno, &line[..n], events, bytes);
 }
 
 // A file that cannot be opened, and errno's text.
-pub fn tell_unopened(name: &[u8])
+pub fn tell_unopened(stderr: Stderr, errno: i32, name: &[u8])
     requires { length name.now ≤ 4_096 }
 {
     let mut line = [0u8; LINE];
     let n = named(&mut line, name, b": open failed");
-    os::fail(&line[..n]);
+    streams::fail(stderr, errno, &line[..n]);
 }
 
 // The name and what is said of it, to the front of `line`: their length.
@@ -143,6 +143,7 @@ fn named(line: &mut [u8], name: &[u8], what: &[u8]) -> usize
     name.len() + what.len()
 }
 
-pub fn tell_line(line: &[u8]) {
-    io::write_all(STDERR_FILENO, line);
+// An output that takes no more loses what is told, and the program goes on.
+pub fn tell_line(stderr: Stderr, line: &[u8]) {
+    let _ = Print::write_all(&stderr, line);
 }

@@ -11,53 +11,76 @@ ghost use Rattle.convert.specs.Way.{start, Ended};
 ghost use Rattle.convert.specs.Places.{Comes, Few};
 
 use convert::{How, Outcome};
-use libc::STDIN_FILENO;
 use spec::Mode;
+use std::io::{Stderr, Stdin, Stdout};
+use streams::Stream;
 
-fn main() {
-    if os::arg_count() > 1 {
-        streams::tell_unknown(b"pyx2nt", 1, b"it takes none and reads standard input");
+fn main(rt: HostRuntime) {
+    let stderr = rt.stderr();
+    if streams::argument_count(&rt) > 1 {
+        streams::tell_unknown(
+            &rt,
+            stderr,
+            b"pyx2nt",
+            1,
+            b"it takes none and reads standard input",
+        );
         return;
     }
-    end(convert::document(STDIN_FILENO, Mode::base(), false, b""));
+    let mut source = Stream::over(rt.stdin());
+    let mut target = Stream::over(rt.stdout());
+    let outcome = convert::document(&mut source, &mut target, Mode::base(), false, b"");
+    end(&source, &mut target, stderr, outcome);
 }
 
 // The program at the end of its way: its last line, or what failed, told.
-fn end(outcome: Outcome)
+fn end(source: &Stream<Stdin>, target: &mut Stream<Stdout>, stderr: Stderr, outcome: Outcome)
     requires { Comes (start base_mode none) outcome × Few outcome }
 {
     let event = outcome.event;
     let bytes = outcome.bytes;
     let how = outcome.how;
     match how {
-        How::Done(number) => print_last(number, event, bytes),
-        How::Unwritten => tell_unwritten(event, bytes),
-        How::Unread => streams::tell(b"pyx2nt: read failed", event - 1, bytes),
+        How::Done(number) => print_last(target, stderr, number, event, bytes),
+        How::Unwritten => tell_unwritten(target, stderr, event, bytes),
+        How::Unread => streams::tell(
+            stderr,
+            source.errno(),
+            b"pyx2nt: read failed",
+            event - 1,
+            bytes,
+        ),
         // Without a base no start is refused: by its proof nothing comes here.
-        How::Unstarted(number) => print_last(number, event, bytes),
+        How::Unstarted(number) => print_last(target, stderr, number, event, bytes),
     }
 }
 
 // A write failed: all lines of the events before `event` were taken, and `bytes` bytes in all.
-fn tell_unwritten(event: usize, bytes: usize)
+fn tell_unwritten(target: &Stream<Stdout>, stderr: Stderr, event: usize, bytes: usize)
     requires { 0 < event }
 {
-    streams::tell(b"pyx2nt: write failed", event - 1, bytes);
+    streams::tell(
+        stderr,
+        target.errno(),
+        b"pyx2nt: write failed",
+        event - 1,
+        bytes,
+    );
 }
 
 // The last line, if there is one, printed behind `bytes` bytes of lines.
-fn print_last(number: u8, event: usize, bytes: usize)
+fn print_last(target: &mut Stream<Stdout>, stderr: Stderr, number: u8, event: usize, bytes: usize)
     requires { Ended (start base_mode none) number event bytes × (bytes < 9_223_372_036_854_775_808) }
 {
     let mut line = [0u8; 64];
     let n = last_line(&mut line, number, event);
-    let printed = streams::print(&line[..n]);
+    let printed = streams::print(target, &line[..n]);
     let whole = printed.is_whole();
     let taken = printed.taken();
     if whole {
         return;
     }
-    tell_unwritten(event, bytes + taken);
+    tell_unwritten(target, stderr, event, bytes + taken);
 }
 
 // The line after a refusal, to the front of `line`: its length.

@@ -1,11 +1,16 @@
 -- What a call on standard input or output came to, by what it answered.
 use Rattle.std.specs.Prelude.{ℕ, zero, suc, ◌+◌, ◌≤◌, ◌<◌, min, ◌≡◌, Bool, true, false, not, ◌&&◌, ◌||◌, eqb, ltb, ℤ, pos, negsuc}
+use Rattle.streams.specs.declared.Stream.{Stream}
 use Rattle.streams.specs.declared.Moved.{Moved}
 use Rattle.streams.specs.declared.Moved.TheVariants as moved
 use Rattle.streams.specs.declared.Got.{Got}
 use Rattle.streams.specs.declared.Got.TheVariants as got
 use Rattle.streams.specs.declared.Printed.{Printed}
 use Rattle.streams.specs.declared.Printing.{Printing}
+
+-- a reader or a writer before any call on it
+abbrev pub over : {T : Type 0} → T → Stream T
+over end = record { end = end; errno = pos 0 }
 
 -- the errors of a call that may do better when it is tried again: it was interrupted, or would have had to wait
 abbrev pub eintr : ℕ

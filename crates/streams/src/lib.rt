@@ -2,15 +2,25 @@
 // where it failed.
 #![tactic(auto)]
 
-ghost use Rattle.std.specs.Prelude.{◌+◌, ◌≤◌, min, ◌≡◌, ◌++◌, map, length};
+ghost use Rattle.std.specs.Prelude.{◌+◌, ◌≤◌, min, ◌≡◌, ◌++◌, map, length, pos, IfSome, IsNone};
+ghost use Rattle.std.specs.IoError.{error_kind, raw_os_error};
 ghost use Rattle.spec.specs.NTriples.{decimal};
 ghost use Rattle.copy.specs.Copy.{Wrote};
 ghost use Rattle.io.specs.Counts.{IsPrefixLen};
-ghost use Rattle.streams.specs.Answers.{moved_of, waits_for, bytes_of, got_of, AtMost, begun, goes_on, after_write, printed_of, Prints, Fills};
+ghost use Rattle.streams.specs.Answers.{over, eintr, eagain, moved_of, waits_for, bytes_of, got_of, AtMost, begun, goes_on, after_write, printed_of, Prints, Fills};
 ghost use Rattle.streams.specs.Telling.{shown, failure_line, in_line};
 
 use label::Decimal;
-use libc::{STDERR_FILENO, STDOUT_FILENO};
+use std::env::{Env, FillError};
+use std::io::{Error, ErrorKind, Read, Stderr, Write};
+use std::thread;
+
+// The system's numbers of the errors that are told apart here.
+const EINTR: i32 = 4;
+
+const EIO: i32 = 5;
+
+const EAGAIN: i32 = 11;
 
 // The line of a failure, and of that the most that says what failed: room for the longest path.
 const LINE: usize = 4_256;
@@ -19,6 +29,16 @@ const WHAT: usize = 4_160;
 
 // The most of an argument that is told.
 const WORD: usize = 256;
+
+// Room for the text of an error.
+const TEXT: usize = 160;
+
+// A reader or a writer, and errno: the number of the last error of a call on it, 0 where there was none.
+#[derive(Drop)]
+pub struct Stream<T> {
+    end: T,
+    errno: i32,
+}
 
 // What a call that moves bytes came to: so many; none yet, and it is to be tried again; or it failed, and errno says
 // why.
@@ -53,6 +73,21 @@ struct Printing {
     failed: bool,
 }
 
+impl<T> Stream<T> {
+    pub fn over(end: T) -> Self
+        ensures { result ≡ over end }
+    {
+        Stream { end, errno: 0 }
+    }
+
+    // The number of the last error.
+    pub fn errno(&self) -> i32
+        ensures { result ≡ self.now.errno }
+    {
+        self.errno
+    }
+}
+
 impl Moved {
     // A proved loop has to end, and nothing says that a byte can be moved at last: more tries than any run makes.
     const TRIES: usize = 17_592_186_044_416;
@@ -65,10 +100,10 @@ impl Moved {
         if got >= 0 {
             return Moved::Bytes(least(got as usize, most));
         }
-        if error == libc::EINTR {
+        if error == EINTR {
             return Moved::Later;
         }
-        if error == libc::EAGAIN {
+        if error == EAGAIN {
             return Moved::Later;
         }
         Moved::Failed
@@ -180,68 +215,117 @@ fn least(a: usize, b: usize) -> usize
     if a < b { a } else { b }
 }
 
-// The text to standard output, up to the first write that fails.
-pub fn print(text: &[u8]) -> Printed
+// The text to a writer, up to the first write that fails.
+pub fn print<W: Write>(to: &mut Stream<W>, text: &[u8]) -> Printed
     ensures { Prints (length text.now) result }
 {
     let mut printing = Printing::begun(text.len());
     while printing.goes_on() {
         let taken = printing.taken;
-        let n = write(&text[taken..]);
+        let n = write(to, &text[taken..]);
         printing = printing.after(n);
     }
     printing.printed()
 }
 
-// How many bytes of the text standard output takes, as soon as it can take any.
-fn write(text: &[u8]) -> usize
+// How many bytes of the text the writer takes, as soon as it can take any.
+fn write<W: Write>(to: &mut Stream<W>, text: &[u8]) -> usize
     ensures { result ≤ length text.now }
 {
-    let mut moved = try_write(text);
+    let mut moved = try_write(to, text);
     let mut tries = Moved::TRIES;
     while moved.waits(tries) {
         tries -= 1;
-        libc::sched_yield();
-        moved = try_write(text);
+        thread::yield_now();
+        moved = try_write(to, text);
     }
     moved.bytes()
 }
 
-fn try_write(text: &[u8]) -> Moved
+fn try_write<W: Write>(to: &mut Stream<W>, text: &[u8]) -> Moved
     ensures { AtMost (length text.now) result }
 {
-    let got = libc::write(STDOUT_FILENO, text);
-    Moved::of(got, os::errno(), text.len())
+    match to.end.write(text) {
+        Ok(n) => Moved::of(n as isize, 0, text.len()),
+        Err(error) => {
+            to.errno = errno_of(&error);
+            Moved::of(-1, to.errno, text.len())
+        }
+    }
 }
 
-// From a descriptor to the front of `into`, as soon as there is any. Into no room nothing can be read: that is an end too.
-pub fn read(from: i32, into: &mut [u8]) -> Got
+// From a reader to the front of `into`, as soon as there is any. Into no room nothing can be read: that is an end too.
+pub fn read<R: Read>(from: &mut Stream<R>, into: &mut [u8]) -> Got
     ensures { Fills (length into.old) result }
 {
     let mut moved = try_read(from, into);
     let mut tries = Moved::TRIES;
     while moved.waits(tries) {
         tries -= 1;
-        libc::sched_yield();
+        thread::yield_now();
         moved = try_read(from, into);
     }
     Got::of(moved)
 }
 
-fn try_read(from: i32, into: &mut [u8]) -> Moved
+fn try_read<R: Read>(from: &mut Stream<R>, into: &mut [u8]) -> Moved
     ensures { AtMost (length into.old) result }
 {
-    let got = libc::read(from, into);
-    Moved::of(got, os::errno(), into.len())
+    match from.end.read(into) {
+        Ok(n) => Moved::of(n as isize, 0, into.len()),
+        Err(error) => {
+            from.errno = errno_of(&error);
+            Moved::of(-1, from.errno, into.len())
+        }
+    }
 }
 
-// One line on standard error: what failed, after how many whole events and bytes, and errno's text. Errno is that of
-// the call that failed as long as no other call of C stands in between.
-pub fn tell(what: &[u8], events: usize, bytes: usize) {
+// The number by which the system knows the error. One that is not the system's has the number of its kind.
+pub fn errno_of(error: &Error) -> i32
+    ensures os { IfSome (raw_os_error error.now) (λ n. result ≡ n) }
+    ensures interrupted { IsNone (raw_os_error error.now) → error_kind error.now ≡ ErrorKind.Interrupted → result ≡ pos eintr }
+    ensures would_wait { IsNone (raw_os_error error.now) → error_kind error.now ≡ ErrorKind.WouldBlock → result ≡ pos eagain }
+{
+    match error.raw_os_error() {
+        Some(n) => n,
+        None => match error.kind() {
+            ErrorKind::Interrupted => EINTR,
+            ErrorKind::WouldBlock => EAGAIN,
+            _ => EIO,
+        },
+    }
+}
+
+// One line on standard error: what failed, after how many whole events and bytes, and errno's text.
+pub fn tell(to: Stderr, errno: i32, what: &[u8], events: usize, bytes: usize) {
     let mut line = [0u8; LINE];
     let most = least(what.len(), WHAT);
     let n = failure_line(&mut line, &what[..most], events as u64, bytes as u64);
-    os::fail(&line[..n]);
+    fail(to, errno, &line[..n]);
+}
+
+// One line on standard error: what failed, and errno's text.
+pub fn fail(to: Stderr, errno: i32, what: &[u8]) {
+    let mut text = [0u8; TEXT];
+    let n = errno_text(errno, &mut text);
+    say(to, what);
+    say(to, b": ");
+    say(to, &text[..n]);
+    say(to, b"\n");
+}
+
+// The system's text of an error, to the front of `text`: its length. The library puts the number behind it, in brackets.
+fn errno_text(errno: i32, text: &mut [u8]) -> usize
+    ensures { result ≤ length text.new }
+{
+    let mut rest = &mut *text;
+    let _ = write!(rest, "{}", Error::from_raw_os_error(errno));
+    copy::find(text, b'(').saturating_sub(1)
+}
+
+// An output that takes no more loses what is told, and the program goes on.
+fn say(to: Stderr, text: &[u8]) {
+    let _ = Print::write_all(&to, text);
 }
 
 // The line up to errno's text, to the front of `line`: its length.
@@ -283,26 +367,39 @@ pub fn put_number(line: &mut [u8], at: usize, text: &[u8], number: u64) -> usize
 }
 
 // One line on standard error: argument `i` is unknown to the program, and what it takes.
-pub fn tell_unknown(program: &[u8], i: usize, takes: &[u8]) {
+pub fn tell_unknown<E: Env>(env: &E, to: Stderr, program: &[u8], i: usize, takes: &[u8]) {
     let mut word = [0u8; WORD];
-    let n = argument(i, &mut word);
-    io::write_all(STDERR_FILENO, program);
-    io::write_all(STDERR_FILENO, b": unknown argument: ");
-    io::write_all(STDERR_FILENO, &word[..n]);
-    io::write_all(STDERR_FILENO, b"; ");
-    io::write_all(STDERR_FILENO, takes);
-    io::write_all(STDERR_FILENO, b"\n");
+    let n = argument(env, i, &mut word);
+    say(to, program);
+    say(to, b": unknown argument: ");
+    say(to, &word[..n]);
+    say(to, b"; ");
+    say(to, takes);
+    say(to, b"\n");
 }
 
 // Argument `i` to the front of `word`, or as many of its first bytes as there is room for: how many they are.
-fn argument(i: usize, word: &mut [u8]) -> usize
+fn argument<E: Env>(env: &E, i: usize, word: &mut [u8]) -> usize
     ensures { IsPrefixLen result word.new }
 {
-    let n = os::arg(i, word);
-    let cut = os::errno() == libc::ENAMETOOLONG;
+    let n = match env.arg(i, word) {
+        Ok(n) => n,
+        Err(FillError::TooLong) => word.len(),
+        Err(FillError::NotPresent) => 0,
+    };
     keep_to_line(word);
-    if cut {
-        return word.len();
+    n
+}
+
+// How many arguments the program was started with, its own name among them.
+pub fn argument_count<E: Env>(env: &E) -> usize {
+    let mut word = [0u8; 1];
+    let mut n = 0;
+    while n < usize::MAX {
+        if let Err(FillError::NotPresent) = env.arg(n, &mut word) {
+            return n;
+        }
+        n += 1;
     }
     n
 }
