@@ -6,7 +6,6 @@ ghost use Rattle.std.specs.Prelude.{◌+◌, ◌≤◌, min, ◌≡◌, ◌++◌
 ghost use Rattle.std.specs.IoError.{error_kind, raw_os_error};
 ghost use Rattle.spec.specs.NTriples.{decimal};
 ghost use Rattle.copy.specs.Copy.{Wrote};
-ghost use Rattle.io.specs.Counts.{IsPrefixLen};
 ghost use Rattle.streams.specs.Answers.{over, eintr, eagain, moved_of, waits_for, bytes_of, got_of, AtMost, begun, goes_on, after_write, printed_of, Prints, Fills};
 ghost use Rattle.streams.specs.Telling.{shown, failure_line, in_line};
 
@@ -318,9 +317,10 @@ pub fn fail(to: Stderr, errno: i32, what: &[u8]) {
 fn errno_text(errno: i32, text: &mut [u8]) -> usize
     ensures { result ≤ length text.new }
 {
-    let mut rest = &mut *text;
+    let mut rest = &mut text[..];
     let _ = write!(rest, "{}", Error::from_raw_os_error(errno));
-    copy::find(text, b'(').saturating_sub(1)
+    let end = copy::find(text, b'(');
+    if end == 0 { 0 } else { end - 1 }
 }
 
 // An output that takes no more loses what is told, and the program goes on.
@@ -380,7 +380,7 @@ pub fn tell_unknown<E: Env>(env: &E, to: Stderr, program: &[u8], i: usize, takes
 
 // Argument `i` to the front of `word`, or as many of its first bytes as there is room for: how many they are.
 fn argument<E: Env>(env: &E, i: usize, word: &mut [u8]) -> usize
-    ensures { IsPrefixLen result word.new }
+    ensures { result ≤ length word.new }
 {
     let n = match env.arg(i, word) {
         Ok(n) => n,
