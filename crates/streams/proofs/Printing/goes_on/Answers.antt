@@ -1,4 +1,4 @@
--- `streams::Printing::goes_on_lem` meets its contract.
+-- `streams::Printing::goes_on` meets its contract.
 use Rattle.streams.specs.Answers.{goes_on}
 use Rattle.streams.proofs.Printing.goes_on.Goals as goal
 
