@@ -15,7 +15,7 @@ use state_ids::IdTable;
 use state_words::{Frame, Row};
 
 // What is kept of a document between calls, beside the work store and the ID store: docs/STATE.md.
-#[derive(Drop)]
+#[derive(Clone, Copy)]
 pub struct State {
     pub registers: Registers,
     pub frames: [u32; Frame::TABLE],
