@@ -4,9 +4,10 @@
 # The last line says what passed; the status is 1 where something failed.
 set -eu
 cd "$(dirname "$0")/.."
-rt staticlib reader_host
 made=target/host
-mkdir -p "$made"
+mkdir -p "$made" target/staticlib
+(cd crates/reader_host_c && rt lib)
+cp crates/reader_host_c/out/libreader_host_c.a target/staticlib/libreader_host.a
 
 if [ "$(uname -m)" = x86_64 ]; then
     cc=${CC:-gcc}

@@ -1,5 +1,5 @@
 // The three calls for a host in C, on numbers and byte buffers: those of crate `reader`, with the state in a lent buffer. The rules of use
-// are in host/iceshaft.h.
+// are in host/iceshaft.h. Crate `reader_host_c` exports them.
 #![tactic(auto)]
 
 ghost use Rattle.std.specs.Prelude.{◌≡◌, ◌+◌, ◌*◌, ◌≤◌, false, [], ◌∷◌, length};
@@ -52,16 +52,14 @@ impl Image {
 }
 
 // Bytes of the state's buffer.
-#[unsafe(no_mangle)]
-pub extern "C" fn iceshaft_state_bytes() -> usize
+pub fn iceshaft_state_bytes() -> usize
     ensures { result ≡ state_bytes }
 {
     Image::BYTES
 }
 
 // A document begins in the mode of this number, with a start base where `based` is not 0.
-#[unsafe(no_mangle)]
-pub extern "C" fn iceshaft_start(
+pub fn iceshaft_start(
     state: &mut [u8],
     work: &mut [u8],
     ids: &[u8],
@@ -90,8 +88,7 @@ pub extern "C" fn iceshaft_start(
 }
 
 // The first event of the input; no more follows where `last` is not 0.
-#[unsafe(no_mangle)]
-pub extern "C" fn iceshaft_step(
+pub fn iceshaft_step(
     state: &mut [u8],
     work: &mut [u8],
     ids: &mut [u8],
@@ -120,8 +117,7 @@ pub extern "C" fn iceshaft_step(
 }
 
 // The document is over.
-#[unsafe(no_mangle)]
-pub extern "C" fn iceshaft_finish(state: &mut [u8], work: &[u8], ids: &[u8]) -> u8
+pub fn iceshaft_finish(state: &mut [u8], work: &[u8], ids: &[u8]) -> u8
     ensures { FinishesIn state.old work.now ids.now result state.new }
 {
     let image = load(state);
