@@ -6,7 +6,7 @@ Executed instructions and peak memory of readers of RDF/XML on one document at t
   --document   a Python script that writes the benchmark document of so many megabytes: FILE MEGABYTES
   --converter  a Python file with convert(document, lax) -> PYX
   --count      runs a program and says "insns=N rep-turns=N" on standard error: COMMAND PROGRAM WORDS < INPUT
-  --pyx2nt     the program of this repository, built by rt check pyx2nt
+  --pyx2nt     the program of this repository, built by rt run in crates/pyx2nt
   --host       the host in C over the same reader: reads the PYX file that it is given
   --rust       rio as it is carried over: reads XML
   --rapper     rapper of raptor2-utils: reads XML

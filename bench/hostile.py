@@ -4,7 +4,7 @@
 Executed instructions of single events that are made to cost as much as they can, each behind a document that makes them dear.
 
   --count    runs a program and says "insns=N rep-turns=N" on standard error: COMMAND PROGRAM < INPUT
-  --pyx2nt   the program of this repository, built by rt check pyx2nt
+  --pyx2nt   the program of this repository, built by rt run in crates/pyx2nt
   NAME       the start of the names of the events to measure; all of them where none is given
 
 The figure of an event is that of the document with it less that of the document without it; an instruction follows in both, so that

@@ -4,8 +4,8 @@
  * Three calls, start, step and finish, on numbers and byte buffers. They allocate nothing, keep
  * nothing between calls but what is in the buffers, and read and write nothing else. Their answers
  * are proved: crates/reader_host/specs/Meets.antt has the contracts, crates/reader_host/specs/Use.antt the rules
- * below as theorems. Link with libreader_host.a, which `rt staticlib reader_host`
- * writes.
+ * below as theorems. Link with libreader_host.a, which `sh host/run.sh`
+ * leaves in target/staticlib.
  */
 #ifndef ICESHAFT_H
 #define ICESHAFT_H
