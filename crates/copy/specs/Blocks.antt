@@ -1,6 +1,6 @@
 -- Comparisons of two texts in blocks: from the front, from the end, and of one block with no branch.
 use Rattle.std.specs.Prelude.{◌≡◌, refl, Bool, true, false, ◌&&◌, ◌||◌, not, ℕ, suc, ◌+◌, ◌-◌, ◌<◌, ◌≤◌, eqb, take, get_or}
-use Rattle.std.proofs.Common.{sym, ◌∙◌, zero-add, add-one, eq-eqb, ne_eqb, length-drop, take-append-drop, drop_of_length-le, drop-cons, take-suc, length-take-le}
+use Rattle.std.proofs.Common.{sym, ◌∙◌, zero-add, add-one, eq-eqb, ne_eqb, length-drop, take-append-drop, drop_of_length-le, drop-cons}
 use Rattle.std.proofs.Math.Path.{ap}
 use mathlib.Core.List.{List, [], ◌∷◌, ◌++◌}
 use native.Mathlib.Omega.{arith}

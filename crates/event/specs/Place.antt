@@ -1,18 +1,18 @@
 -- Where an event stands, from the registers and the frame on top.
-use Prim.Native.Nat.{ℕ, zero, suc, ◌-◌, ◌*◌, ◌+◌}
-use Rattle.std.specs.Prelude.{◌≡◌, List, eqb, length, Bool, true, false}
+use Prim.Native.Nat.{ℕ, zero, suc, ◌-◌}
+use Rattle.std.specs.Prelude.{◌≡◌, List, eqb}
 use Rattle.std.proofs.Math.Path.{refl}
-use Rattle.std.proofs.Common.{sym, ap, ◌∙◌}
+use Rattle.std.proofs.Common.{◌∙◌}
 use native.Mathlib.Omega.{arith}
-use borrow.Author.Tests.{eqb-true, eqb-false, eq-eqb, ne_eqb}
-use Rattle.spec.specs.NTriples.{Subject, named}
+use borrow.Author.Tests.{eq-eqb, ne_eqb}
+use Rattle.spec.specs.NTriples.{Subject}
 use Rattle.spec.specs.Document as D
 use Rattle.state_words.specs.declared.Kind.{Kind}
 use Rattle.state_words.specs.declared.Kind.TheVariants.{Rdf, NodeElt, PropertyElt, ParseTypeCollectionPropertyElt, ParseTypeLiteralPropertyElt, ParseTypeOtherPropertyElt, Wrapper}
 use Rattle.state_words.specs.declared.Frame.{Frame}
 use Rattle.state_words.specs.Words.{pick, frame_at, load_frame, load_frame_lem}
 use Rattle.state.specs.declared.Registers.{Registers}
-use Rattle.state.specs.Meaning.{count, subject_of, property_of, what_of, element_of, frames_of, inner_of, inners_of, elements_of}
+use Rattle.state.specs.Meaning.{count, subject_of, what_of, element_of, frames_of, inner_of, inners_of, elements_of}
 use Rattle.state.specs.Valid.{Valid}
 use Rattle.event.specs.declared.Place.{Place}
 use Rattle.event.specs.declared.Place.TheVariants.{Outside, Nodes, Properties, NodesOrText, Xml}

@@ -1,7 +1,5 @@
 -- What an event does to all that is kept of a document, the table of rdf:IDs too, beside what the definitions answer.
 use Rattle.std.specs.Prelude.{ℕ, false, ◌≡◌, refl, List, length}
-use Rattle.std.proofs.Common.{sym, ap, ◌∙◌}
-use Rattle.spec.specs.Bytes.{Bytes}
 use Rattle.spec.specs.Numbers.{Answer, refuse, good}
 use Rattle.spec.specs.declared.Refusal.{Refusal}
 use Rattle.spec.specs.NTriples.{write}
@@ -19,7 +17,7 @@ use Rattle.event.specs.declared.Done.{Done}
 use Rattle.event.specs.declared.Advance.{Advance}
 use Rattle.event.specs.declared.Progress.{Progress}
 use Rattle.event.specs.declared.Progress.TheVariants.{Stop, Did}
-use Rattle.event.specs.Result.{handled, Means, Stopped, Doing, Result, IdsFit, Handles}
+use Rattle.event.specs.Result.{handled, Stopped, Doing, Result, IdsFit, Handles}
 
 -- the tables, the work store, the table of rdf:IDs and its store, and the output
 pub record Lent : Type 0 where

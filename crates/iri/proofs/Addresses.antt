@@ -10,7 +10,7 @@ use lib.ListN.{length}
 use borrow.Author.Tests.{eq-eqb, ne_eqb, eqb-true, eqb-false, le-leb, leb-true, not-true}
 use Rattle.spec.specs.Bytes.{Bytes, ascii, begins, if◌then◌else◌, up_to, from, every}
 use Rattle.spec.specs.Bytes as B
-use Rattle.spec.specs.Grammar.{Grammar, empty, ◌then◌, after, null}
+use Rattle.spec.specs.Grammar.{Grammar, empty, ◌then◌, null}
 use Rattle.spec.specs.Abnf.{optional, word, times, at_most}
 use Rattle.spec.specs.Rfc3987.{h16, h16s, ls32, up_to_h16s, IPv4address, IPv6address}
 use Rattle.spec.specs.Rfc3987 as R

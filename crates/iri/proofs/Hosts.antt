@@ -11,7 +11,6 @@ use Rattle.spec.specs.Bytes.{Bytes, up_to, from, between, byte}
 use Rattle.spec.specs.Bytes as B
 use Rattle.spec.specs.Grammar.{empty, one, ◌or◌, ◌then◌, Describes}
 use Rattle.spec.specs.Abnf.{word, some, HEXDIG, lower}
-use Rattle.spec.specs.Abnf as A
 use Rattle.spec.specs.Rfc3987.{ihost, port, IPvFuture, IPv4address, IP-literal, ireg_name, iunreserved, pct_encoded, sub_delims}
 use Rattle.spec.specs.Rfc3987 as R
 use Rattle.spec.proofs.Booleans.{and_left, and_right, and_both, or_left, or_right_lem, or_cases}

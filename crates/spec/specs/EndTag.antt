@@ -1,7 +1,7 @@
 -- Document 01, "From events to triples": end tags (refusals 6, 17, 18).
 use Rattle.std.specs.Prelude.{not, List, [], ◌∷◌, ◌++◌, ℕ, suc, ◌+◌, leb, length}
 use Rattle.std.proofs.Math.Option.{Option}
-use Rattle.spec.specs.Bytes.{Bytes, same, is_empty, ◌>>=◌, ◌>>◌, require◌or◌}
+use Rattle.spec.specs.Bytes.{Bytes, same, is_empty, ◌>>◌, require◌or◌}
 use Rattle.spec.specs.Numbers.{Answer, refuse, good}
 use Rattle.spec.specs.declared.Refusal.TheVariants.{NotWellFormed, EmptyLiteral, LabelsSpent, ProfileBroken}
 use Rattle.spec.specs.Limits.{most_labels}

@@ -1,6 +1,6 @@
 -- Document 01, "Sizes": all limits, as they hold of what is kept of a document behind each accepted event (theorem: Limits of `theorems`).
 use Rattle.std.proofs.Math.Option.{Option, none, some}
-use Rattle.std.specs.Prelude.{List, [], ◌∷◌, ◌≤◌, length}
+use Rattle.std.specs.Prelude.{◌≤◌, length}
 use Rattle.spec.specs.Bytes.{Bytes, total, All}
 use Rattle.spec.specs.Limits.{most_open_elements, most_bindings, most_name_bytes, most_ids, most_id_bytes, most_held_bytes, most_labels}
 use Rattle.spec.specs.NTriples.{Subject, named, blank}

@@ -1,9 +1,8 @@
 -- The attributes of a start tag, from its decoded bytes and the words that tell where they are: four for each.
 use Rattle.std.specs.Prelude.{◌≡◌, Bool, true, false, List, [], ◌∷◌, ◌++◌, ℕ, zero, suc, ◌+◌, ◌-◌, ◌*◌, ◌<◌, ◌≤◌, length, get_or, take, drop}
 use Rattle.std.proofs.Math.Path.{refl, sym}
-use Rattle.std.proofs.Common.{ap, ◌∙◌, add-zero, zero-add, add-one, arith, length-drop, drop_of_length-le, take_all, drop-drop}
+use Rattle.std.proofs.Common.{ap, ◌∙◌, add-zero, zero-add, add-one, arith, drop_of_length-le, drop-drop}
 use Rattle.std.proofs.Math.ListN.{get_or-eq_default}
-use Rattle.std.proofs.Math.Seq.{take-nil}
 use Rattle.spec.specs.Bytes.{Bytes, ascii, if◌then◌else◌, up_to, from, among}
 use Rattle.spec.specs.XmlNames.{no_colon, prefix_of, local_of}
 use Rattle.spec.specs.Pyx.{Attribute, attribute}

@@ -1,12 +1,12 @@
 -- How the language of an element is kept: a tag by its bytes, in lower case; xml:lang="" as a tag that has none.
-use Rattle.std.specs.Prelude.{◌≡◌, refl, Bool, true, false, List, [], ◌∷◌, map, ℕ, ◌≤◌, eqb, length}
-use Rattle.std.proofs.Common.{sym, ap, ◌∙◌, arith}
+use Rattle.std.specs.Prelude.{◌≡◌, refl, Bool, true, false, [], ◌∷◌, map, ℕ, ◌≤◌, eqb, length}
+use Rattle.std.proofs.Common.{sym, arith}
 use Rattle.std.proofs.lemmas.Bool.{false≢true}
-use Rattle.std.proofs.Math.Option.{Option, none, some}
+use Rattle.std.proofs.Math.Option.{some}
 use Rattle.spec.specs.Bytes.{Bytes, if◌then◌else◌, is_empty}
 use Rattle.spec.specs.Abnf.{lower}
 use Rattle.spec.specs.Rfc5646.{is_language_tag}
-use Rattle.spec.specs.declared.Verdict.TheVariants.{Good, Clears, Bad}
+use Rattle.spec.specs.declared.Verdict.TheVariants.{Good, Bad}
 use Rattle.spec.specs.XmlLang.{verdict, is_allowed, LanguageTag, tag_of, tag_bytes, Own, unsaid, cleared, given, said_by, own_of, carries, own_bytes, Language, no_language, language, in_force}
 use Rattle.copy.specs.Copy.{part, part_short}
 use Rattle.state_words.specs.Words.{pick}

@@ -1,13 +1,12 @@
 -- The loops over the places in use, from the newest to the oldest.
-use Rattle.std.specs.Prelude.{ℕ, suc, ◌+◌, ◌-◌, ◌<◌, ◌≤◌, ◌≡◌, refl, Bool, true, false, ◌&&◌, ◌||◌, List, [], ◌∷◌, eqb, leb, length, get_or, take, drop}
+use Rattle.std.specs.Prelude.{ℕ, suc, ◌+◌, ◌-◌, ◌<◌, ◌≤◌, ◌≡◌, refl, Bool, true, false, ◌&&◌, ◌||◌, List, eqb, leb, get_or}
 use Rattle.std.proofs.Math.Path.{sym, ap}
-use Rattle.std.proofs.Common.{◌∙◌, length-drop, drop_of_length-le, take_all}
+use Rattle.std.proofs.Common.{◌∙◌}
 use native.Mathlib.Omega.{arith}
-use Rattle.std.proofs.Math.Seq.{take-nil}
 use borrow.Author.Tests.{eq-eqb, ne_eqb, le-leb, lt-leb}
 use Rattle.spec.specs.Bytes.{Bytes, same, member}
 use Rattle.spec.specs.Limits.{id_store_bytes, most_ids, most_id_bytes, most_name_bytes}
-use Rattle.copy.specs.Copy.{part, rest_of}
+use Rattle.copy.specs.Copy.{part}
 use Rattle.state_ids.specs.Ids.{ids_of, found, end_to_end, valid_ids}
 
 -- the definitions go by `suc`, the loops down from `i`

@@ -10,13 +10,13 @@ use borrow.Author.Tests.{leb-true, leb-false, eq-eqb, ne_eqb, le-leb, lt-leb, lt
 use Rattle.spec.specs.Limits as L
 use Rattle.spec.specs.Limits.{most_open_elements, work_store_bytes, most_labels}
 use Rattle.copy.specs.Copy.{stored_at, Put, then, put-fits, wrote_same}
-use Rattle.state_words.specs.Parts.{NAME, TAIL, END, PENDING, COUNT, FRAME}
+use Rattle.state_words.specs.Parts.{TAIL, END, PENDING, COUNT, FRAME}
 use Rattle.state_words.specs.declared.Kind.{Kind}
 use Rattle.state_words.specs.declared.Kind.TheVariants.{Rdf, NodeElt, PropertyElt, ParseTypeCollectionPropertyElt, ParseTypeLiteralPropertyElt, ParseTypeOtherPropertyElt, Wrapper}
 use Rattle.state_words.specs.declared.Frame.{Frame}
 use Rattle.state_words.specs.Words.{pick, kind_number, no_frame, load_frame, words_of, StoredFrame, StoredRow}
 use Rattle.state.specs.declared.Registers.{Registers}
-use Rattle.state.specs.Meaning.{at, has, count, first}
+use Rattle.state.specs.Meaning.{at, has, count}
 use Rattle.state.specs.Tests.{positive}
 use Rattle.state_stack.specs.declared.Changed.{Changed}
 use Rattle.state_stack.specs.Change.{pushed_to, popped_to, topped_to}

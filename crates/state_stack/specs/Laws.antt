@@ -15,7 +15,7 @@ use Rattle.spec.specs.Bytes.{Bytes, if◌then◌else◌}
 use Rattle.spec.specs.Limits.{most_labels}
 use Rattle.spec.specs.Namespaces.{Binding}
 use Rattle.spec.specs.NTriples.{Subject}
-use Rattle.spec.specs.Document.{Value, Part, ordinary, on_value, change_value}
+use Rattle.spec.specs.Document.{Value, Part, on_value, change_value}
 use Rattle.spec.specs.Productions.{is_li}
 use Rattle.spec.specs.Opening.{count_li}
 use Rattle.spec.specs.Opening as G
@@ -31,7 +31,7 @@ use Rattle.state_words.specs.Kept.{Kept, kept_all, kept_less, kept_before, kept_
 use Rattle.state_words.specs.Words.{frame_at, row_at, words_of, StoredFrame, load_frame_lem, load_store, frame_wrote, row_there, length-words}
 use Rattle.state.specs.declared.Registers.{Registers}
 use Rattle.state.specs.Meaning.{at, has, count, first, span, object_of, binding_of, bindings_of, subject_of, what_of, part_of, element_of, subject_below, frames_of, start_of, elements_of}
-use Rattle.state.specs.Valid.{noted_by, noted_of, parts_ok, chained, kind_ok, empty_or, node_below, is_root_in, stands, Rising, Valid, rising, rises_up}
+use Rattle.state.specs.Valid.{noted_by, noted_of, parts_ok, chained, kind_ok, empty_or, stands, Rising, Valid, rising, rises_up}
 use Rattle.state.specs.Tests.{positive}
 use Rattle.state.specs.Stay.{chained_on, chained_kept, bindings_kept, stands_kept, below_kept}
 use Rattle.state_stack.specs.declared.Changed.{Changed}

@@ -8,9 +8,9 @@ use Rattle.std.proofs.Math.Option.{Option, none, some}
 use Rattle.std.proofs.Math.Dec.{leb}
 use Rattle.std.proofs.Math.ListN.{length}
 use Rattle.std.proofs.Math.Seq.{get_or-set_other}
-use borrow.Author.Tests.{eqb-true, eqb-false, leb-true, ltb-true, leb-false, eq-eqb, ne_eqb, le-leb, lt-ltb, le-ltb}
+use borrow.Author.Tests.{eqb-true, eqb-false, leb-true, leb-false, eq-eqb, ne_eqb, le-leb, lt-ltb, le-ltb}
 use Rattle.spec.specs.Limits as L
-use Rattle.spec.specs.Bytes.{Bytes, if◌then◌else◌}
+use Rattle.spec.specs.Bytes.{Bytes}
 use Rattle.spec.specs.NTriples.{Subject}
 use Rattle.spec.specs.Document.{Kind as What, Part, ordinary, top_level, alternatives, Frame as Element, with_kind, with_part}
 use Rattle.spec.specs.Opening.{count_li}

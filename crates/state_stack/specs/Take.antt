@@ -10,12 +10,12 @@ use Rattle.spec.specs.Limits as L
 use Rattle.spec.specs.Limits.{work_store_bytes}
 use Rattle.spec.proofs.Booleans.{and_left, and_right}
 use Rattle.copy.specs.Copy.{part, stored_at, Put, Copied, copied-begins, copied_more, copied_done, length_part, get_d_part, put-fits, wrote_same, Wrote, then}
-use Rattle.state_words.specs.Parts.{NAME, MAIN, ID, TAIL, END, BLANK, PENDING, COUNT, FRAME}
+use Rattle.state_words.specs.Parts.{MAIN, ID, TAIL, END, BLANK, PENDING, COUNT, FRAME}
 use Rattle.state_words.specs.declared.Kind.TheVariants.{NodeElt, PropertyElt, ParseTypeCollectionPropertyElt}
 use Rattle.state_words.specs.declared.Frame.{Frame}
 use Rattle.state_words.specs.Words.{pick, words_of, load_frame, StoredFrame}
 use Rattle.state.specs.declared.Registers.{Registers}
-use Rattle.state.specs.Meaning.{at, has, count, first}
+use Rattle.state.specs.Meaning.{at, has, count}
 use Rattle.state_stack.specs.declared.Changed.{Changed}
 use Rattle.state_stack.specs.Change.{topped_to, popped_to}
 use Rattle.state_stack.specs.Calls.{top_frame, same_kind, tail_to, Pops, may_pop}

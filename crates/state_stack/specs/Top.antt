@@ -14,7 +14,7 @@ use Rattle.state_words.specs.declared.Frame.{Frame}
 use Rattle.state_words.specs.Kept.{Kept, kept_all, kept_less, kept_before}
 use Rattle.state_words.specs.Words.{frame_at, StoredFrame, frame_wrote, load_store}
 use Rattle.state.specs.declared.Registers.{Registers}
-use Rattle.state.specs.Meaning.{at, has, count, first, bindings_of, property_of, what_of, part_of, element_of, subject_below, frames_of, inner_of, inners_of, start_of, elements_of}
+use Rattle.state.specs.Meaning.{at, has, first, bindings_of, property_of, what_of, part_of, element_of, subject_below, frames_of, inner_of, inners_of, start_of, elements_of}
 use Rattle.state.specs.Valid.{noted_by, noted_of, parts_ok, kind_ok, Rising, Sound, Valid, rising, rises_up}
 use Rattle.state.specs.Stay.{span_kept, bindings_kept, stands_kept, below_kept}
 use Rattle.state_stack.specs.Change.{Holds, On, noting_to, topped_to, changed, top_frame_lem, under, top_element}

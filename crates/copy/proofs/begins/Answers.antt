@@ -1,9 +1,6 @@
 -- `copy::begins` meets its contract.
-use Prim.Native.Nat.{◌-◌}
-use lib.ListN.{length}
-use Rattle.copy.specs.Scan.{Begun, begun_never, begun-begins, begun_stop, begun_more, begun_done}
+use Rattle.copy.specs.Scan.{begun_never, begun-begins, begun_stop, begun_more, begun_done}
 use native.Mathlib.Omega.{arith}
-use borrow.Author.Rules.{rules}
 use Rattle.copy.proofs.begins.Goals as goal
 
 pub returns-then-s-front : goal.returns-then-s-front

@@ -1,9 +1,7 @@
 -- `copy::begins` meets its contract. The loop's invariant: `front` is no longer than `s`, and its first `i` bytes are those of `s`.
 use Prim.Native.Nat.{◌-◌}
 use lib.ListN.{length}
-use Rattle.copy.specs.Scan.{Begun, begun_never, begun-begins, begun_stop, begun_more, begun_done}
-use native.Mathlib.Omega.{arith}
-use borrow.Author.Rules.{rules}
+use Rattle.copy.specs.Scan.{Begun}
 use Rattle.copy.proofs.begins.Given as goal
 
 abbrev pub invariant-loop-i : goal.invariant-loop-i

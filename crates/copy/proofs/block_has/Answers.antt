@@ -1,8 +1,6 @@
 -- `copy::block_has` meets its contract.
-use Prim.Native.Nat.{◌-◌}
-use Rattle.copy.specs.Scan.{Gathered, gathered_begins, gathered_more, gathered_done}
+use Rattle.copy.specs.Scan.{gathered_begins, gathered_more, gathered_done}
 use native.Mathlib.Omega.{arith}
-use borrow.Author.Rules.{rules}
 use Rattle.copy.proofs.block_has.Goals as goal
 
 pub loop-j-init : goal.loop-j-init

@@ -1,8 +1,6 @@
 -- `copy::block_has` meets its contract. The loop's invariant: `found` is the answer for the first `j` bytes.
 use Prim.Native.Nat.{◌-◌}
-use Rattle.copy.specs.Scan.{Gathered, gathered_begins, gathered_more, gathered_done}
-use native.Mathlib.Omega.{arith}
-use borrow.Author.Rules.{rules}
+use Rattle.copy.specs.Scan.{Gathered}
 use Rattle.copy.proofs.block_has.Given as goal
 
 abbrev pub invariant-loop-j : goal.invariant-loop-j

@@ -1,9 +1,6 @@
 -- `copy::differ` meets its contract.
-use Prim.Native.Nat.{◌-◌}
-use lib.ListN.{length}
-use Rattle.copy.specs.Blocks.{Differing, differing_begins, differing_more, differing_done}
+use Rattle.copy.specs.Blocks.{differing_begins, differing_more, differing_done}
 use native.Mathlib.Omega.{arith}
-use borrow.Author.Rules.{rules}
 use Rattle.copy.proofs.differ.Goals as goal
 
 pub loop-j-init : goal.loop-j-init

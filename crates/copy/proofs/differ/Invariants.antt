@@ -1,9 +1,7 @@
 -- `copy::differ` meets its contract. The loop's invariant: `found` says whether the first `j` bytes differ.
 use Prim.Native.Nat.{◌-◌}
 use lib.ListN.{length}
-use Rattle.copy.specs.Blocks.{Differing, differing_begins, differing_more, differing_done}
-use native.Mathlib.Omega.{arith}
-use borrow.Author.Rules.{rules}
+use Rattle.copy.specs.Blocks.{Differing}
 use Rattle.copy.proofs.differ.Given as goal
 
 abbrev pub invariant-loop-j : goal.invariant-loop-j

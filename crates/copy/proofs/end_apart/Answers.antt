@@ -4,7 +4,6 @@ use mathlib.Core.Bool.{true≢false}
 use borrow.Author.Tests.{not-true}
 use Rattle.copy.specs.Blocks.{tails_stop, tails_lengths}
 use native.Mathlib.Omega.{arith}
-use borrow.Author.Rules.{rules}
 use Rattle.copy.proofs.end_apart.Goals as goal
 
 pub returns-then-n-lt4 : goal.returns-then-n-lt4

@@ -1,9 +1,6 @@
 -- `copy::equal` meets its contract.
-use Prim.Native.Nat.{◌-◌}
-use lib.ListN.{length}
-use Rattle.copy.specs.Scan.{Alike, alike_never, alike_begins, alike_stop, alike_more, alike_done}
+use Rattle.copy.specs.Scan.{alike_never, alike_begins, alike_stop, alike_more, alike_done}
 use native.Mathlib.Omega.{arith}
-use borrow.Author.Rules.{rules}
 use Rattle.copy.proofs.equal.Goals as goal
 
 pub returns-then-a-b : goal.returns-then-a-b

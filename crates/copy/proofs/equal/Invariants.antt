@@ -1,9 +1,7 @@
 -- `copy::equal` meets its contract. The loop's invariant: the lengths are equal, and so are the first `i` bytes.
 use Prim.Native.Nat.{◌-◌}
 use lib.ListN.{length}
-use Rattle.copy.specs.Scan.{Alike, alike_never, alike_begins, alike_stop, alike_more, alike_done}
-use native.Mathlib.Omega.{arith}
-use borrow.Author.Rules.{rules}
+use Rattle.copy.specs.Scan.{Alike}
 use Rattle.copy.proofs.equal.Given as goal
 
 abbrev pub invariant-loop-i : goal.invariant-loop-i

@@ -1,7 +1,6 @@
 -- `copy::equal_backwards` meets its contract.
-use Rattle.copy.specs.Blocks.{Tails, tails_more, tails_other, tails_all}
+use Rattle.copy.specs.Blocks.{tails_more, tails_other, tails_all}
 use native.Mathlib.Omega.{arith}
-use borrow.Author.Rules.{rules}
 use Rattle.copy.proofs.equal_backwards.Goals as goal
 
 pub loop-i-init : goal.loop-i-init

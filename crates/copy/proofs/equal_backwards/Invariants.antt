@@ -1,7 +1,5 @@
 -- `copy::equal_backwards` meets its contract. The loop's invariant: the bytes from `i` on are the same.
-use Rattle.copy.specs.Blocks.{Tails, tails_more, tails_other, tails_all}
-use native.Mathlib.Omega.{arith}
-use borrow.Author.Rules.{rules}
+use Rattle.copy.specs.Blocks.{Tails}
 use Rattle.copy.proofs.equal_backwards.Given as goal
 
 abbrev pub invariant-loop-i : goal.invariant-loop-i

@@ -2,9 +2,8 @@
 use mathlib.Core.Path.{sym, ◌∙◌}
 use borrow.Author.Tests.{not-true, not-false}
 use Rattle.copy.specs.Scan.{alike_never}
-use Rattle.copy.specs.Blocks.{Tails, tails_begin, tails_block, tails_stop, tails_lengths}
+use Rattle.copy.specs.Blocks.{tails_begin, tails_block, tails_stop, tails_lengths}
 use native.Mathlib.Omega.{arith}
-use borrow.Author.Rules.{rules}
 use Rattle.copy.proofs.equal_from_end.Goals as goal
 
 pub returns-then-a-b : goal.returns-then-a-b

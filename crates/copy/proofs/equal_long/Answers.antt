@@ -1,13 +1,10 @@
 -- `copy::equal_long` meets its contract.
-use Prim.Native.Nat.{◌-◌}
 use mathlib.Core.Path.{sym, ◌∙◌}
-use lib.ListN.{length}
 use borrow.Author.Tests.{not-true, not-false}
-use Rattle.copy.specs.Copy.{part, part_of, length_part, rest_of}
-use Rattle.copy.specs.Scan.{Alike, alike_never, alike_begins}
+use Rattle.copy.specs.Copy.{part_of, length_part, rest_of}
+use Rattle.copy.specs.Scan.{alike_never, alike_begins}
 use Rattle.copy.specs.Blocks.{alike_block, alike_block_stop}
 use native.Mathlib.Omega.{arith}
-use borrow.Author.Rules.{rules}
 use Rattle.copy.proofs.equal_long.Goals as goal
 
 pub returns-then-a-b : goal.returns-then-a-b

@@ -1,13 +1,7 @@
 -- `copy::equal_long` meets its contract. The loop's invariant: the lengths are equal, and so are the first `i` bytes.
 use Prim.Native.Nat.{◌-◌}
-use mathlib.Core.Path.{sym, ◌∙◌}
 use lib.ListN.{length}
-use borrow.Author.Tests.{not-true, not-false}
-use Rattle.copy.specs.Copy.{part, part_of, length_part, rest_of}
-use Rattle.copy.specs.Scan.{Alike, alike_never, alike_begins}
-use Rattle.copy.specs.Blocks.{alike_block, alike_block_stop}
-use native.Mathlib.Omega.{arith}
-use borrow.Author.Rules.{rules}
+use Rattle.copy.specs.Scan.{Alike}
 use Rattle.copy.proofs.equal_long.Given as goal
 
 abbrev pub invariant-loop-i : goal.invariant-loop-i

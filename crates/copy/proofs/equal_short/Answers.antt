@@ -3,7 +3,6 @@ use mathlib.Core.Path.{sym, ◌∙◌}
 use borrow.Author.Tests.{not-true, not-false}
 use Rattle.copy.specs.Blocks.{tails_block, tails_stop, tails_lengths}
 use native.Mathlib.Omega.{arith}
-use borrow.Author.Rules.{rules}
 use Rattle.copy.proofs.equal_short.Goals as goal
 
 pub equal_backwards-requires : goal.equal_backwards-requires

@@ -1,11 +1,7 @@
 -- `copy::find` meets its contract.
-use Prim.Native.Nat.{◌-◌}
-use lib.ListN.{length}
-use lib.Dec.{eqb}
 use borrow.Author.Tests.{eq-eqb, ne_eqb}
-use Rattle.copy.specs.Scan.{Sought, sought_stop, sought_more, sought_done}
+use Rattle.copy.specs.Scan.{sought_stop, sought_more, sought_done}
 use native.Mathlib.Omega.{arith}
-use borrow.Author.Rules.{rules}
 use Rattle.copy.proofs.find.Goals as goal
 
 pub loop-i-init : goal.loop-i-init

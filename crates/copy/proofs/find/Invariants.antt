@@ -2,10 +2,7 @@
 use Prim.Native.Nat.{◌-◌}
 use lib.ListN.{length}
 use lib.Dec.{eqb}
-use borrow.Author.Tests.{eq-eqb, ne_eqb}
-use Rattle.copy.specs.Scan.{Sought, sought_stop, sought_more, sought_done}
-use native.Mathlib.Omega.{arith}
-use borrow.Author.Rules.{rules}
+use Rattle.copy.specs.Scan.{Sought}
 use Rattle.copy.proofs.find.Given as goal
 
 abbrev pub invariant-loop-i : goal.invariant-loop-i

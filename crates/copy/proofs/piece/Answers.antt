@@ -1,7 +1,6 @@
 -- `copy::piece` meets its contract.
 use Rattle.copy.specs.Copy.{part_of, piece_none, piece_end}
 use native.Mathlib.Omega.{arith}
-use borrow.Author.Rules.{rules}
 use Rattle.copy.proofs.piece.Goals as goal
 
 pub returns-then-s-at : goal.returns-then-s-at

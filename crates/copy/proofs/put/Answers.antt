@@ -1,9 +1,6 @@
 -- `copy::put` meets its contract.
-use Prim.Native.Nat.{◌-◌}
-use lib.ListN.{length}
-use Rattle.copy.specs.Copy.{Copied, copied-begins, copied_more, copied_done, put_none}
+use Rattle.copy.specs.Copy.{copied-begins, copied_more, copied_done, put_none}
 use native.Mathlib.Omega.{arith}
-use borrow.Author.Rules.{rules}
 use Rattle.copy.proofs.put.Goals as goal
 
 pub returns-then-dst-at : goal.returns-then-dst-at

@@ -1,9 +1,7 @@
 -- `copy::put` meets its contract. The loop's invariant: the first `i` elements of `src` stand in `dst` from `at` on, and all of them fit.
 use Prim.Native.Nat.{◌-◌}
 use lib.ListN.{length}
-use Rattle.copy.specs.Copy.{Copied, copied-begins, copied_more, copied_done, put_none}
-use native.Mathlib.Omega.{arith}
-use borrow.Author.Rules.{rules}
+use Rattle.copy.specs.Copy.{Copied}
 use Rattle.copy.proofs.put.Given as goal
 
 abbrev pub invariant-loop-i : goal.invariant-loop-i

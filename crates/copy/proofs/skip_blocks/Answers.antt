@@ -1,12 +1,8 @@
 -- `copy::skip_blocks` meets its contract.
-use Prim.Native.Nat.{◌-◌}
 use mathlib.Core.Path.{sym, ◌∙◌}
-use lib.Dec.{eqb}
-use lib.ListN.{length}
 use Rattle.copy.specs.Copy.{part, part_of, length_part}
-use Rattle.copy.specs.Scan.{Sought, sought_begins, sought_block}
+use Rattle.copy.specs.Scan.{sought_begins, sought_block}
 use native.Mathlib.Omega.{arith}
-use borrow.Author.Rules.{rules}
 use Rattle.copy.proofs.skip_blocks.Goals as goal
 
 pub loop-i-init : goal.loop-i-init

@@ -1,7 +1,6 @@
 -- `event::place_at` meets its contract: a law for each return.
 use Rattle.event.specs.Place.{place_inside, place_outside, place_there}
 use native.Mathlib.Omega.{arith}
-use borrow.Author.Rules.{rules}
 use Rattle.event.proofs.place_at.Goals as goal
 
 pub returns-then-r-ne0 : goal.returns-then-r-ne0

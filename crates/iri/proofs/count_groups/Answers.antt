@@ -1,13 +1,10 @@
 -- `iri::count_groups` meets its contract.
 use mathlib.Core.Bool.{and-false}
 use mathlib.Core.Path.{sym, ◌∙◌}
-use Prim.Native.Nat.{◌-◌}
 use native.Mathlib.Omega.{arith}
 use lib.ListN.{length-drop}
-use borrow.Author.Tests.{not-true, not-false}
-use borrow.Author.Rules.{rules}
 use Rattle.utils.proofs.Walking.{to_end}
-use Rattle.iri.proofs.Counting.{Counting, counting_begins, counting_many, counting_more, counting_bad, counting_last, counting_address, counting_none}
+use Rattle.iri.proofs.Counting.{counting_begins, counting_many, counting_more, counting_bad, counting_last, counting_address, counting_none}
 use Rattle.iri.proofs.Addresses.{no_bytes_groups}
 use Rattle.iri.proofs.Finding.{found_upto, found_part, drop_past}
 use Rattle.iri.proofs.Languages.{cut-mark, cut_end}

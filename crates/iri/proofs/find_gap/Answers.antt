@@ -1,12 +1,9 @@
 -- `iri::find_gap` meets its contract.
 use mathlib.Core.Path.{sym, ◌∙◌}
-use Prim.Native.Nat.{◌-◌}
 use native.Mathlib.Omega.{arith}
-use lib.ListN.{length}
-use borrow.Author.Rules.{rules}
 use Rattle.spec.specs.Bytes.{ascii}
 use Rattle.utils.proofs.Walking.{to_end}
-use Rattle.iri.proofs.Searches.{Gapless, gapless_begins, gapless_stop, gapless_more, gapless_done}
+use Rattle.iri.proofs.Searches.{gapless_begins, gapless_stop, gapless_more, gapless_done}
 use Rattle.iri.proofs.find_gap.Goals as goal
 
 pub loop-i-init : goal.loop-i-init

@@ -1,5 +1,4 @@
 -- `iri::has_escapes` meets its contract.
-use borrow.Author.Rules.{rules}
 use Rattle.iri.specs.Parts.{escapes}
 use Rattle.iri.specs.Parts as P
 use Rattle.iri.proofs.has_escapes.Goals as goal

@@ -1,5 +1,4 @@
 -- `iri::has_letters` meets its contract.
-use borrow.Author.Rules.{rules}
 use Rattle.iri.specs.Parts.{lettered}
 use Rattle.iri.proofs.has_letters.Goals as goal
 

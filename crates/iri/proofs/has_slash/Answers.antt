@@ -1,5 +1,4 @@
 -- `iri::has_slash` meets its contract.
-use borrow.Author.Rules.{rules}
 use Rattle.iri.specs.Parts.{slashed}
 use Rattle.iri.proofs.has_slash.Goals as goal
 

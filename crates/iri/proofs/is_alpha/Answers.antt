@@ -1,5 +1,4 @@
 -- `iri::is_alpha` meets its contract.
-use borrow.Author.Rules.{rules}
 use Rattle.iri.specs.Parts as P
 use Rattle.iri.proofs.is_alpha.Goals as goal
 

@@ -1,6 +1,5 @@
 -- `iri::is_alphanum` meets its contract: small letters, capitals, digits.
 use mathlib.Core.Path.{sym, ◌∙◌}
-use borrow.Author.Rules.{rules}
 use Rattle.iri.proofs.Classes.{small_letter, capital_letter, no_letter}
 use Rattle.iri.proofs.is_alphanum.Goals as goal
 

@@ -1,10 +1,7 @@
 -- `iri::is_among` meets its contract.
 use mathlib.Core.Path.{sym, ◌∙◌}
-use Prim.Native.Nat.{◌-◌}
 use native.Mathlib.Omega.{arith}
-use lib.ListN.{length}
-use borrow.Author.Rules.{rules}
-use Rattle.iri.proofs.Searches.{Sought, sought_begins, sought_hit, sought_more, sought_done}
+use Rattle.iri.proofs.Searches.{sought_begins, sought_hit, sought_more, sought_done}
 use Rattle.iri.proofs.is_among.Goals as goal
 
 pub loop-i-init : goal.loop-i-init

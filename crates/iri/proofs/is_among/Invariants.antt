@@ -1,10 +1,7 @@
 -- `iri::is_among` meets its contract. The loop's invariant: the character is none of the first `i`.
-use mathlib.Core.Path.{sym, ◌∙◌}
 use Prim.Native.Nat.{◌-◌}
-use native.Mathlib.Omega.{arith}
 use lib.ListN.{length}
-use borrow.Author.Rules.{rules}
-use Rattle.iri.proofs.Searches.{Sought, sought_begins, sought_hit, sought_more, sought_done}
+use Rattle.iri.proofs.Searches.{Sought}
 use Rattle.iri.proofs.is_among.Given as goal
 
 abbrev pub invariant-loop-i : goal.invariant-loop-i

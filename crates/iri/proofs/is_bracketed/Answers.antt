@@ -2,8 +2,6 @@
 use mathlib.Core.Path.{refl, sym, ◌∙◌}
 use native.Mathlib.Omega.{arith}
 use lib.Seq.{length-take-le}
-use borrow.Author.Tests.{not-true, not-false}
-use borrow.Author.Rules.{rules}
 use Rattle.spec.specs.Bytes.{between}
 use Rattle.utils.proofs.Walking.{to_end}
 use Rattle.iri.specs.Forms.{is_mark}

@@ -1,7 +1,6 @@
 -- `iri::is_colonless` meets its contract. What stands before the first "/" has no ":".
 use mathlib.Core.Path.{sym}
 use lib.Seq.{length-take-le}
-use borrow.Author.Rules.{rules}
 use Rattle.iri.proofs.Finding.{found_within, colonless-found}
 use Rattle.iri.proofs.is_colonless.Goals as goal
 

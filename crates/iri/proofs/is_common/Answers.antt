@@ -1,5 +1,4 @@
 -- `iri::is_common` meets its contract.
-use borrow.Author.Rules.{rules}
 use Rattle.iri.proofs.Classes.{common-alphanum, common_slash, common-mark}
 use Rattle.iri.proofs.is_common.Goals as goal
 

@@ -1,5 +1,4 @@
 -- `iri::is_delim` meets its contract.
-use borrow.Author.Rules.{rules}
 use Rattle.iri.specs.Parts.{allowed}
 use Rattle.iri.specs.Parts as P
 use Rattle.iri.proofs.is_delim.Goals as goal

@@ -2,8 +2,6 @@
 use mathlib.Core.Path.{sym, ◌∙◌}
 use mathlib.Core.Bool.{and-false}
 use native.Mathlib.Omega.{arith}
-use borrow.Author.Tests.{not-true, not-false}
-use borrow.Author.Rules.{rules}
 use Rattle.iri.specs.Parts.{class_of, escapes}
 use Rattle.iri.proofs.Classes.{escaped_short, escaped-other, escaped_by}
 use Rattle.iri.proofs.is_escaped.Goals as goal

@@ -1,7 +1,6 @@
 -- `iri::is_filled` meets its contract.
 use mathlib.Core.Path.{◌∙◌}
 use native.Mathlib.Omega.{arith}
-use borrow.Author.Rules.{rules}
 use Rattle.iri.proofs.Checks.{filled_none, filled_some}
 use Rattle.iri.proofs.is_filled.Goals as goal
 

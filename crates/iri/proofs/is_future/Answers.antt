@@ -1,7 +1,6 @@
 -- `iri::is_future` meets its contract.
 use mathlib.Core.Path.{sym, ap, ◌∙◌}
 use native.Mathlib.Omega.{arith}
-use borrow.Author.Rules.{rules}
 use Rattle.spec.specs.Abnf.{lower}
 use Rattle.utils.proofs.Walking.{to_end}
 use Rattle.iri.proofs.Checks.{future_none, future_other, future_version}

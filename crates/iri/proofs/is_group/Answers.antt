@@ -1,7 +1,6 @@
 -- `iri::is_group` meets its contract.
 use mathlib.Core.Path.{sym, ◌∙◌}
 use native.Mathlib.Omega.{arith}
-use borrow.Author.Rules.{rules}
 use Rattle.iri.proofs.Octets.{group_none, group_long}
 use Rattle.iri.proofs.Checks.{group_row}
 use Rattle.iri.proofs.is_group.Goals as goal

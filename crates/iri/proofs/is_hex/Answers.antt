@@ -1,5 +1,4 @@
 -- `iri::is_hex` meets its contract.
-use borrow.Author.Rules.{rules}
 use Rattle.iri.specs.Parts as P
 use Rattle.iri.proofs.is_hex.Goals as goal
 

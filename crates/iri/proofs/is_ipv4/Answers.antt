@@ -2,12 +2,10 @@
 use mathlib.Core.Path.{sym, ◌∙◌}
 use native.Mathlib.Omega.{arith}
 use lib.ListN.{length-drop}
-use borrow.Author.Tests.{not-true, not-false}
-use borrow.Author.Rules.{rules}
 use Rattle.utils.proofs.Walking.{to_end}
 use Rattle.iri.proofs.Finding.{found_upto, found_part, drop_past}
 use Rattle.iri.proofs.Languages.{cut-mark, cut_end}
-use Rattle.iri.proofs.Octets.{Dotted, dotted_begins, dotted_short, dotted_bad, dotted_more, dotted_done}
+use Rattle.iri.proofs.Octets.{dotted_begins, dotted_short, dotted_bad, dotted_more, dotted_done}
 use Rattle.iri.proofs.is_ipv4.Goals as goal
 
 pub loop-left-init : goal.loop-left-init

@@ -2,8 +2,6 @@
 use mathlib.Core.Path.{sym, ◌∙◌}
 use native.Mathlib.Omega.{arith}
 use lib.Seq.{length-take-le}
-use borrow.Author.Tests.{not-true, not-false}
-use borrow.Author.Rules.{rules}
 use Rattle.spec.specs.Rfc3987.{is_iri}
 use Rattle.utils.proofs.Walking.{to_end}
 use Rattle.iri.proofs.Checks.{iri_none, iri_bad, iri_good}

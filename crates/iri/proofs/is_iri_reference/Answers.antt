@@ -1,6 +1,5 @@
 -- `iri::is_iri_reference` meets its contract. An IRI, or else a relative reference.
 use mathlib.Core.Path.{sym, ◌∙◌}
-use borrow.Author.Rules.{rules}
 use Rattle.spec.specs.Rfc3987.{is_iri, is_iri_reference}
 use Rattle.iri.proofs.Checks.{reference_iri, reference_rest}
 use Rattle.iri.proofs.is_iri_reference.Goals as goal

@@ -1,6 +1,5 @@
 -- `iri::is_literal` meets its contract.
 use mathlib.Core.Path.{sym, ◌∙◌}
-use borrow.Author.Rules.{rules}
 use Rattle.iri.proofs.Checks.{literal_address, literal_future}
 use Rattle.iri.proofs.is_literal.Goals as goal
 

@@ -1,7 +1,6 @@
 -- `iri::is_octet` meets its contract.
 use mathlib.Core.Path.{sym, ◌∙◌}
 use native.Mathlib.Omega.{arith}
-use borrow.Author.Rules.{rules}
 use Rattle.iri.proofs.Octets.{octet-one, octet-two, octet_three, octet-other}
 use Rattle.iri.proofs.is_octet.Goals as goal
 

@@ -1,7 +1,6 @@
 -- `iri::is_optional` meets its contract.
 use mathlib.Core.Path.{◌∙◌}
 use native.Mathlib.Omega.{arith}
-use borrow.Author.Rules.{rules}
 use Rattle.utils.proofs.Walking.{to_end}
 use Rattle.iri.proofs.Checks.{optional_none, optional-other, optional-row}
 use Rattle.iri.proofs.is_optional.Goals as goal

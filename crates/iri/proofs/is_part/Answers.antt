@@ -1,8 +1,6 @@
 -- `iri::is_part` meets its contract. "//" in front, or a path.
 use mathlib.Core.Path.{sym, ◌∙◌}
 use native.Mathlib.Omega.{arith}
-use borrow.Author.Tests.{not-true, not-false}
-use borrow.Author.Rules.{rules}
 use Rattle.spec.specs.Bytes.{ascii}
 use Rattle.copy.specs.Texts.{begins-length}
 use Rattle.utils.proofs.Walking.{to_end}

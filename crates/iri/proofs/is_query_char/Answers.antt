@@ -1,6 +1,5 @@
 -- `iri::is_query_char` meets its contract.
 use mathlib.Core.Path.{sym, ◌∙◌}
-use borrow.Author.Rules.{rules}
 use Rattle.iri.specs.Parts.{allowed}
 use Rattle.iri.specs.Parts as P
 use Rattle.iri.proofs.Classes.{left}

@@ -1,10 +1,6 @@
 -- `iri::is_row` meets its contract.
-use Prim.Native.Nat.{◌-◌}
 use native.Mathlib.Omega.{arith}
-use lib.ListN.{length}
-use borrow.Author.Rules.{rules}
 use Rattle.utils.proofs.Walking.{to_end}
-use Rattle.iri.specs.Parts.{Walked}
 use Rattle.iri.proofs.Walks.{walked_none, walked_more, walked_on, walked_done}
 use Rattle.iri.proofs.is_row.Goals as goal
 

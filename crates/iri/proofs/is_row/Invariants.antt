@@ -1,11 +1,7 @@
 -- `iri::is_row` meets its contract. The loop's invariant: the bytes up to `at` are places of the row, and the whole is a row if the rest is one.
 use Prim.Native.Nat.{◌-◌}
-use native.Mathlib.Omega.{arith}
 use lib.ListN.{length}
-use borrow.Author.Rules.{rules}
-use Rattle.utils.proofs.Walking.{to_end}
 use Rattle.iri.specs.Parts.{Walked}
-use Rattle.iri.proofs.Walks.{walked_none, walked_more, walked_on, walked_done}
 use Rattle.iri.proofs.is_row.Given as goal
 
 abbrev pub invariant-loop-at : goal.invariant-loop-at

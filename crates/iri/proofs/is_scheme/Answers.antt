@@ -1,8 +1,6 @@
 -- `iri::is_scheme` meets its contract.
 use mathlib.Core.Path.{sym, ap, ◌∙◌}
 use native.Mathlib.Omega.{arith}
-use borrow.Author.Tests.{not-true, not-false}
-use borrow.Author.Rules.{rules}
 use Rattle.utils.proofs.Walking.{to_end}
 use Rattle.iri.specs.Parts.{is_alpha}
 use Rattle.iri.proofs.Checks.{scheme_none, scheme-other, scheme-row}

@@ -1,5 +1,4 @@
 -- `iri::is_two_digits` meets its contract.
-use borrow.Author.Rules.{rules}
 use Rattle.iri.specs.Parts as P
 use Rattle.iri.specs.Addresses.{octet}
 use Rattle.iri.proofs.is_two_digits.Goals as goal

@@ -1,6 +1,5 @@
 -- `iri::is_ucschar` meets its contract.
 use mathlib.Core.Path.{refl, sym}
-use borrow.Author.Rules.{rules}
 use Rattle.iri.specs.Parts as P
 use Rattle.utils.specs.Ranges.{ranges, ascending_from}
 use Rattle.utils.proofs.Ranges.{before_all}

@@ -1,6 +1,5 @@
 -- `iri::is_user_char` meets its contract.
 use mathlib.Core.Path.{refl, sym, ◌∙◌}
-use borrow.Author.Rules.{rules}
 use Rattle.iri.specs.Forms.{is_mark}
 use Rattle.iri.specs.Parts.{allowed}
 use Rattle.iri.specs.Parts as P

@@ -2,8 +2,6 @@
 use mathlib.Core.Path.{sym, ◌∙◌}
 use native.Mathlib.Omega.{arith}
 use lib.Seq.{length-take-le}
-use borrow.Author.Tests.{not-true, not-false}
-use borrow.Author.Rules.{rules}
 use Rattle.utils.proofs.Walking.{to_end}
 use Rattle.iri.proofs.Checks.{version_none, version_bad, version_good}
 use Rattle.iri.proofs.Finding.{found_within}

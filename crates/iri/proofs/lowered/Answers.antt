@@ -1,7 +1,6 @@
 -- `iri::lowered` meets its contract.
 use mathlib.Core.Path.{sym, ◌∙◌}
 use native.Mathlib.Omega.{arith}
-use borrow.Author.Rules.{rules}
 use Rattle.spec.specs.Bytes.{byte, if◌then◌else◌}
 use Rattle.spec.specs.Abnf.{lower}
 use Rattle.iri.proofs.Classes.{within_high}

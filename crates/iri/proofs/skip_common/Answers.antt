@@ -1,13 +1,6 @@
 -- `iri::skip_common` meets its contract.
-use mathlib.Core.Path.{◌≡◌, refl, sym, ◌∙◌}
-use mathlib.Core.Bool.{true}
-use Prim.Native.Nat.{◌-◌}
+use mathlib.Core.Path.{refl, sym, ◌∙◌}
 use native.Mathlib.Omega.{arith}
-use lib.ListN.{length}
-use borrow.Author.Tests.{not-false}
-use borrow.Author.Rules.{rules}
-use Rattle.iri.specs.declared.Part.{Part}
-use Rattle.iri.specs.Parts.{lettered, slashed, Walked}
 use Rattle.iri.proofs.Walks.{walked_begins, walked_common}
 use Rattle.iri.proofs.skip_common.Goals as goal
 

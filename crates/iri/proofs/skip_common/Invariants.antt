@@ -1,14 +1,10 @@
 -- `iri::skip_common` meets its contract. The loop's invariant: whatever part has the common characters, the bytes up to `i` are places of it.
-use mathlib.Core.Path.{◌≡◌, refl, sym, ◌∙◌}
+use mathlib.Core.Path.{◌≡◌}
 use mathlib.Core.Bool.{true}
 use Prim.Native.Nat.{◌-◌}
-use native.Mathlib.Omega.{arith}
 use lib.ListN.{length}
-use borrow.Author.Tests.{not-false}
-use borrow.Author.Rules.{rules}
 use Rattle.iri.specs.declared.Part.{Part}
 use Rattle.iri.specs.Parts.{lettered, slashed, Walked}
-use Rattle.iri.proofs.Walks.{walked_begins, walked_common}
 use Rattle.iri.proofs.skip_common.Given as goal
 
 abbrev pub invariant-loop-i : goal.invariant-loop-i

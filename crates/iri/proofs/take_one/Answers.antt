@@ -1,6 +1,5 @@
 -- `iri::take_one` meets its contract. By what the first character is, or that there is none.
 use mathlib.Core.Path.{sym, ◌∙◌}
-use borrow.Author.Rules.{rules}
 use Rattle.spec.proofs.Booleans.{and_left, and_right}
 use Rattle.iri.specs.Parts.{class_of, escapes, escaped}
 use Rattle.iri.proofs.Rows.{taken-plain, taken_escape, taken_none, taken_stuck, taken_end}

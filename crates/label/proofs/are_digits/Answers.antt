@@ -1,11 +1,7 @@
 -- `label::are_digits` meets its contract.
-use Prim.Native.Nat.{◌-◌}
-use lib.ListN.{length}
-use Rattle.spec.specs.Bytes.{byte, between}
-use Rattle.copy.specs.Scan.{Passed, passed-begins, passed_stop, passed_more, passed_done}
+use Rattle.copy.specs.Scan.{passed-begins, passed_stop, passed_more, passed_done}
 use Rattle.label.specs.Digits.{no_digit-below, no_digit-above, a_digit}
 use native.Mathlib.Omega.{arith}
-use borrow.Author.Rules.{rules}
 use Rattle.label.proofs.are_digits.Goals as goal
 
 pub loop-i-init : goal.loop-i-init

@@ -2,10 +2,7 @@
 use Prim.Native.Nat.{◌-◌}
 use lib.ListN.{length}
 use Rattle.spec.specs.Bytes.{byte, between}
-use Rattle.copy.specs.Scan.{Passed, passed-begins, passed_stop, passed_more, passed_done}
-use Rattle.label.specs.Digits.{no_digit-below, no_digit-above, a_digit}
-use native.Mathlib.Omega.{arith}
-use borrow.Author.Rules.{rules}
+use Rattle.copy.specs.Scan.{Passed}
 use Rattle.label.proofs.are_digits.Given as goal
 
 abbrev pub invariant-loop-i : goal.invariant-loop-i

@@ -1,6 +1,5 @@
 -- `label::ends_in_stop` meets its contract: the last byte decides.
 use Rattle.label.specs.Label.{nothing_ends, last_decides}
-use borrow.Author.Rules.{rules}
 use Rattle.label.proofs.ends_in_stop.Goals as goal
 
 pub returns-then-s-eq0 : goal.returns-then-s-eq0

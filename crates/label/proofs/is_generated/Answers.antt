@@ -1,10 +1,8 @@
 -- `label::is_generated` meets its contract, test by test.
 use mathlib.Core.Path.{sym, ◌∙◌}
-use borrow.Author.Tests.{not-true, not-false}
 use Rattle.spec.specs.Bytes.{ascii}
 use Rattle.copy.specs.Copy.{rest_of}
 use Rattle.label.specs.Label.{begins_otherwise, longer_or_shorter, digits_decide}
-use borrow.Author.Rules.{rules}
 use Rattle.label.proofs.is_generated.Goals as goal
 
 pub returns-then-not-begins : goal.returns-then-not-begins

@@ -1,8 +1,6 @@
 -- `label::write_u64_to_slice` meets its contract.
-use lib.ListN.{length}
-use Rattle.label.specs.Digits.{Written, written-begins, written_more, written_done}
+use Rattle.label.specs.Digits.{written-begins, written_more, written_done}
 use native.Mathlib.Omega.{arith}
-use borrow.Author.Rules.{rules}
 use Rattle.label.proofs.write_u64_to_slice.Goals as goal
 
 pub loop-i-init : goal.loop-i-init

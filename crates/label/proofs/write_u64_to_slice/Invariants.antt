@@ -1,8 +1,6 @@
 -- `label::write_u64_to_slice` meets its contract. The loop's invariant: from `i` on the slice holds the last digits, and `v` is the number without them.
 use lib.ListN.{length}
-use Rattle.label.specs.Digits.{Written, written-begins, written_more, written_done}
-use native.Mathlib.Omega.{arith}
-use borrow.Author.Rules.{rules}
+use Rattle.label.specs.Digits.{Written}
 use Rattle.label.proofs.write_u64_to_slice.Given as goal
 
 abbrev pub invariant-loop-i : goal.invariant-loop-i

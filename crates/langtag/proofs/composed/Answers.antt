@@ -1,8 +1,5 @@
 -- `langtag::composed`.
-use Prim.Native.Nat.{◌-◌}
-use lib.ListN.{length}
-use Rattle.langtag.proofs.Machine.{Reading, reading_begins, reading_more, reading_done}
-use borrow.Author.Rules.{rules}
+use Rattle.langtag.proofs.Machine.{reading_begins, reading_more, reading_done}
 use native.Mathlib.Omega.{arith}
 use Rattle.langtag.proofs.composed.Goals as goal
 

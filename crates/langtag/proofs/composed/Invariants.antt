@@ -1,9 +1,7 @@
 -- `langtag::composed`. The loop's invariant: the machine goes on from `reader` over the rest as it does from the start over the whole.
 use Prim.Native.Nat.{◌-◌}
 use lib.ListN.{length}
-use Rattle.langtag.proofs.Machine.{Reading, reading_begins, reading_more, reading_done}
-use borrow.Author.Rules.{rules}
-use native.Mathlib.Omega.{arith}
+use Rattle.langtag.proofs.Machine.{Reading}
 use Rattle.langtag.proofs.composed.Given as goal
 
 abbrev pub invariant-loop-i : goal.invariant-loop-i

@@ -1,6 +1,5 @@
 -- `langtag::ended` is `ended`.
 use Rattle.langtag.specs.Machine.{ended}
-use borrow.Author.Rules.{rules}
 use Rattle.langtag.proofs.ended.Goals as goal
 
 pub returns : goal.returns

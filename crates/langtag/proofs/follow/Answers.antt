@@ -1,5 +1,4 @@
 -- `langtag::follow` is `follow`: each place asks its own function.
-use borrow.Author.Rules.{rules}
 use Rattle.langtag.proofs.follow.Goals as goal
 
 pub returns-in-Start : goal.returns-in-Start

@@ -1,6 +1,5 @@
 -- `langtag::grown` is `grown`: each field as the calls ensure it.
 use Rattle.langtag.specs.Machine.{grown}
-use borrow.Author.Rules.{rules}
 use Rattle.langtag.proofs.grown.Goals as goal
 
 pub returns : goal.returns

@@ -1,7 +1,6 @@
 -- `langtag::is_letter` is `letter`: the two bounds of `between`, at the lower case.
 use mathlib.Core.Path.{sym}
 use Rattle.spec.specs.Bytes.{byte, between}
-use borrow.Author.Rules.{rules}
 use borrow.Author.Tests.{le-leb}
 use Rattle.langtag.proofs.Letters.{below}
 use Rattle.langtag.specs.Machine.{letter}

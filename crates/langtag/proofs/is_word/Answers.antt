@@ -1,8 +1,5 @@
 -- `langtag::is_word`.
-use Prim.Native.Nat.{◌-◌}
-use lib.ListN.{length}
-use Rattle.langtag.proofs.Lower.{Folded, folded_never, folded_begins, folded_stop, folded_more, folded_done}
-use borrow.Author.Rules.{rules}
+use Rattle.langtag.proofs.Lower.{folded_never, folded_begins, folded_stop, folded_more, folded_done}
 use native.Mathlib.Omega.{arith}
 use Rattle.langtag.proofs.is_word.Goals as goal
 

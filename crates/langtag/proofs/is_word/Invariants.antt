@@ -1,9 +1,7 @@
 -- `langtag::is_word`. The loop's invariant: the lengths are equal, and so are the first `i` bytes, those of `s` in lower case.
 use Prim.Native.Nat.{◌-◌}
 use lib.ListN.{length}
-use Rattle.langtag.proofs.Lower.{Folded, folded_never, folded_begins, folded_stop, folded_more, folded_done}
-use borrow.Author.Rules.{rules}
-use native.Mathlib.Omega.{arith}
+use Rattle.langtag.proofs.Lower.{Folded}
 use Rattle.langtag.proofs.is_word.Given as goal
 
 abbrev pub invariant-loop-i : goal.invariant-loop-i

@@ -3,7 +3,6 @@ use mathlib.Core.Path.{ap}
 use Prim.Native.Nat.{ℕ}
 use lib.Dec.{eqb}
 use Rattle.spec.specs.Bytes.{byte}
-use borrow.Author.Rules.{rules}
 use Rattle.langtag.specs.Machine.{is_x}
 use Rattle.langtag.proofs.is_x.Goals as goal
 

@@ -5,7 +5,6 @@ use native.Mathlib.Omega.{arith}
 use borrow.Author.Tests.{not-true}
 use Rattle.langtag.specs.Machine.{kind}
 use Rattle.langtag.proofs.Subtags.{kind_none, kind-one, kind-two, kind_three, kind_four, kind_wide, kind_over}
-use borrow.Author.Rules.{rules}
 use Rattle.langtag.proofs.kind_of.Goals as goal
 
 pub returns-then-not-u : goal.returns-then-not-u

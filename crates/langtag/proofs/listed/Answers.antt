@@ -1,8 +1,5 @@
 -- `langtag::listed`.
-use Prim.Native.Nat.{◌-◌}
-use lib.ListN.{length}
-use Rattle.langtag.proofs.Words.{Listing, listing_begins, listing_hit, listing_more, listing_done, word_fits}
-use borrow.Author.Rules.{rules}
+use Rattle.langtag.proofs.Words.{listing_begins, listing_hit, listing_more, listing_done, word_fits}
 use native.Mathlib.Omega.{arith}
 use Rattle.langtag.proofs.listed.Goals as goal
 

@@ -1,6 +1,5 @@
 -- `langtag::longer` is `longer`.
 use Rattle.spec.specs.Bytes.{if◌then◌else◌}
-use borrow.Author.Rules.{rules}
 use borrow.Author.Tests.{le-leb, lt-leb}
 use Rattle.langtag.specs.Machine.{longer}
 use Rattle.langtag.proofs.longer.Goals as goal

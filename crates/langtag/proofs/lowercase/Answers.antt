@@ -1,6 +1,5 @@
 -- `langtag::lowercase` is `lower`, in the three ranges that its tests make.
 use mathlib.Core.Path.{sym}
-use borrow.Author.Rules.{rules}
 use Rattle.langtag.proofs.Letters.{lower_low, lower_high, lower_capital}
 use Rattle.langtag.proofs.lowercase.Goals as goal
 

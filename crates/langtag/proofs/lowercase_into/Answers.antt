@@ -1,8 +1,5 @@
 -- `langtag::lowercase_into`.
-use Prim.Native.Nat.{◌-◌}
-use lib.ListN.{length}
-use Rattle.langtag.proofs.Lower.{Lowered, lowered_none, lowered_begins, lowered_more, lowered_done}
-use borrow.Author.Rules.{rules}
+use Rattle.langtag.proofs.Lower.{lowered_none, lowered_begins, lowered_more, lowered_done}
 use native.Mathlib.Omega.{arith}
 use Rattle.langtag.proofs.lowercase_into.Goals as goal
 

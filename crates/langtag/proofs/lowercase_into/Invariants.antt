@@ -1,9 +1,7 @@
 -- `langtag::lowercase_into`. The loop's invariant: the first `i` bytes of `s`, in lower case, stand in `dst` from `at` on, and all of them fit.
 use Prim.Native.Nat.{◌-◌}
 use lib.ListN.{length}
-use Rattle.langtag.proofs.Lower.{Lowered, lowered_none, lowered_begins, lowered_more, lowered_done}
-use borrow.Author.Rules.{rules}
-use native.Mathlib.Omega.{arith}
+use Rattle.langtag.proofs.Lower.{Lowered}
 use Rattle.langtag.proofs.lowercase_into.Given as goal
 
 abbrev pub invariant-loop-i : goal.invariant-loop-i

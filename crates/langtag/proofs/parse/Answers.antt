@@ -1,7 +1,6 @@
 -- `langtag::parse`: what the two tests answer is the verdict, by the theorem on the grammar.
 use mathlib.Core.Path.{sym, ◌∙◌}
 use Rattle.langtag.proofs.WellFormed.{none_clears, composed_good, irregular_good, neither_bad}
-use borrow.Author.Rules.{rules}
 use Rattle.langtag.proofs.parse.Goals as goal
 
 pub returns-then-s-eq0 : goal.returns-then-s-eq0

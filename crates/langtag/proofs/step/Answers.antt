@@ -2,7 +2,6 @@
 use Rattle.spec.specs.Bytes.{byte, if◌then◌else◌}
 use borrow.Author.Tests.{eq-eqb, ne_eqb}
 use Rattle.langtag.specs.Machine.{step}
-use borrow.Author.Rules.{rules}
 use Rattle.langtag.proofs.step.Goals as goal
 
 pub returns-then-b-eq45 : goal.returns-then-b-eq45

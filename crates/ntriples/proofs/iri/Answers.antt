@@ -1,7 +1,6 @@
 -- `ntriples::iri` meets its contract: four pieces.
 use Rattle.writer.specs.Put.{puts, put_as}
 use Rattle.ntriples.specs.Lines.{iri_parts}
-use borrow.Author.Rules.{rules}
 use Rattle.ntriples.proofs.iri.Goals as goal
 
 pub returns : goal.returns

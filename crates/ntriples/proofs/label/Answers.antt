@@ -2,7 +2,6 @@
 use Rattle.spec.specs.Bytes.{ascii}
 use Rattle.spec.specs.NTriples.{write_subject}
 use Rattle.writer.specs.Put.{puts}
-use borrow.Author.Rules.{rules}
 use Rattle.ntriples.proofs.label.Goals as goal
 
 pub returns : goal.returns

@@ -1,7 +1,6 @@
 -- `ntriples::line_behind` meets its contract: a line into the tail, seen from the whole.
 use Rattle.writer.specs.Put.{put_tail}
 use native.Mathlib.Omega.{arith}
-use borrow.Author.Rules.{rules}
 use Rattle.ntriples.proofs.line_behind.Goals as goal
 
 pub returns-then-out-at : goal.returns-then-out-at

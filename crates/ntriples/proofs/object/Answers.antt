@@ -1,7 +1,6 @@
 -- `ntriples::object` meets its contract, kind by kind.
 use Rattle.spec.specs.NTriples.{write_subject, write_term}
 use Rattle.ntriples.specs.Terms.{term_of}
-use borrow.Author.Rules.{rules}
 use Rattle.ntriples.proofs.object.Goals as goal
 
 pub returns-in-Named : goal.returns-in-Named

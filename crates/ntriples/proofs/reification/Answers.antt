@@ -5,7 +5,6 @@ use Rattle.spec.specs.Rdf.{rdf}
 use Rattle.writer.specs.Put.{puts, put_as}
 use Rattle.ntriples.specs.Terms.{subject_of, term_of, as_term_lem, in_rdf}
 use Rattle.ntriples.specs.Lines.{reified}
-use borrow.Author.Rules.{rules}
 use Rattle.ntriples.proofs.reification.Goals as goal
 
 pub returns : goal.returns

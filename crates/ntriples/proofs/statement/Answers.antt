@@ -1,8 +1,6 @@
 -- `ntriples::statement` meets its contract: its line alone, or behind the four of its rdf:ID.
-use borrow.Author.Tests.{not-true, not-false}
 use Rattle.writer.specs.Put.{puts, put_as}
 use Rattle.ntriples.specs.Lines.{stated, stated_plain}
-use borrow.Author.Rules.{rules}
 use Rattle.ntriples.proofs.statement.Goals as goal
 
 pub returns-then-not-has : goal.returns-then-not-has

@@ -2,7 +2,6 @@
 use mathlib.Core.List.{append-nil}
 use Rattle.spec.specs.NTriples.{write_subject}
 use Rattle.ntriples.specs.Terms.{subject_of}
-use borrow.Author.Rules.{rules}
 use Rattle.ntriples.proofs.subject.Goals as goal
 
 pub returns-in-Named : goal.returns-in-Named

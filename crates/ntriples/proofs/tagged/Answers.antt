@@ -2,7 +2,6 @@
 use Rattle.spec.specs.Bytes.{ascii}
 use Rattle.spec.specs.NTriples.{write_term}
 use Rattle.writer.specs.Put.{puts}
-use borrow.Author.Rules.{rules}
 use Rattle.ntriples.proofs.tagged.Goals as goal
 
 pub returns : goal.returns

@@ -1,7 +1,6 @@
 -- `ntriples::text` meets its contract: four pieces.
 use Rattle.writer.specs.Put.{puts, put_as}
 use Rattle.ntriples.specs.Lines.{text_parts}
-use borrow.Author.Rules.{rules}
 use Rattle.ntriples.proofs.text.Goals as goal
 
 pub returns : goal.returns

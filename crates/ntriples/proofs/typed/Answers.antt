@@ -3,7 +3,6 @@ use mathlib.Core.List.{append-nil}
 use Rattle.spec.specs.Bytes.{ascii}
 use Rattle.spec.specs.NTriples.{write_term}
 use Rattle.writer.specs.Put.{puts}
-use borrow.Author.Rules.{rules}
 use Rattle.ntriples.proofs.typed.Goals as goal
 
 pub returns : goal.returns

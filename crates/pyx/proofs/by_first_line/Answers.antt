@@ -1,6 +1,5 @@
 -- `pyx::by_first_line` meets its contract. Each arm is one law on the event's first byte.
 use native.Mathlib.Omega.{arith}
-use borrow.Author.Rules.{rules}
 use Rattle.pyx.proofs.Events.{title_room, nothing_first, lines-opening, closing_nameless, closing_good, text_wrong, text_good, instruction_good, other_first}
 use Rattle.pyx.proofs.Lines.{positive}
 use Rattle.pyx.proofs.by_first_line.Goals as goal

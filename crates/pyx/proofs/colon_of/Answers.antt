@@ -1,6 +1,5 @@
 -- `pyx::colon_of` meets its contract. What `qname` says of it.
 use native.Mathlib.Omega.{arith}
-use borrow.Author.Rules.{rules}
 use Rattle.utils.proofs.Names.{not_name}
 use Rattle.pyx.proofs.Names.{local_name, prefixed_name, colon_within}
 use Rattle.pyx.proofs.colon_of.Goals as goal

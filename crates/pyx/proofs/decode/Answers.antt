@@ -1,7 +1,6 @@
 -- `pyx::decode` meets its contract. Each early return is one law; the rest is `by_first_line` on an event whose texts fit.
 use Rattle.pyx.proofs.Events.{decode-long, decode_short, decode-spaced, decode_wrong, decode-fits, decode-lines}
 use native.Mathlib.Omega.{arith}
-use borrow.Author.Rules.{rules}
 use Rattle.pyx.proofs.decode.Goals as goal
 
 pub returns-then-event-gt-MOST_BYTES : goal.returns-then-event-gt-MOST_BYTES

@@ -2,7 +2,6 @@
 use mathlib.Core.Path.{refl}
 use native.Mathlib.Omega.{arith}
 use lib.ListN.{length-set}
-use borrow.Author.Rules.{rules}
 use Rattle.copy.specs.Copy.{put_none}
 use Rattle.pyx.proofs.Attributes.{entered}
 use Rattle.pyx.proofs.enter.Goals as goal

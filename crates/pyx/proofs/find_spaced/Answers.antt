@@ -1,9 +1,6 @@
 -- `pyx::find_spaced` meets its contract.
-use Prim.Native.Nat.{◌-◌}
-use lib.ListN.{length}
-use Rattle.pyx.proofs.Lines.{Spacing, spacing_begins, spacing_more, spacing_done}
+use Rattle.pyx.proofs.Lines.{spacing_begins, spacing_more, spacing_done}
 use native.Mathlib.Omega.{arith}
-use borrow.Author.Rules.{rules}
 use Rattle.pyx.proofs.find_spaced.Goals as goal
 
 pub loop-i-init : goal.loop-i-init

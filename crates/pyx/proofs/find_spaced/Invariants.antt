@@ -1,9 +1,7 @@
 -- `pyx::find_spaced` meets its contract. The loop's invariant: `found` is the answer for the bytes before the last that is passed.
 use Prim.Native.Nat.{◌-◌}
 use lib.ListN.{length}
-use Rattle.pyx.proofs.Lines.{Spacing, spacing_begins, spacing_more, spacing_done}
-use native.Mathlib.Omega.{arith}
-use borrow.Author.Rules.{rules}
+use Rattle.pyx.proofs.Lines.{Spacing}
 use Rattle.pyx.proofs.find_spaced.Given as goal
 
 abbrev pub invariant-loop-i : goal.invariant-loop-i

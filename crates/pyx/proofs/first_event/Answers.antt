@@ -1,11 +1,7 @@
 -- `pyx::first_event` meets its contract.
-use mathlib.Core.Logic.{⊎_elim}
 use mathlib.Core.Path.{refl, sym, ◌∙◌}
-use Prim.Native.Nat.{◌-◌}
 use native.Mathlib.Omega.{arith}
-use borrow.Author.Rules.{rules}
-use borrow.Author.Tests.{not-true, not-false}
-use Rattle.pyx.proofs.Reach.{Reaching, reaching_begins, line-within, more, reaching_in_line, reaching_line_end, reaching_stops, reaching_more, cuts_nothing}
+use Rattle.pyx.proofs.Reach.{reaching_begins, line-within, more, reaching_in_line, reaching_line_end, reaching_stops, reaching_more, cuts_nothing}
 use Rattle.pyx.proofs.first_event.Goals.{then-seen-gt-MOST_BYTES, else-seen-gt-MOST_BYTES}
 use Rattle.pyx.proofs.first_event.Goals as goal
 

@@ -1,11 +1,6 @@
 -- `pyx::first_event` meets its contract. The loop's invariant: a line of the event begins at `at`, what stands before it surely belongs, and what surely belongs from there on is what is left.
-use mathlib.Core.Logic.{⊎_elim}
-use mathlib.Core.Path.{refl, sym, ◌∙◌}
 use Prim.Native.Nat.{◌-◌}
-use native.Mathlib.Omega.{arith}
-use borrow.Author.Rules.{rules}
-use borrow.Author.Tests.{not-true, not-false}
-use Rattle.pyx.proofs.Reach.{Reaching, reaching_begins, line-within, more, reaching_in_line, reaching_line_end, reaching_stops, reaching_more, cuts_nothing}
+use Rattle.pyx.proofs.Reach.{Reaching}
 use Rattle.pyx.proofs.first_event.Given as goal
 
 abbrev pub invariant-loop-at : goal.invariant-loop-at

@@ -1,11 +1,9 @@
 -- `pyx::first_line` meets its contract: a plain line by one law, any other by what each test says.
 use mathlib.Core.Path.{sym, ◌∙◌}
-use borrow.Author.Tests.{not-true, not-false}
 use Rattle.copy.specs.Texts.{length_up_to}
 use Rattle.pyx.proofs.Events.{read_no_text, read_unended, plain-line}
 use Rattle.pyx.proofs.Reach.{is_end}
 use native.Mathlib.Omega.{arith}
-use borrow.Author.Rules.{rules}
 use Rattle.pyx.proofs.first_line.Goals as goal
 
 pub overflow_sub-result : goal.overflow_sub-result

@@ -4,7 +4,6 @@ use Rattle.copy.specs.Texts.{length_up_to}
 use Rattle.pyx.proofs.Reach.{is_end}
 use Rattle.pyx.proofs.Lines.{spaced-one}
 use native.Mathlib.Omega.{arith}
-use borrow.Author.Rules.{rules}
 use Rattle.pyx.proofs.has_spaced.Goals as goal
 
 pub overflow_sub-event : goal.overflow_sub-event

@@ -1,7 +1,6 @@
 -- `pyx::next_byte` meets its contract. Each arm is one law.
 use mathlib.Core.Path.{refl}
 use native.Mathlib.Omega.{arith}
-use borrow.Author.Rules.{rules}
 use Rattle.pyx.proofs.Escapes.{stands_plain, wrong_last, stands-line_feed, stands_tab, stands_backslash, wrong_escape}
 use Rattle.pyx.proofs.next_byte.Goals as goal
 

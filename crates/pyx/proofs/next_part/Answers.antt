@@ -1,6 +1,5 @@
 -- `pyx::next_part` meets its contract: by what may stand in a name.
 use mathlib.Core.Path.{sym, ◌∙◌}
-use borrow.Author.Rules.{rules}
 use Rattle.pyx.proofs.Names.{spelled_start, spelled_on, spelled_colon}
 use Rattle.pyx.proofs.next_part.Goals as goal
 

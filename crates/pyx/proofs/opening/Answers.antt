@@ -1,6 +1,5 @@
 -- `pyx::opening` meets its contract. A name, and the attributes behind it.
 use native.Mathlib.Omega.{arith}
-use borrow.Author.Rules.{rules}
 use Rattle.pyx.proofs.Events.{title_room, behind_title, opening_nameless, opening_wrong, opening_crowded, opening_good}
 use Rattle.pyx.proofs.opening.Goals as goal
 

@@ -1,6 +1,5 @@
 -- `pyx::put_any_name` meets its contract: by what `colon_of` says.
 use Rattle.pyx.proofs.Lines.{kept_all}
-use borrow.Author.Rules.{rules}
 use Rattle.pyx.proofs.Names.{put-name}
 use Rattle.pyx.proofs.put_any_name.Goals as goal
 

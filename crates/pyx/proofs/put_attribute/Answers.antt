@@ -2,7 +2,6 @@
 use Prim.Native.Nat.{◌+◌}
 use native.Mathlib.Omega.{arith}
 use lib.ListN.{length-drop}
-use borrow.Author.Rules.{rules}
 use Rattle.copy.specs.Copy.{rest_of, part_of}
 use Rattle.pyx.proofs.Attributes.{read_empty, read_no_space, read_end, read_name-room, read_nameless, read_valueless, read_both}
 use Rattle.pyx.proofs.Lines.{positive, kept_all}

@@ -1,10 +1,7 @@
 -- `pyx::put_attributes` meets its contract. The loop's invariant, `Laying`: the attributes read so far stand in front of those of the lines from `at` on, and the words tell where they are.
 use Prim.Native.Nat.{◌-◌}
-use native.Mathlib.Omega.{arith}
 use lib.ListN.{length}
-use borrow.Author.Rules.{rules}
-use Rattle.copy.specs.Copy.{rest_of, part_of}
-use Rattle.pyx.proofs.Attributes.{Laying, laying_begins, laying_end, laying_clear, laying_room, laying_unended, laying_wrong, laying_within, laying_small, laying_more, laying_done}
+use Rattle.pyx.proofs.Attributes.{Laying}
 use Rattle.pyx.proofs.put_attributes.Given as goal
 
 abbrev pub invariant-loop-at : goal.invariant-loop-at

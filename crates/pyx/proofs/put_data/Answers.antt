@@ -1,7 +1,6 @@
 -- `pyx::put_data` meets its contract. An empty line has no data.
 use native.Mathlib.Omega.{arith}
 use lib.ListN.{length-drop}
-use borrow.Author.Rules.{rules}
 use Rattle.copy.specs.Copy.{rest_of}
 use Rattle.pyx.proofs.Escapes.{data_empty}
 use Rattle.pyx.proofs.put_data.Goals as goal

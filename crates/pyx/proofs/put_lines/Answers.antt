@@ -1,10 +1,7 @@
 -- `pyx::put_lines` meets its contract.
-use Prim.Native.Nat.{◌-◌}
 use native.Mathlib.Omega.{arith}
-use lib.ListN.{length}
-use borrow.Author.Rules.{rules}
 use Rattle.copy.specs.Copy.{wrote_same, rest_of, part_of}
-use Rattle.pyx.proofs.Escapes.{Texting, texting_begins, texting_end, texting_room, texting_unended, texting_wrong, texting_more, texting_done}
+use Rattle.pyx.proofs.Escapes.{texting_begins, texting_end, texting_room, texting_unended, texting_wrong, texting_more, texting_done}
 use Rattle.pyx.proofs.put_lines.Goals as goal
 
 pub loop-at-init : goal.loop-at-init

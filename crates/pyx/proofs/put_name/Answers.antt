@@ -1,6 +1,5 @@
 -- `pyx::put_name` meets its contract: by what `put_plain_name` says, or `put_any_name` behind it.
 use mathlib.Core.Path.{◌∙◌}
-use borrow.Author.Rules.{rules}
 use Rattle.pyx.proofs.Names.{named_around}
 use Rattle.pyx.proofs.put_name.Goals as goal
 

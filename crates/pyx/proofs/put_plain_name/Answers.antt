@@ -1,11 +1,7 @@
 -- `pyx::put_plain_name` meets its contract.
-use Prim.Native.Nat.{◌+◌, ◌-◌}
 use native.Mathlib.Nat.{add-zero}
 use native.Mathlib.Omega.{arith}
-use lib.ListN.{length, take}
-use borrow.Author.Rules.{rules}
-use Rattle.copy.specs.Copy.{Wrote, wrote_none, wrote_same}
-use Rattle.pyx.specs.Names.{Spelled}
+use Rattle.copy.specs.Copy.{wrote_none, wrote_same}
 use Rattle.pyx.proofs.Names.{spelled_begins, copied_more, copied-part, copied-name}
 use Rattle.pyx.proofs.put_plain_name.Goals as goal
 

@@ -1,12 +1,8 @@
 -- `pyx::put_plain_name` meets its contract. The loop's invariant: the first `i` bytes are spelled, and copied.
 use Prim.Native.Nat.{◌+◌, ◌-◌}
-use native.Mathlib.Nat.{add-zero}
-use native.Mathlib.Omega.{arith}
 use lib.ListN.{length, take}
-use borrow.Author.Rules.{rules}
-use Rattle.copy.specs.Copy.{Wrote, wrote_none, wrote_same}
+use Rattle.copy.specs.Copy.{Wrote}
 use Rattle.pyx.specs.Names.{Spelled}
-use Rattle.pyx.proofs.Names.{spelled_begins, copied_more, copied-part, copied-name}
 use Rattle.pyx.proofs.put_plain_name.Given as goal
 
 abbrev pub invariant-loop-i : goal.invariant-loop-i

@@ -1,6 +1,5 @@
 -- `pyx::put_text` meets its contract: one line by one law, several by `put_lines`.
 use Rattle.pyx.proofs.Events.{title_room, text-one}
-use borrow.Author.Rules.{rules}
 use Rattle.pyx.proofs.put_text.Goals as goal
 
 pub unescape-requires : goal.unescape-requires

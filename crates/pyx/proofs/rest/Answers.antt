@@ -2,7 +2,6 @@
 use mathlib.Core.Path.{sym, ◌∙◌}
 use native.Mathlib.Omega.{arith}
 use lib.ListN.{length, drop_of_length-le}
-use borrow.Author.Rules.{rules}
 use Rattle.copy.specs.Copy.{rest_of}
 use Rattle.pyx.proofs.rest.Goals as goal
 

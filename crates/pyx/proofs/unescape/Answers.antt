@@ -1,6 +1,5 @@
 -- `pyx::unescape` meets its contract: without a backslash by one law, else by `unescape_bytes`.
 use Rattle.pyx.proofs.Escapes.{copied}
-use borrow.Author.Rules.{rules}
 use Rattle.pyx.proofs.unescape.Goals as goal
 
 pub returns-then-n-s : goal.returns-then-n-s

@@ -1,10 +1,7 @@
 -- `pyx::unescape_bytes` meets its contract.
-use Prim.Native.Nat.{◌-◌}
 use native.Mathlib.Omega.{arith}
-use lib.ListN.{length}
-use borrow.Author.Rules.{rules}
 use Rattle.copy.specs.Copy.{wrote_same}
-use Rattle.pyx.proofs.Escapes.{Passed, passed-begins, passed-room, passed-within, passed_more, passed_wrong, passed_done}
+use Rattle.pyx.proofs.Escapes.{passed-begins, passed-room, passed-within, passed_more, passed_wrong, passed_done}
 use Rattle.pyx.proofs.unescape_bytes.Goals as goal
 
 pub loop-i-init : goal.loop-i-init

@@ -1,7 +1,6 @@
 -- `resolve::has_form` meets its contract.
 use Rattle.spec.specs.Bytes.{ascii}
 use Rattle.resolve.specs.Resolve.{formed_authority, formed_slash, formed-other}
-use borrow.Author.Rules.{rules}
 use Rattle.resolve.proofs.has_form.Goals as goal
 
 pub returns-then-authority : goal.returns-then-authority

@@ -4,7 +4,6 @@ use lib.Seq.{length-take-le}
 use Rattle.spec.specs.Limits.{most_name_bytes}
 use Rattle.resolve.specs.Resolve.{fronted_long, fronted_fits}
 use native.Mathlib.Omega.{arith}
-use borrow.Author.Rules.{rules}
 use Rattle.resolve.proofs.put_front.Goals as goal
 
 pub returns-then-from-gt-MOST_BYTES : goal.returns-then-from-gt-MOST_BYTES

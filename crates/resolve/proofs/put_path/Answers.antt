@@ -5,7 +5,6 @@ use Prim.Native.Nat.{◌-◌}
 use Rattle.copy.specs.Copy.{part, length_part}
 use Rattle.resolve.specs.Resolve.{pathed_own, pathed_merged}
 use native.Mathlib.Omega.{arith}
-use borrow.Author.Rules.{rules}
 use Rattle.resolve.proofs.put_path.Goals as goal
 
 pub shape_of-area-then-not-target : goal.shape_of-area-then-not-target

@@ -1,10 +1,8 @@
 -- `resolve::recompose` meets its contract.
-use borrow.Author.Tests.{not-true, not-false}
 use lib.ListN.{drop, length-drop}
 use Rattle.spec.specs.Limits.{most_name_bytes}
 use Rattle.copy.specs.Copy.{part, rest_of}
 use Rattle.resolve.specs.Resolve.{recomposed_formless, recomposed_beyond, recomposed_long, recomposed_whole}
-use borrow.Author.Rules.{rules}
 use Rattle.resolve.proofs.recompose.Goals as goal
 
 pub returns-then-not-has_form : goal.returns-then-not-has_form

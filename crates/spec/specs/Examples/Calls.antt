@@ -1,7 +1,7 @@
 -- Document 01, "Numbers returned": answers that pyx2nt does not meet, by the calls themselves.
 use Rattle.std.specs.Prelude.{◌≡◌, refl, true, false, List, [], ◌∷◌, ◌++◌, ℕ, zero, suc}
 use Rattle.std.proofs.Math.Option.{none, some}
-use Rattle.spec.specs.Bytes.{Bytes, ascii, byte}
+use Rattle.spec.specs.Bytes.{Bytes, ascii}
 use Rattle.spec.specs.Limits.{most_labels}
 use Rattle.spec.specs.NTriples.{named}
 use Rattle.spec.specs.Modes.{base_mode}

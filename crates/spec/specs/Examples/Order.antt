@@ -1,7 +1,7 @@
 -- Document 01, "Order in step": for each pair of neighbours that one input can break, the earlier number is given. Pairs that take an input as
 -- long as a limit stand in crate `theorems`, AtLimits.
-use Rattle.std.specs.Prelude.{◌≡◌, refl, true, List, [], ◌∷◌, ◌++◌, ℕ}
-use Rattle.spec.specs.Bytes.{Bytes, ascii, byte}
+use Rattle.std.specs.Prelude.{◌≡◌, refl, true, List, [], ◌∷◌, ℕ}
+use Rattle.spec.specs.Bytes.{ascii, byte}
 use Rattle.spec.specs.Calls.{State, no_document, call_step}
 use Rattle.spec.specs.Examples.{page, agree}
 use Rattle.spec.specs.Examples.Calls.{new, spent, many_of, whole, part}

@@ -1,5 +1,5 @@
 -- Worked examples by hand: parseType Literal and other values, reification, what is inherited.
-use Rattle.std.specs.Prelude.{◌≡◌, refl, true, List, [], ◌∷◌}
+use Rattle.std.specs.Prelude.{◌≡◌, refl, List, [], ◌∷◌}
 use Rattle.spec.specs.Examples.{Example, prints, failing}
 use Rattle.spec.specs.Examples as E
 

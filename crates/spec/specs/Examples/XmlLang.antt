@@ -1,6 +1,6 @@
 -- Document 02, request 2: the empty xml:lang, by its smallest inputs. L1 to L8 are the team's readings of the request; X17 is request 1's
 -- that it touches, in Xmp.
-use Rattle.std.specs.Prelude.{◌≡◌, refl, Bool, true, List, [], ◌∷◌, ◌++◌, ℕ, length}
+use Rattle.std.specs.Prelude.{◌≡◌, refl, true, List, [], ◌∷◌, ◌++◌, ℕ, length}
 use Rattle.std.proofs.Math.Option.{none}
 use Prim.Native.String.{String}
 use Rattle.spec.specs.Bytes.{Bytes, ascii}
@@ -12,7 +12,7 @@ use Rattle.spec.specs.declared.Verdict.TheVariants.{Good, Clears, Bad}
 use Rattle.spec.specs.XmlLang.{verdict}
 use Rattle.spec.specs.Examples.{page, agree}
 use Rattle.spec.specs.Examples as E
-use Rattle.spec.specs.Examples.Xmp.{Outcome, then, ended, ended_all, outcome, document, base, behind, held_in, head, written}
+use Rattle.spec.specs.Examples.Xmp.{then, ended, ended_all, outcome, document, base, behind, held_in, head, written}
 
 -- a node element, with these lines behind its own
 unfoldable pub node : List String → List String

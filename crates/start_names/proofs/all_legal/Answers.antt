@@ -1,10 +1,7 @@
 -- `start_names::all_legal` meets its contract.
-use Prim.Native.Nat.{◌-◌}
 use mathlib.Core.Path.{sym, ◌∙◌}
-use borrow.Author.Tests.{not-true, not-false}
-use Rattle.start_names.specs.Declarations.{Legal, legal-begins, legal_stop, legal_more, legal_done}
+use Rattle.start_names.specs.Declarations.{legal-begins, legal_stop, legal_more, legal_done}
 use native.Mathlib.Omega.{arith}
-use borrow.Author.Rules.{rules}
 use Rattle.start_names.proofs.all_legal.Goals as goal
 
 pub loop-j-init : goal.loop-j-init

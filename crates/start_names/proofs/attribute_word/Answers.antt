@@ -1,7 +1,6 @@
 -- `start_names::attribute_word` meets its contract.
 use Rattle.start_names.specs.Tag.{word_none}
 use native.Mathlib.Omega.{arith}
-use borrow.Author.Rules.{rules}
 use Rattle.start_names.proofs.attribute_word.Goals as goal
 
 pub returns-then-spans-j : goal.returns-then-spans-j

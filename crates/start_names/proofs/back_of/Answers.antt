@@ -1,7 +1,6 @@
 -- `start_names::back_of` meets its contract.
 use Rattle.start_names.specs.Tag.{back_none, back_rest}
 use native.Mathlib.Omega.{arith}
-use borrow.Author.Rules.{rules}
 use Rattle.start_names.proofs.back_of.Goals as goal
 
 pub returns-then-name-c : goal.returns-then-name-c

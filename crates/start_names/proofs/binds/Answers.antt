@@ -1,8 +1,6 @@
 -- `start_names::binds` meets its contract.
 use mathlib.Core.Path.{◌∙◌}
-use borrow.Author.Tests.{not-true, not-false}
 use Rattle.start_names.specs.Declarations.{told, binds_none, binds_declared}
-use borrow.Author.Rules.{rules}
 use Rattle.start_names.proofs.binds.Goals as goal
 
 pub returns-then-not-is_declaration : goal.returns-then-not-is_declaration

@@ -1,7 +1,6 @@
 -- `start_names::class_of` meets its contract. By what `lookup` answers.
 use Rattle.start_names.specs.Declarations.{told}
 use Rattle.start_names.specs.Classes.{says_class, says-unprefixed}
-use borrow.Author.Rules.{rules}
 use Rattle.start_names.proofs.class_of.Goals as goal
 
 pub returns-then-is_declaration : goal.returns-then-is_declaration

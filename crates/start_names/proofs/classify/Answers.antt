@@ -1,8 +1,6 @@
 -- `start_names::classify` meets its contract.
-use Prim.Native.Nat.{◌-◌}
-use Rattle.start_names.specs.Classes.{Classifying, too_few-words, classifying_begins, classifying_own, classifying_done}
+use Rattle.start_names.specs.Classes.{too_few-words, classifying_begins, classifying_own, classifying_done}
 use native.Mathlib.Omega.{arith}
-use borrow.Author.Rules.{rules}
 use Rattle.start_names.proofs.classify.Goals as goal
 
 pub returns-then-classes-k : goal.returns-then-classes-k

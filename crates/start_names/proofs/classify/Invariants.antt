@@ -1,8 +1,6 @@
 -- `start_names::classify` meets its contract. The loop's invariant: the first `j` attributes have their classes.
 use Prim.Native.Nat.{◌-◌}
-use Rattle.start_names.specs.Classes.{Classifying, too_few-words, classifying_begins, classifying_own, classifying_done}
-use native.Mathlib.Omega.{arith}
-use borrow.Author.Rules.{rules}
+use Rattle.start_names.specs.Classes.{Classifying}
 use Rattle.start_names.proofs.classify.Given as goal
 
 abbrev pub invariant-loop-j : goal.invariant-loop-j

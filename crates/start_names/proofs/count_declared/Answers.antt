@@ -1,9 +1,7 @@
 -- `start_names::count_declared` meets its contract.
-use Prim.Native.Nat.{◌-◌}
-use Rattle.start_names.specs.Declarations.{Counted, counted-begins, counted_more, counted_done, at_most_one}
+use Rattle.start_names.specs.Declarations.{counted-begins, counted_more, counted_done, at_most_one}
 use Rattle.start_names.specs.Tag.{attribute_at}
 use native.Mathlib.Omega.{arith}
-use borrow.Author.Rules.{rules}
 use Rattle.start_names.proofs.count_declared.Goals as goal
 
 pub loop-j-init : goal.loop-j-init

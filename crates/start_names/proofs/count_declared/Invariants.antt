@@ -1,9 +1,6 @@
 -- `start_names::count_declared` meets its contract. The loop's invariant: `n` of the first `j` attributes are declarations.
 use Prim.Native.Nat.{◌-◌}
-use Rattle.start_names.specs.Declarations.{Counted, counted-begins, counted_more, counted_done, at_most_one}
-use Rattle.start_names.specs.Tag.{attribute_at}
-use native.Mathlib.Omega.{arith}
-use borrow.Author.Rules.{rules}
+use Rattle.start_names.specs.Declarations.{Counted}
 use Rattle.start_names.proofs.count_declared.Given as goal
 
 abbrev pub invariant-loop-j : goal.invariant-loop-j

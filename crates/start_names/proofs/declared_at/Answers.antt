@@ -1,6 +1,5 @@
 -- `start_names::declared_at` meets its contract.
 use Rattle.start_names.specs.Declarations.{told, no_binding, one_binding}
-use borrow.Author.Rules.{rules}
 use Rattle.start_names.proofs.declared_at.Goals as goal
 
 pub returns-then-is_declaration : goal.returns-then-is_declaration

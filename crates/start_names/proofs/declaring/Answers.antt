@@ -1,10 +1,7 @@
 -- `start_names::declaring` meets its contract.
-use mathlib.Core.Path.{◌≡◌, refl}
-use Rattle.spec.specs.Namespaces.{declared}
-use Rattle.start_names.specs.Tag.{attributes_of}
+use mathlib.Core.Path.{refl}
 use Rattle.start_names.specs.Declarations.{told, none_behind, none_left}
 use native.Mathlib.Omega.{arith}
-use borrow.Author.Rules.{rules}
 use Rattle.start_names.proofs.declaring.Goals as goal
 
 pub loop-i-init : goal.loop-i-init

@@ -1,10 +1,7 @@
 -- `start_names::declaring` meets its contract. The loop's invariant: what the first `i` attributes declare is all that is declared.
-use mathlib.Core.Path.{◌≡◌, refl}
+use mathlib.Core.Path.{◌≡◌}
 use Rattle.spec.specs.Namespaces.{declared}
 use Rattle.start_names.specs.Tag.{attributes_of}
-use Rattle.start_names.specs.Declarations.{told, none_behind, none_left}
-use native.Mathlib.Omega.{arith}
-use borrow.Author.Rules.{rules}
 use Rattle.start_names.proofs.declaring.Given as goal
 
 abbrev pub invariant-loop-i : goal.invariant-loop-i

@@ -3,7 +3,6 @@ use mathlib.Core.Path.{refl, ap, ◌∙◌}
 use Rattle.spec.specs.Bytes.{ascii}
 use Rattle.spec.specs.Namespaces.{xml_name, namespace}
 use Rattle.start_names.specs.Found.{found_bytes, names_none, names-some, names_full, names-empty}
-use borrow.Author.Rules.{rules}
 use Rattle.start_names.proofs.element.Goals as goal
 
 pub returns-then-piece-eq0 : goal.returns-then-piece-eq0

@@ -2,7 +2,6 @@
 use mathlib.Core.Path.{◌∙◌}
 use Rattle.start_names.specs.Tag.{front_none, front_piece}
 use native.Mathlib.Omega.{arith}
-use borrow.Author.Rules.{rules}
 use Rattle.start_names.proofs.front_of.Goals as goal
 
 pub returns-then-c-eq0 : goal.returns-then-c-eq0

@@ -1,8 +1,7 @@
 -- `start_names::held` meets its contract.
 use mathlib.Core.Path.{sym, ◌∙◌}
-use Rattle.start_names.specs.Found.{Sought, sought_begins, sought_more, sought_hit, sought_done}
+use Rattle.start_names.specs.Found.{sought_begins, sought_more, sought_hit, sought_done}
 use native.Mathlib.Omega.{arith}
-use borrow.Author.Rules.{rules}
 use Rattle.start_names.proofs.held.Goals as goal
 
 pub loop-i-init : goal.loop-i-init

@@ -1,8 +1,5 @@
 -- `start_names::held` meets its contract. The loop's invariant: none of the rows from `i` on binds the prefix.
-use mathlib.Core.Path.{sym, ◌∙◌}
-use Rattle.start_names.specs.Found.{Sought, sought_begins, sought_more, sought_hit, sought_done}
-use native.Mathlib.Omega.{arith}
-use borrow.Author.Rules.{rules}
+use Rattle.start_names.specs.Found.{Sought}
 use Rattle.start_names.proofs.held.Given as goal
 
 abbrev pub invariant-loop-i : goal.invariant-loop-i

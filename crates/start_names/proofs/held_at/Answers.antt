@@ -1,6 +1,5 @@
 -- `start_names::held_at` meets its contract.
 use Rattle.start_names.specs.Found.{held_read}
-use borrow.Author.Rules.{rules}
 use Rattle.start_names.proofs.held_at.Goals as goal
 
 pub returns : goal.returns

@@ -2,7 +2,6 @@
 use mathlib.Core.Path.{sym, ◌∙◌}
 use Rattle.spec.specs.Bytes.{ascii}
 use Rattle.start_names.specs.Declarations.{plainly, begins_decides}
-use borrow.Author.Rules.{rules}
 use Rattle.start_names.proofs.is_declaration.Goals as goal
 
 pub returns-then-equal : goal.returns-then-equal

@@ -2,7 +2,6 @@
 use Rattle.spec.specs.Bytes.{ascii}
 use Rattle.spec.specs.Namespaces.{xml_name}
 use Rattle.start_names.specs.Classes.{key_behind, key_other, key_texts}
-use borrow.Author.Rules.{rules}
 use Rattle.start_names.proofs.is_key.Goals as goal
 
 pub returns-then-same : goal.returns-then-same

@@ -3,7 +3,6 @@ use mathlib.Core.Path.{sym, ◌∙◌}
 use Rattle.spec.specs.Bytes.{ascii}
 use Rattle.spec.specs.Namespaces.{xml_name, xmlns_name}
 use Rattle.start_names.specs.Declarations.{of_xml, of_xmlns, as_xml, as_xmlns, default_any, prefix_some}
-use borrow.Author.Rules.{rules}
 use Rattle.start_names.proofs.is_legal.Goals as goal
 
 pub returns-then-equal : goal.returns-then-equal

@@ -1,12 +1,9 @@
 -- `start_names::key_behind` meets its contract.
-use Prim.Native.Nat.{◌-◌}
 use mathlib.Core.Path.{sym, ◌∙◌}
 use Rattle.spec.specs.Bytes.{ascii}
 use Rattle.spec.specs.Namespaces.{xml_name}
-use Rattle.start_names.specs.Pairs.{Alone, alone_begins, alone_hit, alone_more, alone_done, none_behind}
-use Rattle.start_names.specs.Classes.{same_keys}
+use Rattle.start_names.specs.Pairs.{alone_begins, alone_hit, alone_more, alone_done, none_behind}
 use native.Mathlib.Omega.{arith}
-use borrow.Author.Rules.{rules}
 use Rattle.start_names.proofs.key_behind.Goals as goal
 
 pub returns-then-k-j : goal.returns-then-k-j

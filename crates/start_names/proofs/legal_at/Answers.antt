@@ -1,8 +1,6 @@
 -- `start_names::legal_at` meets its contract.
 use mathlib.Core.Path.{◌∙◌}
-use borrow.Author.Tests.{not-true, not-false}
 use Rattle.start_names.specs.Declarations.{told, legal-other, legal-declared}
-use borrow.Author.Rules.{rules}
 use Rattle.start_names.proofs.legal_at.Goals as goal
 
 pub returns-then-not-is_declaration : goal.returns-then-not-is_declaration

@@ -2,7 +2,6 @@
 use mathlib.Core.Path.{refl, sym, ◌∙◌}
 use Rattle.spec.specs.Bytes.{ascii}
 use Rattle.start_names.specs.Found.{found_bytes, found_xml, found_own, found-held}
-use borrow.Author.Rules.{rules}
 use Rattle.start_names.proofs.lookup.Goals as goal
 
 pub returns-then-equal : goal.returns-then-equal

@@ -1,7 +1,6 @@
 -- `start_names::name_of` meets its contract.
 use mathlib.Core.Path.{◌∙◌}
 use Rattle.start_names.specs.Tag.{name_read}
-use borrow.Author.Rules.{rules}
 use Rattle.start_names.proofs.name_of.Goals as goal
 
 pub returns : goal.returns

@@ -1,9 +1,7 @@
 -- `start_names::own` meets its contract.
-use Prim.Native.Nat.{◌-◌}
 use mathlib.Core.Path.{sym, ◌∙◌}
-use Rattle.start_names.specs.Found.{Passed, passed-begins, passed_more, passed_hit, passed_done}
+use Rattle.start_names.specs.Found.{passed-begins, passed_more, passed_hit, passed_done}
 use native.Mathlib.Omega.{arith}
-use borrow.Author.Rules.{rules}
 use Rattle.start_names.proofs.own.Goals as goal
 
 pub loop-j-init : goal.loop-j-init

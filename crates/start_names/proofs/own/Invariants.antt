@@ -1,9 +1,6 @@
 -- `start_names::own` meets its contract. The loop's invariant: none of the first `j` attributes binds the prefix.
 use Prim.Native.Nat.{◌-◌}
-use mathlib.Core.Path.{sym, ◌∙◌}
-use Rattle.start_names.specs.Found.{Passed, passed-begins, passed_more, passed_hit, passed_done}
-use native.Mathlib.Omega.{arith}
-use borrow.Author.Rules.{rules}
+use Rattle.start_names.specs.Found.{Passed}
 use Rattle.start_names.proofs.own.Given as goal
 
 abbrev pub invariant-loop-j : goal.invariant-loop-j

@@ -1,6 +1,5 @@
 -- `start_names::own_at` meets its contract.
 use Rattle.start_names.specs.Found.{own_words}
-use borrow.Author.Rules.{rules}
 use Rattle.start_names.proofs.own_at.Goals as goal
 
 pub returns : goal.returns

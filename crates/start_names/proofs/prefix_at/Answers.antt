@@ -1,7 +1,6 @@
 -- `start_names::prefix_at` meets its contract.
 use Rattle.start_names.specs.Found.{prefix_read, row_start}
 use mathlib.Core.Path.{◌∙◌}
-use borrow.Author.Rules.{rules}
 use Rattle.start_names.proofs.prefix_at.Goals as goal
 
 pub returns-then-i-bindings : goal.returns-then-i-bindings

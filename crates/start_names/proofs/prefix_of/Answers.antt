@@ -1,7 +1,6 @@
 -- `start_names::prefix_of` meets its contract.
 use mathlib.Core.Path.{◌∙◌}
 use Rattle.start_names.specs.Tag.{front_read}
-use borrow.Author.Rules.{rules}
 use Rattle.start_names.proofs.prefix_of.Goals as goal
 
 pub returns : goal.returns

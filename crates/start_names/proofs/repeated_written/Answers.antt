@@ -1,10 +1,8 @@
 -- `start_names::repeated_written` meets its contract.
-use Prim.Native.Nat.{◌-◌}
 use mathlib.Core.Path.{sym, ◌∙◌}
-use Rattle.start_names.specs.Pairs.{Unpaired, unpaired_begins, unpaired_hit, unpaired_more, unpaired_done}
-use Rattle.start_names.specs.Repeats.{same_written, written_means}
+use Rattle.start_names.specs.Pairs.{unpaired_begins, unpaired_hit, unpaired_more, unpaired_done}
+use Rattle.start_names.specs.Repeats.{written_means}
 use native.Mathlib.Omega.{arith}
-use borrow.Author.Rules.{rules}
 use Rattle.start_names.proofs.repeated_written.Goals as goal
 
 pub loop-j-init : goal.loop-j-init

@@ -1,10 +1,7 @@
 -- `start_names::repeated_written` meets its contract. The loop's invariant: none of the first `j` attributes has its name repeated.
 use Prim.Native.Nat.{◌-◌}
-use mathlib.Core.Path.{sym, ◌∙◌}
-use Rattle.start_names.specs.Pairs.{Unpaired, unpaired_begins, unpaired_hit, unpaired_more, unpaired_done}
-use Rattle.start_names.specs.Repeats.{same_written, written_means}
-use native.Mathlib.Omega.{arith}
-use borrow.Author.Rules.{rules}
+use Rattle.start_names.specs.Pairs.{Unpaired}
+use Rattle.start_names.specs.Repeats.{same_written}
 use Rattle.start_names.proofs.repeated_written.Given as goal
 
 abbrev pub invariant-loop-j : goal.invariant-loop-j

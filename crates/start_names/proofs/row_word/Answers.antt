@@ -1,7 +1,6 @@
 -- `start_names::row_word` meets its contract.
 use Rattle.start_names.specs.Tag.{word_none}
 use native.Mathlib.Omega.{arith}
-use borrow.Author.Rules.{rules}
 use Rattle.start_names.proofs.row_word.Goals as goal
 
 pub returns-then-rows-i : goal.returns-then-rows-i

@@ -1,10 +1,8 @@
 -- `start_names::same_from_shorter` meets its contract. Test by test: lengths first, then the last bytes, and the fronts at last.
 use mathlib.Core.Path.{sym, ◌∙◌}
-use borrow.Author.Tests.{not-true, not-false}
 use Rattle.copy.specs.Copy.{rest_of}
 use Rattle.start_names.specs.Joined.{too_short, other_length, backs_differ, middles_differ, fronts_decide}
 use native.Mathlib.Omega.{arith}
-use borrow.Author.Rules.{rules}
 use Rattle.start_names.proofs.same_from_shorter.Goals as goal
 
 pub returns-then-b-more : goal.returns-then-b-more

@@ -1,7 +1,6 @@
 -- `start_names::same_joined` meets its contract.
 use mathlib.Core.Path.{◌∙◌}
 use Rattle.start_names.specs.Joined.{same_sym}
-use borrow.Author.Rules.{rules}
 use Rattle.start_names.proofs.same_joined.Goals as goal
 
 pub returns-then-c-a : goal.returns-then-c-a

@@ -1,5 +1,4 @@
 -- `start_names::space_of` meets its contract, by the class.
-use borrow.Author.Rules.{rules}
 use Rattle.start_names.proofs.space_of.Goals as goal
 
 pub returns-in-Own : goal.returns-in-Own

@@ -1,5 +1,4 @@
 -- `start_names::tail_of` meets its contract, by the class.
-use borrow.Author.Rules.{rules}
 use Rattle.start_names.proofs.tail_of.Goals as goal
 
 pub returns-in-Declaration : goal.returns-in-Declaration

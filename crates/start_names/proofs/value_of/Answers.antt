@@ -1,7 +1,6 @@
 -- `start_names::value_of` meets its contract.
 use mathlib.Core.Path.{◌∙◌}
 use Rattle.start_names.specs.Tag.{value_read}
-use borrow.Author.Rules.{rules}
 use Rattle.start_names.proofs.value_of.Goals as goal
 
 pub returns : goal.returns

@@ -1,10 +1,8 @@
 -- `start_names::written_behind` meets its contract.
-use Prim.Native.Nat.{◌-◌}
 use mathlib.Core.Path.{◌∙◌}
-use Rattle.start_names.specs.Pairs.{Alone, alone_begins, alone_hit, alone_more, alone_done, none_behind}
-use Rattle.start_names.specs.Repeats.{same_written, written_test}
+use Rattle.start_names.specs.Pairs.{alone_begins, alone_hit, alone_more, alone_done, none_behind}
+use Rattle.start_names.specs.Repeats.{written_test}
 use native.Mathlib.Omega.{arith}
-use borrow.Author.Rules.{rules}
 use Rattle.start_names.proofs.written_behind.Goals as goal
 
 pub returns-then-k-j : goal.returns-then-k-j

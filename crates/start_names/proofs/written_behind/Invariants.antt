@@ -1,10 +1,7 @@
 -- `start_names::written_behind` meets its contract. The loop's invariant: none of the attributes between `j` and `i` has the name of attribute `j`.
 use Prim.Native.Nat.{◌-◌}
-use mathlib.Core.Path.{◌∙◌}
-use Rattle.start_names.specs.Pairs.{Alone, alone_begins, alone_hit, alone_more, alone_done, none_behind}
-use Rattle.start_names.specs.Repeats.{same_written, written_test}
-use native.Mathlib.Omega.{arith}
-use borrow.Author.Rules.{rules}
+use Rattle.start_names.specs.Pairs.{Alone}
+use Rattle.start_names.specs.Repeats.{same_written}
 use Rattle.start_names.proofs.written_behind.Given as goal
 
 abbrev pub invariant-loop-i : goal.invariant-loop-i

@@ -1,5 +1,4 @@
 -- `state::based_ok` meets its contract. A law of specs/ for each return, with the tests that led there.
-use borrow.Author.Rules.{rules}
 use Rattle.state.proofs.based_ok.Goals as goal
 
 pub returns-else-based : goal.returns-else-based

@@ -2,7 +2,6 @@
 use Rattle.state.specs.Tests.{ceiling_first, ceiling-other}
 use mathlib.Core.Path.{◌∙◌}
 use native.Mathlib.Omega.{arith}
-use borrow.Author.Rules.{rules}
 use Rattle.state.proofs.ceiling.Goals as goal
 
 pub returns-then-i-eq0 : goal.returns-then-i-eq0

@@ -1,9 +1,8 @@
 -- `state::chained` meets its contract.
 use Rattle.state_words.specs.Words.{load_row_lem}
 use mathlib.Core.Path.{◌∙◌}
-use Rattle.state.specs.Tests.{ChainWalk, chain_begins, chain_stop, chain_more, chain_done}
+use Rattle.state.specs.Tests.{chain_begins, chain_stop, chain_more, chain_done}
 use native.Mathlib.Omega.{arith}
-use borrow.Author.Rules.{rules}
 use Rattle.state.proofs.chained.Goals as goal
 
 pub loop-i-init : goal.loop-i-init

@@ -1,9 +1,5 @@
 -- `state::chained` meets its contract. The loop's invariant: what is left to test is the first `i` bindings, up to `t`.
-use Rattle.state_words.specs.Words.{load_row_lem}
-use mathlib.Core.Path.{◌∙◌}
-use Rattle.state.specs.Tests.{ChainWalk, chain_begins, chain_stop, chain_more, chain_done}
-use native.Mathlib.Omega.{arith}
-use borrow.Author.Rules.{rules}
+use Rattle.state.specs.Tests.{ChainWalk}
 use Rattle.state.proofs.chained.Given as goal
 
 abbrev pub invariant-loop-i : goal.invariant-loop-i

@@ -1,7 +1,6 @@
 -- `state::child_size` meets its contract. From what the calls ensure.
 use Rattle.state.specs.Tests.{child-size_is}
 use native.Mathlib.Omega.{arith}
-use borrow.Author.Rules.{rules}
 use Rattle.state.proofs.child_size.Goals as goal
 
 pub returns : goal.returns

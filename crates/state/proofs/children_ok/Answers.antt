@@ -1,7 +1,6 @@
 -- `state::children_ok` meets its contract.
-use Rattle.state.specs.Tests.{ChildWalk, child-begins, child_stop, child_more, child_done}
+use Rattle.state.specs.Tests.{child-begins, child_stop, child_more, child_done}
 use native.Mathlib.Omega.{arith}
-use borrow.Author.Rules.{rules}
 use Rattle.state.proofs.children_ok.Goals as goal
 
 pub loop-i-init : goal.loop-i-init

@@ -1,7 +1,5 @@
 -- `state::children_ok` meets its contract. The loop's invariant: what is left to test is the first `i` children, up to `e`.
-use Rattle.state.specs.Tests.{ChildWalk, child-begins, child_stop, child_more, child_done}
-use native.Mathlib.Omega.{arith}
-use borrow.Author.Rules.{rules}
+use Rattle.state.specs.Tests.{ChildWalk}
 use Rattle.state.proofs.children_ok.Given as goal
 
 abbrev pub invariant-loop-i : goal.invariant-loop-i

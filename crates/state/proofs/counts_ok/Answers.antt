@@ -1,7 +1,6 @@
 -- `state::counts_ok` meets its contract. A law for each return, with the tests that led there.
-use Rattle.state.specs.Tests.{too_deep, too_many, too_high, no_base, labels_decide, yes, no}
+use Rattle.state.specs.Tests.{too_deep, too_many, too_high, no_base, labels_decide}
 use native.Mathlib.Omega.{arith}
-use borrow.Author.Rules.{rules}
 use Rattle.std.proofs.Common.{sym}
 use Rattle.std.proofs.Common.{◌∙◌}
 use Rattle.state.proofs.counts_ok.Goals as goal

@@ -1,9 +1,8 @@
 -- `state::element_ok` meets its contract. A law for each return, with the tests that led there.
-use Rattle.state.specs.Tests.{ends_elsewhere, falls, part_left, bindings_beyond, not_chained, kind_wrong, around_decides, yes, no}
+use Rattle.state.specs.Tests.{ends_elsewhere, falls, part_left, bindings_beyond, not_chained, kind_wrong, around_decides}
 use Rattle.state_words.specs.Words.{load_frame_lem}
 use mathlib.Core.Path.{◌∙◌}
 use native.Mathlib.Omega.{arith}
-use borrow.Author.Rules.{rules}
 use Rattle.std.proofs.Common.{sym}
 use Rattle.state.proofs.element_ok.Goals as goal
 

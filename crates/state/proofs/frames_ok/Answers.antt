@@ -1,9 +1,8 @@
 -- `state::frames_ok` meets its contract.
-use Rattle.state.specs.Tests.{FrameWalk, frame-begins, frame_stop, frame_more, other_start, frame_done, yes, no}
+use Rattle.state.specs.Tests.{frame-begins, frame_stop, frame_more, other_start, frame_done}
 use Rattle.state_words.specs.Words.{load_frame_lem}
 use mathlib.Core.Path.{◌∙◌}
 use native.Mathlib.Omega.{arith}
-use borrow.Author.Rules.{rules}
 use Rattle.std.proofs.Common.{sym}
 use Rattle.state.proofs.frames_ok.Goals as goal
 

@@ -1,9 +1,5 @@
 -- `state::frames_ok` meets its contract. The loop's invariant: what is left to test is the first `i` elements, up to `t`, with bindings up to `b`.
-use Rattle.state.specs.Tests.{FrameWalk, frame-begins, frame_stop, frame_more, other_start, frame_done, yes, no}
-use Rattle.state_words.specs.Words.{load_frame_lem}
-use mathlib.Core.Path.{◌∙◌}
-use native.Mathlib.Omega.{arith}
-use borrow.Author.Rules.{rules}
+use Rattle.state.specs.Tests.{FrameWalk}
 use Rattle.state.proofs.frames_ok.Given as goal
 
 abbrev pub invariant-loop-i : goal.invariant-loop-i

@@ -1,9 +1,8 @@
 -- `state::inners_ok` meets its contract.
-use Rattle.state.specs.Tests.{InnerWalk, inner-begins, inner_elsewhere, inner_beyond, inner_stop, inner_more, other_end, inner_done, yes, no}
+use Rattle.state.specs.Tests.{inner-begins, inner_elsewhere, inner_beyond, inner_stop, inner_more, other_end, inner_done}
 use Rattle.state_words.specs.Words.{load_row_lem}
 use mathlib.Core.Path.{◌∙◌}
 use native.Mathlib.Omega.{arith}
-use borrow.Author.Rules.{rules}
 use Rattle.std.proofs.Common.{sym}
 use Rattle.state.proofs.inners_ok.Goals as goal
 

@@ -2,7 +2,6 @@
 use Rattle.state.specs.Tests.{is_root, in_wrapper_lem}
 use mathlib.Core.Path.{◌∙◌}
 use native.Mathlib.Omega.{arith}
-use borrow.Author.Rules.{rules}
 use Rattle.state.proofs.is_root_in.Goals as goal
 
 pub returns-then-n-eq0 : goal.returns-then-n-eq0

@@ -3,7 +3,6 @@ use mathlib.Core.Path.{◌∙◌}
 use borrow.Author.Tests.{eq-eqb, ne_eqb}
 use Rattle.spec.specs.Limits.{most_labels}
 use Rattle.state.specs.Valid.{kind_ok}
-use borrow.Author.Rules.{rules}
 use Rattle.state.proofs.kind_ok.Goals as goal
 
 pub returns-then-at : goal.returns-then-at

@@ -2,7 +2,6 @@
 use Rattle.state.specs.Tests.{no_node, node-around}
 use mathlib.Core.Path.{◌∙◌}
 use native.Mathlib.Omega.{arith}
-use borrow.Author.Rules.{rules}
 use Rattle.state.proofs.node_below.Goals as goal
 
 pub returns-then-n-eq0 : goal.returns-then-n-eq0

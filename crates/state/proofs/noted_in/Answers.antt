@@ -1,10 +1,8 @@
 -- `state::noted_in` meets its contract.
-use Prim.Native.Nat.{◌-◌}
-use Rattle.state.specs.Tests.{NoteWalk, note_begins, note_more, note_done}
+use Rattle.state.specs.Tests.{note_begins, note_more, note_done}
 use Rattle.state_words.specs.Words.{load_frame_lem}
 use mathlib.Core.Path.{◌∙◌}
 use native.Mathlib.Omega.{arith}
-use borrow.Author.Rules.{rules}
 use Rattle.state.proofs.noted_in.Goals as goal
 
 pub loop-i-init : goal.loop-i-init

@@ -1,10 +1,6 @@
 -- `state::noted_in` meets its contract. The loop's invariant: what the first `i` elements have noted is summed up.
 use Prim.Native.Nat.{◌-◌}
-use Rattle.state.specs.Tests.{NoteWalk, note_begins, note_more, note_done}
-use Rattle.state_words.specs.Words.{load_frame_lem}
-use mathlib.Core.Path.{◌∙◌}
-use native.Mathlib.Omega.{arith}
-use borrow.Author.Rules.{rules}
+use Rattle.state.specs.Tests.{NoteWalk}
 use Rattle.state.proofs.noted_in.Given as goal
 
 abbrev pub invariant-loop-i : goal.invariant-loop-i

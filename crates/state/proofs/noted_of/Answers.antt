@@ -1,6 +1,5 @@
 -- `state::noted_of` meets its contract. By the kind that the arm knows.
 use native.Mathlib.Omega.{arith}
-use borrow.Author.Rules.{rules}
 use Rattle.state.specs.Valid.{noted_by}
 use Rattle.state.proofs.noted_of.Goals as goal
 

@@ -1,6 +1,5 @@
 -- `state::parts_ok` meets its contract. From what the calls ensure.
 use Rattle.state.specs.Valid.{parts_ok}
-use borrow.Author.Rules.{rules}
 use Rattle.state.proofs.parts_ok.Goals as goal
 
 pub returns : goal.returns

@@ -1,7 +1,6 @@
 -- `state::rises` meets its contract.
-use Rattle.state.specs.Tests.{Rose, rose_begins, rose_stop, rose_more, rose_done}
+use Rattle.state.specs.Tests.{rose_begins, rose_stop, rose_more, rose_done}
 use native.Mathlib.Omega.{arith}
-use borrow.Author.Rules.{rules}
 use Rattle.state.proofs.rises.Goals as goal
 
 pub loop-k-init : goal.loop-k-init

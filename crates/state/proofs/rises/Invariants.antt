@@ -1,7 +1,5 @@
 -- `state::rises` meets its contract. The loop's invariant: what is left to test is the first `k` steps.
-use Rattle.state.specs.Tests.{Rose, rose_begins, rose_stop, rose_more, rose_done}
-use native.Mathlib.Omega.{arith}
-use borrow.Author.Rules.{rules}
+use Rattle.state.specs.Tests.{Rose}
 use Rattle.state.proofs.rises.Given as goal
 
 abbrev pub invariant-loop-k : goal.invariant-loop-k

@@ -1,6 +1,5 @@
 -- `state::tail_size` meets its contract. By the test that was made.
 use native.Mathlib.Omega.{arith}
-use borrow.Author.Rules.{rules}
 use Rattle.state.proofs.tail_size.Goals as goal
 
 pub returns-then-at : goal.returns-then-at

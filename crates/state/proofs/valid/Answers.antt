@@ -1,7 +1,6 @@
 -- `state::valid` meets its contract. A law for each return, with the tests that led there.
-use Rattle.state.specs.Tests.{wrong_lengths, wrong_counts, sized, wrong_inners, wrong_noted, frames_fit, frames_decide, yes, no}
+use Rattle.state.specs.Tests.{wrong_lengths, wrong_counts, sized, wrong_inners, wrong_noted, frames_fit, frames_decide}
 use native.Mathlib.Omega.{arith}
-use borrow.Author.Rules.{rules}
 use Rattle.std.proofs.Common.{sym}
 use Rattle.std.proofs.Common.{◌∙◌}
 use Rattle.state.proofs.valid.Goals as goal

@@ -1,10 +1,8 @@
 -- `state_ids::add` meets its contract: what room there is bounds the next place and its numbers.
 use mathlib.Core.Path.{sym, ◌∙◌}
-use borrow.Author.Tests.{not-true, not-false}
 use Rattle.spec.specs.Limits.{most_ids, most_id_bytes, most_name_bytes}
 use Rattle.state_ids.specs.Adding.{no_room, not_put, put_there, has_room}
 use native.Mathlib.Omega.{arith}
-use borrow.Author.Rules.{rules}
 use Rattle.state_ids.proofs.add.Goals as goal
 
 pub returns-then-not-room : goal.returns-then-not-room

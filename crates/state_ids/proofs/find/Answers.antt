@@ -1,9 +1,8 @@
 -- `state_ids::find` meets its contract.
 use Rattle.spec.specs.Limits.{most_ids}
-use Rattle.state_ids.specs.Walks.{Sought, sought_begins, sought_none, sought_hit, sought_more, sought_done}
+use Rattle.state_ids.specs.Walks.{sought_begins, sought_none, sought_hit, sought_more, sought_done}
 use mathlib.Core.Path.{sym, ◌∙◌}
 use native.Mathlib.Omega.{arith}
-use borrow.Author.Rules.{rules}
 use Rattle.state_ids.proofs.find.Goals as goal
 
 pub returns-then-count-gt-MOST : goal.returns-then-count-gt-MOST

@@ -1,9 +1,5 @@
 -- `state_ids::find` meets its contract. The loop's invariant: none of the places from `i` on has the ID.
-use Rattle.spec.specs.Limits.{most_ids}
-use Rattle.state_ids.specs.Walks.{Sought, sought_begins, sought_none, sought_hit, sought_more, sought_done}
-use mathlib.Core.Path.{sym, ◌∙◌}
-use native.Mathlib.Omega.{arith}
-use borrow.Author.Rules.{rules}
+use Rattle.state_ids.specs.Walks.{Sought}
 use Rattle.state_ids.proofs.find.Given as goal
 
 abbrev pub invariant-loop-i : goal.invariant-loop-i

@@ -2,8 +2,6 @@
 use mathlib.Core.Path.{ap, ◌∙◌}
 use Rattle.spec.specs.Bytes.{same}
 use Rattle.copy.specs.Copy.{part_of}
-use native.Mathlib.Omega.{arith}
-use borrow.Author.Rules.{rules}
 use Rattle.state_ids.proofs.is_at.Goals as goal
 
 pub returns : goal.returns

@@ -1,8 +1,7 @@
 -- `state_ids::valid` meets its contract.
 use Rattle.spec.specs.Limits.{id_store_bytes, most_ids, most_id_bytes, most_name_bytes}
-use Rattle.state_ids.specs.Walks.{Walked, walked_begins, walked_long, walked_apart, walked_more, walked_done, other_store, too_many, too_full, spans_decide}
+use Rattle.state_ids.specs.Walks.{walked_begins, walked_long, walked_apart, walked_more, walked_done, other_store, too_many, too_full, spans_decide}
 use native.Mathlib.Omega.{arith}
-use borrow.Author.Rules.{rules}
 use Rattle.state_ids.proofs.valid.Goals as goal
 
 pub returns-then-n-ne-BYTES : goal.returns-then-n-ne-BYTES

@@ -1,6 +1,5 @@
 -- `state_inner::base_in_force` meets its contract. A law of specs/ for each return, with the tests that led there.
 use Rattle.state_inner.specs.Calls.{base_own, base_start}
-use borrow.Author.Rules.{rules}
 use Rattle.state_inner.proofs.base_in_force.Goals as goal
 
 pub returns-then-f : goal.returns-then-f

@@ -1,7 +1,6 @@
 -- `state_inner::ceiling` meets its contract. A law of specs/ for each return, with the tests that led there.
 use Rattle.state_inner.specs.Calls.{ceiling_none, ceiling_there}
 use mathlib.Core.Path.{◌∙◌}
-use borrow.Author.Rules.{rules}
 use Rattle.state_inner.proofs.ceiling.Goals as goal
 
 pub returns-then-i-eq0 : goal.returns-then-i-eq0

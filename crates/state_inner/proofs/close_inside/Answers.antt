@@ -1,6 +1,5 @@
 -- `state_inner::close_inside` meets its contract. A law of specs/ for each return, with the tests that led there.
 use Rattle.state_inner.specs.Calls.{close_none, close_done}
-use borrow.Author.Rules.{rules}
 use Rattle.state_inner.proofs.close_inside.Goals as goal
 
 pub returns-then-r-eq0 : goal.returns-then-r-eq0

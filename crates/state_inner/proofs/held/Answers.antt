@@ -1,7 +1,6 @@
 -- `state_inner::held` meets its contract. A law of specs/ for each return, with the tests that led there.
 use Rattle.state_inner.specs.Calls.{held_wild, held_crossed, held_is}
 use native.Mathlib.Omega.{arith}
-use borrow.Author.Rules.{rules}
 use Rattle.state_inner.proofs.held.Goals as goal
 
 pub returns-then-r-gt-STORE : goal.returns-then-r-gt-STORE

@@ -1,6 +1,5 @@
 -- `state_inner::holds_no_more` meets its contract. From what the calls ensure.
 use Rattle.spec.specs.Limits.{most_held_bytes}
-use borrow.Author.Rules.{rules}
 use Rattle.state_inner.proofs.holds_no_more.Goals as goal
 
 pub returns : goal.returns

@@ -1,7 +1,6 @@
 -- `state_inner::innermost` meets its contract.
-use Rattle.state_inner.specs.Calls.{Sought, sought_begins, sought_more, sought_stop, sought_done}
+use Rattle.state_inner.specs.Calls.{sought_begins, sought_more, sought_stop, sought_done}
 use native.Mathlib.Omega.{arith}
-use borrow.Author.Rules.{rules}
 use Rattle.state_inner.proofs.innermost.Goals as goal
 
 pub loop-i-init : goal.loop-i-init

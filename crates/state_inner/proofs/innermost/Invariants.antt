@@ -1,7 +1,5 @@
 -- `state_inner::innermost` meets its contract. The loop's invariant: what is sought is among the first `i` frames.
-use Rattle.state_inner.specs.Calls.{Sought, sought_begins, sought_more, sought_stop, sought_done}
-use native.Mathlib.Omega.{arith}
-use borrow.Author.Rules.{rules}
+use Rattle.state_inner.specs.Calls.{Sought}
 use Rattle.state_inner.proofs.innermost.Given as goal
 
 abbrev pub invariant-loop-i : goal.invariant-loop-i

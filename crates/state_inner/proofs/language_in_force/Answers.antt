@@ -1,8 +1,5 @@
 -- `state_inner::language_in_force` meets its contract. A tag of no bytes is none.
-use mathlib.Core.Path.{◌≡◌, ◌∙◌, sym, ap}
-use borrow.Author.Tests.{eq-eqb, ne_eqb}
 use Rattle.state_inner.specs.Calls.{language_in, tag_none, tag-some}
-use borrow.Author.Rules.{rules}
 use Rattle.state_inner.proofs.language_in_force.Goals as goal
 
 pub returns-then-said-eq0 : goal.returns-then-said-eq0

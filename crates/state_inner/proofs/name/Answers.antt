@@ -1,7 +1,6 @@
 -- `state_inner::name` meets its contract. A law of specs/ for each return, with the tests that led there.
 use Rattle.state_inner.specs.Calls.{name-inside, name_none, name_top}
 use native.Mathlib.Omega.{arith}
-use borrow.Author.Rules.{rules}
 use Rattle.state_inner.proofs.name.Goals as goal
 
 pub returns-then-r-ne0 : goal.returns-then-r-ne0

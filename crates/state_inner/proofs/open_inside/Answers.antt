@@ -1,8 +1,6 @@
 -- `state_inner::open_inside` meets its contract. A law of specs/ for each return, with the tests that led there.
 use Rattle.state_inner.specs.Calls.{open_deep, open_far, open_long, open_many, open_short, open_done}
-use borrow.Author.Tests.{not-true, not-false}
 use native.Mathlib.Omega.{arith}
-use borrow.Author.Rules.{rules}
 use Rattle.state_inner.proofs.open_inside.Goals as goal
 
 pub returns-then-r-gt-MOST : goal.returns-then-r-gt-MOST

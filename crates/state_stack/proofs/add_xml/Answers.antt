@@ -1,8 +1,6 @@
 -- `state_stack::add_xml` meets its contract. A law of specs/ for each return, with the tests that led there.
 use Rattle.state_stack.specs.Calls.{xml_dropped, xml_other, xml_done}
-use Rattle.state.specs.Tests.{yes, no}
 use mathlib.Core.Path.{◌∙◌, sym, refl}
-use borrow.Author.Rules.{rules}
 use Rattle.state_stack.proofs.add_xml.Goals as goal
 
 pub returns-then-same_kind : goal.returns-then-same_kind

@@ -1,8 +1,6 @@
 -- `state_stack::bind` meets its contract. A law of specs/ for each return, with the tests that led there.
-use borrow.Author.Tests.{not-true, not-false}
 use Rattle.state_stack.specs.Calls.{bind_large, bind_full, bind_short, bind_done}
 use native.Mathlib.Omega.{arith}
-use borrow.Author.Rules.{rules}
 use Rattle.state_stack.proofs.bind.Goals as goal
 
 pub returns-then-work-gt-STORE : goal.returns-then-work-gt-STORE

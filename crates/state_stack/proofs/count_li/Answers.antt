@@ -1,9 +1,7 @@
 -- `state_stack::count_li` meets its contract. A law of specs/ for each return, with the tests that led there.
 use mathlib.Core.Path.{refl}
 use Rattle.state_stack.specs.Calls.{count-other, count-empty, count-spent, count_done}
-use Rattle.state.specs.Tests.{yes, no}
 use native.Mathlib.Omega.{arith}
-use borrow.Author.Rules.{rules}
 use Rattle.std.proofs.Common.{sym}
 use Rattle.std.proofs.Common.{◌∙◌}
 use Rattle.state_stack.proofs.count_li.Goals as goal

@@ -1,7 +1,6 @@
 -- `state_stack::pop` meets its contract. A law of specs/ for each return, with the tests that led there.
 use Rattle.state_stack.specs.Calls.{pop_inside, pop_empty, pop_done}
 use native.Mathlib.Omega.{arith}
-use borrow.Author.Rules.{rules}
 use Rattle.state_stack.proofs.pop.Goals as goal
 
 pub returns-then-r-ne0 : goal.returns-then-r-ne0

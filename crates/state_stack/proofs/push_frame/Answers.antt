@@ -1,8 +1,6 @@
 -- `state_stack::push_frame` meets its contract. A law of specs/ for each return, with the tests that led there.
 use Rattle.state_stack.specs.Calls.{push_inside, push_deep, push_short, push_done}
-use borrow.Author.Tests.{not-true, not-false}
 use native.Mathlib.Omega.{arith}
-use borrow.Author.Rules.{rules}
 use Rattle.state_stack.proofs.push_frame.Goals as goal
 
 pub returns-then-r-ne0 : goal.returns-then-r-ne0

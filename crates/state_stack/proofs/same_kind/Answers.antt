@@ -1,5 +1,4 @@
 -- `state_stack::same_kind` meets its contract. From what the calls ensure.
-use borrow.Author.Rules.{rules}
 use Rattle.state_stack.proofs.same_kind.Goals as goal
 
 pub returns : goal.returns

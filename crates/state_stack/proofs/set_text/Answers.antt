@@ -1,7 +1,5 @@
 -- `state_stack::set_text` meets its contract. A law of specs/ for each return, with the tests that led there.
 use Rattle.state_stack.specs.Calls.{text-other, text_done}
-use Rattle.state.specs.Tests.{yes, no}
-use borrow.Author.Rules.{rules}
 use Rattle.std.proofs.Common.{sym}
 use Rattle.std.proofs.Common.{◌∙◌}
 use Rattle.state_stack.proofs.set_text.Goals as goal

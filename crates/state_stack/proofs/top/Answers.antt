@@ -1,7 +1,6 @@
 -- `state_stack::top` meets its contract. A law of specs/ for each return, with the tests that led there.
 use Rattle.state_stack.specs.Calls.{top_none, top_there}
 use mathlib.Core.Path.{◌∙◌}
-use borrow.Author.Rules.{rules}
 use Rattle.state_stack.proofs.top.Goals as goal
 
 pub returns-then-r-eq0 : goal.returns-then-r-eq0

@@ -1,8 +1,6 @@
 -- `state_stack::write_tail` meets its contract. A law of specs/ for each return, with the tests that led there.
 use Rattle.state_stack.specs.Calls.{tail_empty, tail_large, tail_beyond, tail_full, tail_short, tail_done}
-use borrow.Author.Tests.{not-true, not-false}
 use native.Mathlib.Omega.{arith}
-use borrow.Author.Rules.{rules}
 use Rattle.state_stack.proofs.write_tail.Goals as goal
 
 pub returns-then-r-eq0 : goal.returns-then-r-eq0

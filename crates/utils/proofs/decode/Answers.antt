@@ -4,7 +4,6 @@ use mathlib.Core.Path.{sym, ◌∙◌}
 use Rattle.spec.specs.Bytes.{if◌then◌else◌}
 use Rattle.spec.specs.Utf8.{least}
 use native.Mathlib.Omega.{arith}
-use borrow.Author.Rules.{rules}
 use Rattle.utils.proofs.decode.Goals as goal
 
 pub returns-then-first-lt128 : goal.returns-then-first-lt128

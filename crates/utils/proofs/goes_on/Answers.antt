@@ -1,6 +1,5 @@
 -- `goes_on`: a byte goes on where it has one leading one bit.
 use Rattle.spec.specs.Utf8.{goes_on}
-use borrow.Author.Rules.{rules}
 use Rattle.utils.proofs.goes_on.Goals as goal
 
 pub returns : goal.returns

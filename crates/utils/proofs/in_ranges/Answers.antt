@@ -1,9 +1,6 @@
 -- `in_ranges`. The invariant: the ranges from the ith number on decide, and they ascend.
-use Rattle.utils.proofs.Ranges.{Searching, search_begins, search_before, search_hit, search_more, search_done}
-use Prim.Native.Nat.{◌-◌}
-use lib.ListN.{length}
+use Rattle.utils.proofs.Ranges.{search_begins, search_before, search_hit, search_more, search_done}
 use native.Mathlib.Omega.{arith}
-use borrow.Author.Rules.{rules}
 use Rattle.utils.proofs.in_ranges.Goals as goal
 
 pub loop-i-init : goal.loop-i-init

@@ -1,9 +1,7 @@
 -- `in_ranges`. The invariant: the ranges from the ith number on decide, and they ascend.
-use Rattle.utils.proofs.Ranges.{Searching, search_begins, search_before, search_hit, search_more, search_done}
+use Rattle.utils.proofs.Ranges.{Searching}
 use Prim.Native.Nat.{◌-◌}
 use lib.ListN.{length}
-use native.Mathlib.Omega.{arith}
-use borrow.Author.Rules.{rules}
 use Rattle.utils.proofs.in_ranges.Given as goal
 
 abbrev pub invariant-loop-i : goal.invariant-loop-i

@@ -1,13 +1,8 @@
 -- `is_blank`. The invariant: the bytes passed are whitespace, so the rest decides.
 use Rattle.spec.specs.Bytes.{ascii, among, every}
-use Rattle.spec.specs.RdfXml.{is_blank}
 use Rattle.utils.specs.Walking.{Walked}
-use Rattle.utils.proofs.Walking.{walked_begins, bytes_fail, bytes_more, bytes_pass}
-use mathlib.Core.Path.{sym, ◌∙◌}
-use borrow.Author.Tests.{not-true, not-false}
 use lib.ListN.{length}
 use Prim.Native.Nat.{◌-◌}
-use borrow.Author.Rules.{rules}
 use Rattle.utils.proofs.is_blank.Given as goal
 
 abbrev pub invariant-loop-i : goal.invariant-loop-i

@@ -3,7 +3,6 @@ use mathlib.Core.Path.{refl, sym, ◌∙◌}
 use Rattle.spec.specs.Bytes.{byte}
 use Rattle.spec.specs.XmlNames.{further_ranges, is_name_char}
 use Rattle.utils.specs.Ranges.{ranges, ascending_from}
-use borrow.Author.Rules.{rules}
 use Rattle.utils.proofs.is_name_char.Goals as goal
 
 pub returns-then-is_name_start_char : goal.returns-then-is_name_start_char

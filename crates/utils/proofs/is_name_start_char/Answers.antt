@@ -3,7 +3,6 @@ use mathlib.Core.Path.{refl}
 use Rattle.spec.specs.Bytes.{byte}
 use Rattle.spec.specs.XmlNames.{start_ranges, is_name_start}
 use Rattle.utils.specs.Ranges.{ranges, ascending_from}
-use borrow.Author.Rules.{rules}
 use Rattle.utils.proofs.is_name_start_char.Goals as goal
 
 pub in_ranges-requires : goal.in_ranges-requires

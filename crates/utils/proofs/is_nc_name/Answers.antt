@@ -2,7 +2,6 @@
 use mathlib.Core.Path.{sym, ◌∙◌}
 use Rattle.utils.proofs.Walking.{to_end}
 use native.Mathlib.Omega.{arith}
-use borrow.Author.Rules.{rules}
 use Rattle.utils.proofs.is_nc_name.Goals as goal
 
 pub returns-then-n-eq0 : goal.returns-then-n-eq0

@@ -1,10 +1,6 @@
 -- `is_plain_block`. The invariant: `all` is the answer for the first `j` bytes.
-use Prim.Native.Nat.{◌-◌}
-use lib.ListN.{length}
-use Rattle.utils.specs.Plain.{plain_text}
-use Rattle.utils.proofs.Plain.{Gathered, gathered_begins, gathered_more, gathered_done}
+use Rattle.utils.proofs.Plain.{gathered_begins, gathered_more, gathered_done}
 use native.Mathlib.Omega.{arith}
-use borrow.Author.Rules.{rules}
 use Rattle.utils.proofs.is_plain_block.Goals as goal
 
 pub loop-j-init : goal.loop-j-init

@@ -2,9 +2,7 @@
 use Prim.Native.Nat.{◌-◌}
 use lib.ListN.{length}
 use Rattle.utils.specs.Plain.{plain_text}
-use Rattle.utils.proofs.Plain.{Gathered, gathered_begins, gathered_more, gathered_done}
-use native.Mathlib.Omega.{arith}
-use borrow.Author.Rules.{rules}
+use Rattle.utils.proofs.Plain.{Gathered}
 use Rattle.utils.proofs.is_plain_block.Given as goal
 
 abbrev pub invariant-loop-j : goal.invariant-loop-j

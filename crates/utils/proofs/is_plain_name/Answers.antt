@@ -1,7 +1,6 @@
 -- `is_plain_name`: by a computed test of every byte.
 use Rattle.utils.proofs.Computed.{plain-name}
 use native.Mathlib.Omega.{arith}
-use borrow.Author.Rules.{rules}
 use Rattle.utils.proofs.is_plain_name.Goals as goal
 
 pub returns-then-is_plain_start : goal.returns-then-is_plain_start

@@ -1,16 +1,10 @@
 -- `is_printable`. The invariant: the bytes passed are printable, so the rest decides.
 use mathlib.Core.Path.{sym, ◌∙◌}
 use mathlib.Core.Bool.{false≢true}
-use lib.ListN.{length}
-use Prim.Native.Nat.{◌-◌}
-use borrow.Author.Tests.{not-false}
-use Rattle.spec.specs.Bytes.{every}
 use Rattle.utils.specs.Plain.{printable}
-use Rattle.utils.specs.Walking.{Walked}
 use Rattle.utils.proofs.Walking.{to_end, walked_begins}
 use Rattle.utils.proofs.Plain.{block, every-block, every-last}
 use native.Mathlib.Omega.{arith}
-use borrow.Author.Rules.{rules}
 use Rattle.utils.proofs.is_printable.Goals as goal
 
 pub returns-then-s-lt-BLOCK : goal.returns-then-s-lt-BLOCK

@@ -1,12 +1,8 @@
 -- `is_printable_block`. The invariant: `all` is the answer for the first `j` bytes.
-use mathlib.Core.Path.{refl}
-use Rattle.spec.specs.Bytes.{byte}
 use Prim.Native.Nat.{◌-◌}
 use lib.ListN.{length}
 use Rattle.utils.specs.Plain.{printable}
-use Rattle.utils.proofs.Plain.{Gathered, gathered_begins, gathered_more, gathered_done}
-use native.Mathlib.Omega.{arith}
-use borrow.Author.Rules.{rules}
+use Rattle.utils.proofs.Plain.{Gathered}
 use Rattle.utils.proofs.is_printable_block.Given as goal
 
 abbrev pub invariant-loop-j : goal.invariant-loop-j

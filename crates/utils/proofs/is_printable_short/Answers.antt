@@ -1,6 +1,5 @@
 -- `is_printable_short`: by halves, or nothing said.
 use mathlib.Core.Bool.{false≢true}
-use borrow.Author.Rules.{rules}
 use Rattle.utils.proofs.is_printable_short.Goals as goal
 
 pub returns : goal.returns

@@ -1,15 +1,10 @@
 -- `is_text`. The invariant: the characters passed are XML's, so the rest decides.
-use mathlib.Core.Path.{sym, ◌∙◌}
-use lib.ListN.{length, length-drop}
+use lib.ListN.{length}
 use Prim.Native.Nat.{◌-◌}
 use Rattle.spec.specs.Bytes.{every}
 use Rattle.spec.specs.Utf8.{as_characters}
 use Rattle.spec.specs.XmlNames.{is_char}
 use Rattle.utils.specs.Walking.{Walked}
-use Rattle.utils.proofs.Walking.{to_end, every_by, walked_within, walked_fails, walked_more, walked_on, walked_passes}
-use Rattle.utils.proofs.Plain.{plain-text, walked_plain}
-use native.Mathlib.Omega.{arith}
-use borrow.Author.Rules.{rules}
 use Rattle.utils.proofs.is_text.Given as goal
 
 abbrev pub invariant-loop-i : goal.invariant-loop-i

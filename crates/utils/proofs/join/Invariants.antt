@@ -1,11 +1,7 @@
 -- `join`. The invariant: what is left, joined to the value so far, gives what the whole does.
-use mathlib.Core.Path.{sym, ◌∙◌}
-use borrow.Author.Tests.{not-true, not-false}
-use Rattle.utils.proofs.Decoding.{Joining, joining_begins, joining_small, joining_broken, joining_more, joining_done}
+use Rattle.utils.proofs.Decoding.{Joining}
 use lib.ListN.{length}
 use Prim.Native.Nat.{◌-◌}
-use native.Mathlib.Omega.{arith}
-use borrow.Author.Rules.{rules}
 use Rattle.utils.proofs.join.Given as goal
 
 abbrev pub invariant-loop-i : goal.invariant-loop-i

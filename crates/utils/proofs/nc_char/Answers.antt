@@ -4,7 +4,6 @@ use Rattle.utils.specs.Decoding.{Front}
 use Rattle.utils.proofs.Walking.{step_passes, step_fails, step_stuck}
 use Rattle.utils.proofs.Names.{goes_on_colon, goes_on_by, rest_by}
 use native.Mathlib.Omega.{arith}
-use borrow.Author.Rules.{rules}
 use Rattle.utils.proofs.nc_char.Goals.{In-Character}
 use Rattle.utils.proofs.nc_char.Goals as goal
 

@@ -5,7 +5,6 @@ use Rattle.utils.specs.Names.{starts_nc}
 use Rattle.utils.proofs.Names.{starts_colon, starts_by, nc_starts, nc_fails, nc_stuck, nc_empty}
 use Rattle.utils.proofs.Plain.{plain_front}
 use native.Mathlib.Omega.{arith}
-use borrow.Author.Rules.{rules}
 use Rattle.utils.proofs.nc_start.Goals.{In-Character}
 use Rattle.utils.proofs.nc_start.Goals as goal
 

@@ -3,7 +3,6 @@ use lib.Seq.{length-take-le}
 use Rattle.utils.proofs.Walking.{to_end}
 use Rattle.utils.proofs.Names.{name_local, name_none, name_prefixed, name_no_prefix, name_no_local}
 use mathlib.Core.Path.{sym, ◌∙◌}
-use borrow.Author.Tests.{not-true, not-false}
 use borrow.Author.Rules.{rules}
 use Rattle.utils.proofs.qname.Goals as goal
 

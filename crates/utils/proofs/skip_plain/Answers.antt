@@ -1,17 +1,10 @@
 -- `skip_plain`. The invariant: the bytes passed are plain, so the rest decides.
 use mathlib.Core.Path.{sym, ◌∙◌}
-use lib.ListN.{length}
-use Prim.Native.Nat.{◌-◌}
-use borrow.Author.Tests.{not-false}
-use Rattle.spec.specs.Bytes.{every}
-use Rattle.spec.specs.Utf8.{as_characters}
 use Rattle.spec.specs.XmlNames.{is_char}
 use Rattle.utils.specs.Plain.{plain_text}
-use Rattle.utils.specs.Walking.{Walked}
 use Rattle.utils.proofs.Walking.{to_end, walked_begins, every_by}
 use Rattle.utils.proofs.Plain.{plain-text, block, walked_block, walked_last}
 use native.Mathlib.Omega.{arith}
-use borrow.Author.Rules.{rules}
 use Rattle.utils.proofs.skip_plain.Goals as goal
 
 pub returns-then-s-lt-BLOCK : goal.returns-then-s-lt-BLOCK

@@ -4,7 +4,6 @@ use Rattle.spec.specs.XmlNames.{is_char}
 use Rattle.utils.specs.Decoding.{Front}
 use Rattle.utils.proofs.Walking.{every_by, step_passes, step_fails, step_stuck}
 use native.Mathlib.Omega.{arith}
-use borrow.Author.Rules.{rules}
 use Rattle.utils.proofs.text_char.Goals.{In-Character}
 use Rattle.utils.proofs.text_char.Goals as goal
 

@@ -1,7 +1,5 @@
 -- `up_to_colon`. The invariant: no colon is passed, so those before it are i and those in the rest.
-use Rattle.utils.proofs.Names.{Scanned, scanned_begins, scanned_colon, scanned_more, scanned_done}
-use lib.ListN.{length}
-use Prim.Native.Nat.{◌-◌}
+use Rattle.utils.proofs.Names.{scanned_begins, scanned_colon, scanned_more, scanned_done}
 use borrow.Author.Rules.{rules}
 use Rattle.utils.proofs.up_to_colon.Goals as goal
 

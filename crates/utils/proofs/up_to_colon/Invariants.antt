@@ -1,8 +1,7 @@
 -- `up_to_colon`. The invariant: no colon is passed, so those before it are i and those in the rest.
-use Rattle.utils.proofs.Names.{Scanned, scanned_begins, scanned_colon, scanned_more, scanned_done}
+use Rattle.utils.proofs.Names.{Scanned}
 use lib.ListN.{length}
 use Prim.Native.Nat.{◌-◌}
-use borrow.Author.Rules.{rules}
 use Rattle.utils.proofs.up_to_colon.Given as goal
 
 abbrev pub invariant-loop-i : goal.invariant-loop-i

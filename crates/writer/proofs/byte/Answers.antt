@@ -1,9 +1,7 @@
 -- `writer::byte` meets its contract: off, full, or stored.
 use Rattle.writer.specs.Put.{put_off, put_full, put_all}
 use Rattle.copy.specs.Copy.{wrote_one}
-use borrow.Author.Tests.{not-true, not-false}
 use native.Mathlib.Omega.{arith}
-use borrow.Author.Rules.{rules}
 use Rattle.writer.proofs.byte.Goals as goal
 
 pub returns-then-not-on : goal.returns-then-not-on

@@ -2,9 +2,7 @@
 use lib.ListN.{length-take}
 use Rattle.writer.specs.Put.{put_off, put_full, put_all, put-part}
 use Rattle.copy.specs.Copy.{put-fits}
-use borrow.Author.Tests.{not-true, not-false}
 use native.Mathlib.Omega.{arith}
-use borrow.Author.Rules.{rules}
 use Rattle.writer.proofs.bytes.Goals as goal
 
 pub returns-then-not-on : goal.returns-then-not-on

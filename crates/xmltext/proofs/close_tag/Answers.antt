@@ -1,7 +1,6 @@
 -- `xmltext::close_tag` meets its contract.
 use Rattle.spec.specs.Bytes.{ascii}
 use Rattle.xmltext.specs.Tags.{close_xml}
-use borrow.Author.Rules.{rules}
 use Rattle.xmltext.proofs.close_tag.Goals as goal
 
 pub returns : goal.returns

@@ -2,7 +2,6 @@
 use Rattle.spec.specs.Bytes.{ascii}
 use Rattle.spec.specs.XmlLiteral.{end_tag_xml}
 use Rattle.writer.specs.Put.{puts}
-use borrow.Author.Rules.{rules}
 use Rattle.xmltext.proofs.end_tag.Goals as goal
 
 pub returns : goal.returns

@@ -2,7 +2,6 @@
 use Rattle.spec.specs.Bytes.{ascii}
 use Rattle.writer.specs.Put.{puts}
 use Rattle.xmltext.specs.Tags.{open_xml}
-use borrow.Author.Rules.{rules}
 use Rattle.xmltext.proofs.open_tag.Goals as goal
 
 pub returns : goal.returns

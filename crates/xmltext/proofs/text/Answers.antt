@@ -1,6 +1,5 @@
 -- `xmltext::text` meets its contract.
 use Rattle.spec.specs.XmlLiteral.{text_xml}
-use borrow.Author.Rules.{rules}
 use Rattle.xmltext.proofs.text.Goals as goal
 
 pub returns : goal.returns

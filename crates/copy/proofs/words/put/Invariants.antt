@@ -1,9 +1,7 @@
 -- `copy::words::put` meets its contract. The loop's invariant: the first `i` words of `src` stand in `dst` from `at` on, and all of them fit.
-use Rattle.copy.specs.Copy.{Copied, copied-begins, copied_more, copied_done, put_none}
+use Rattle.copy.specs.Copy.{Copied}
 use lib.ListN.{length}
 use Prim.Native.Nat.{◌-◌}
-use native.Mathlib.Omega.{arith}
-use borrow.Author.Rules.{rules}
 use Rattle.copy.proofs.words.put.Given as goal
 
 abbrev pub invariant-loop-i : goal.invariant-loop-i

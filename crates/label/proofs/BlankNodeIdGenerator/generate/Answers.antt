@@ -6,7 +6,6 @@ use Rattle.spec.specs.Limits.{most_labels}
 use Rattle.spec.specs.NTriples.{digits, label}
 use Rattle.label.specs.Label.{generates_none, generates_next}
 use native.Mathlib.Omega.{arith}
-use borrow.Author.Rules.{rules}
 use Rattle.label.proofs.BlankNodeIdGenerator.generate.Goals as goal
 
 pub returns-then-counter-ge-MOST_LABELS : goal.returns-then-counter-ge-MOST_LABELS

@@ -1,8 +1,7 @@
 -- `label::Decimal::of` meets its contract.
 use Rattle.spec.specs.NTriples.{digits}
-use Rattle.label.specs.Digits.{Filled, filled_begins, filled_room, filled_more, filled_done}
+use Rattle.label.specs.Digits.{filled_begins, filled_room, filled_more, filled_done}
 use native.Mathlib.Omega.{arith}
-use borrow.Author.Rules.{rules}
 use Rattle.label.proofs.Decimal.of.Goals as goal
 
 pub loop-w-init : goal.loop-w-init

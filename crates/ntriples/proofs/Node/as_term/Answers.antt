@@ -1,7 +1,6 @@
 -- `ntriples::Node::as_term` meets its contract.
 use mathlib.Core.Path.{refl}
 use Rattle.ntriples.specs.Terms.{as_term}
-use borrow.Author.Rules.{rules}
 use Rattle.ntriples.proofs.Node.as_term.Goals as goal
 
 pub returns-in-Named : goal.returns-in-Named

@@ -1,12 +1,8 @@
 -- `resolve::parts::among` meets its contract.
-use Prim.Native.Nat.{◌-◌}
-use lib.ListN.{length}
-use lib.Dec.{eqb}
 use borrow.Author.Tests.{ne_eqb}
-use Rattle.copy.specs.Scan.{Sought, sought_begins, sought_more}
+use Rattle.copy.specs.Scan.{sought_begins, sought_more}
 use Rattle.resolve.specs.Parts.{among_stop, among_done}
 use native.Mathlib.Omega.{arith}
-use borrow.Author.Rules.{rules}
 use Rattle.resolve.proofs.parts.among.Goals as goal
 
 pub loop-i-init : goal.loop-i-init

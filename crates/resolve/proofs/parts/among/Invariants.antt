@@ -2,11 +2,7 @@
 use Prim.Native.Nat.{◌-◌}
 use lib.ListN.{length}
 use lib.Dec.{eqb}
-use borrow.Author.Tests.{ne_eqb}
-use Rattle.copy.specs.Scan.{Sought, sought_begins, sought_more}
-use Rattle.resolve.specs.Parts.{among_stop, among_done}
-use native.Mathlib.Omega.{arith}
-use borrow.Author.Rules.{rules}
+use Rattle.copy.specs.Scan.{Sought}
 use Rattle.resolve.proofs.parts.among.Given as goal
 
 abbrev pub invariant-loop-i : goal.invariant-loop-i

@@ -1,10 +1,8 @@
 -- `resolve::parts::marked` meets its contract.
 use mathlib.Core.Path.{sym, ◌∙◌}
-use borrow.Author.Tests.{not-true, not-false}
 use Rattle.copy.specs.Texts.{begins-length}
 use Rattle.resolve.specs.Parts.{marked_none, marked_there, marked-within}
 use native.Mathlib.Omega.{arith}
-use borrow.Author.Rules.{rules}
 use Rattle.resolve.proofs.parts.marked.Goals as goal
 
 pub returns-then-not-begins : goal.returns-then-not-begins

@@ -2,7 +2,6 @@
 use Rattle.spec.specs.Bytes.{ascii}
 use Rattle.resolve.specs.Parts.{parts_of, ordered, scheme-ends, authority_ends, path_ends, query-ends, parts_are}
 use native.Mathlib.Omega.{arith}
-use borrow.Author.Rules.{rules}
 use Rattle.resolve.proofs.parts.parse.Goals as goal
 
 pub slice_bounds-marked-count : goal.slice_bounds-marked-count

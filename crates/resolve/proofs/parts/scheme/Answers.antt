@@ -4,7 +4,6 @@ use Rattle.copy.specs.Texts.{length_up_to}
 use Rattle.spec.specs.Bytes.{ascii, among}
 use Rattle.resolve.specs.Parts.{name_size, scheme_unnamed, scheme_unended, scheme-other, scheme_there}
 use native.Mathlib.Omega.{arith}
-use borrow.Author.Rules.{rules}
 use Rattle.resolve.proofs.parts.scheme.Goals as goal
 
 pub returns-then-n-eq0 : goal.returns-then-n-eq0

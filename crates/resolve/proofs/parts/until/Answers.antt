@@ -1,11 +1,7 @@
 -- `resolve::parts::until` meets its contract.
-use Prim.Native.Nat.{◌-◌}
 use mathlib.Core.Path.{sym, ◌∙◌}
-use lib.ListN.{length}
-use Rattle.spec.specs.Bytes.{among}
-use Rattle.copy.specs.Scan.{Sought, sought_begins, sought_stop, sought_more, sought_done}
+use Rattle.copy.specs.Scan.{sought_begins, sought_stop, sought_more, sought_done}
 use native.Mathlib.Omega.{arith}
-use borrow.Author.Rules.{rules}
 use Rattle.resolve.proofs.parts.until.Goals as goal
 
 pub loop-i-init : goal.loop-i-init

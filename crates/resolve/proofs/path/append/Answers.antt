@@ -1,8 +1,7 @@
 -- `resolve::path::append` meets its contract.
 use mathlib.Core.Path.{sym, ◌∙◌}
-use borrow.Author.Tests.{not-true, not-false, leb-true, leb-false}
+use borrow.Author.Tests.{leb-true, leb-false}
 use Rattle.resolve.specs.Output.{appended_beyond, appended_over}
-use borrow.Author.Rules.{rules}
 use Rattle.resolve.proofs.path.append.Goals as goal
 
 pub returns-then-out-gt0 : goal.returns-then-out-gt0

@@ -1,6 +1,5 @@
 -- `resolve::path::begins_segment` meets its contract.
 use Rattle.resolve.specs.Segments.{starts_at, starts_behind}
-use borrow.Author.Rules.{rules}
 use Rattle.resolve.proofs.path.begins_segment.Goals as goal
 
 pub returns-then-at-eq0 : goal.returns-then-at-eq0

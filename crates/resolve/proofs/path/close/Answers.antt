@@ -1,7 +1,6 @@
 -- `resolve::path::close` meets its contract.
 use borrow.Author.Tests.{not-true, not-false}
 use Rattle.resolve.specs.Output.{closed-inside, closed_first, closed_end}
-use borrow.Author.Rules.{rules}
 use Rattle.resolve.proofs.path.close.Goals as goal
 
 pub returns-then-not-last : goal.returns-then-not-last

@@ -1,9 +1,7 @@
 -- `resolve::path::is_simple` meets its contract.
 use mathlib.Core.Path.{sym, ◌∙◌}
 use mathlib.Core.Bool.{false≢true}
-use borrow.Author.Tests.{not-true, not-false, leb-true}
-use native.Mathlib.Omega.{arith}
-use borrow.Author.Rules.{rules}
+use borrow.Author.Tests.{not-true, leb-true}
 use Rattle.resolve.proofs.path.is_simple.Goals as goal
 
 pub returns-then-out-gt0 : goal.returns-then-out-gt0

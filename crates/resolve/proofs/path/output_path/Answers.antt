@@ -1,7 +1,6 @@
 -- `resolve::path::output_path` meets its contract: at once, or one by one.
 use Rattle.resolve.specs.Output.{whole}
 use native.Mathlib.Omega.{arith}
-use borrow.Author.Rules.{rules}
 use Rattle.resolve.proofs.path.output_path.Goals as goal
 
 pub store-requires : goal.store-requires

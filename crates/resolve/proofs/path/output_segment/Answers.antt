@@ -2,7 +2,6 @@
 use Rattle.resolve.specs.Output.{output_here, output-parent, output-other}
 use mathlib.Core.Path.{sym, ◌∙◌}
 use Rattle.spec.specs.Bytes.{ascii}
-use borrow.Author.Rules.{rules}
 use Rattle.resolve.proofs.path.output_segment.Goals as goal
 
 pub shape_of-area-then-equal : goal.shape_of-area-then-equal

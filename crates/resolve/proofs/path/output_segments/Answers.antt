@@ -1,11 +1,8 @@
 -- `resolve::path::output_segments` meets its contract.
 use mathlib.Core.Path.{◌∙◌}
-use Prim.Native.Nat.{◌-◌}
-use lib.ListN.{length}
 use Rattle.copy.specs.Copy.{rest_of}
-use Rattle.resolve.specs.Output.{Going, going_begins, going_more, going_done, end_within, segment_plain, next_end}
+use Rattle.resolve.specs.Output.{going_begins, going_more, going_done, end_within, segment_plain, next_end}
 use native.Mathlib.Omega.{arith}
-use borrow.Author.Rules.{rules}
 use Rattle.resolve.proofs.path.output_segments.Goals as goal
 
 pub loop-end-init : goal.loop-end-init

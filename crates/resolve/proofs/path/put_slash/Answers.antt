@@ -1,8 +1,6 @@
 -- `resolve::path::put_slash` meets its contract.
-use borrow.Author.Tests.{not-true, not-false}
 use Rattle.resolve.specs.Output.{slash_none, slash_put, slash_room}
 use native.Mathlib.Omega.{arith}
-use borrow.Author.Rules.{rules}
 use Rattle.resolve.proofs.path.put_slash.Goals as goal
 
 pub returns-then-not-begun : goal.returns-then-not-begun

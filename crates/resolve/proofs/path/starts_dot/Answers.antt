@@ -1,12 +1,9 @@
 -- `resolve::path::starts_dot` meets its contract.
 use mathlib.Core.Path.{sym, ◌∙◌}
 use mathlib.Core.Bool.{false≢true}
-use Prim.Native.Nat.{◌-◌}
-use lib.ListN.{length}
 use Rattle.copy.specs.Copy.{rest_of}
-use Rattle.resolve.specs.Segments.{Seeking, seeking_begins, seeking_more, seeking_done}
+use Rattle.resolve.specs.Segments.{seeking_begins, seeking_more, seeking_done}
 use native.Mathlib.Omega.{arith}
-use borrow.Author.Rules.{rules}
 use Rattle.resolve.proofs.path.starts_dot.Goals as goal
 
 pub loop-at-init : goal.loop-at-init

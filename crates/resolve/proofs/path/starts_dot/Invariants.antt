@@ -1,12 +1,7 @@
 -- `resolve::path::starts_dot` meets its contract. The loop's invariant: a "." stands at `at`, and none that begins a segment before it.
-use mathlib.Core.Path.{sym, ◌∙◌}
-use mathlib.Core.Bool.{false≢true}
 use Prim.Native.Nat.{◌-◌}
 use lib.ListN.{length}
-use Rattle.copy.specs.Copy.{rest_of}
-use Rattle.resolve.specs.Segments.{Seeking, seeking_begins, seeking_more, seeking_done}
-use native.Mathlib.Omega.{arith}
-use borrow.Author.Rules.{rules}
+use Rattle.resolve.specs.Segments.{Seeking}
 use Rattle.resolve.proofs.path.starts_dot.Given as goal
 
 abbrev pub invariant-loop-at : goal.invariant-loop-at

@@ -1,6 +1,5 @@
 -- `resolve::path::step_back` meets its contract.
 use Rattle.resolve.specs.Output.{stepped_beyond, stepped_back}
-use borrow.Author.Rules.{rules}
 use Rattle.resolve.proofs.path.step_back.Goals as goal
 
 pub returns-then-out-gt0 : goal.returns-then-out-gt0

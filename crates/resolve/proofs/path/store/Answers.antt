@@ -1,7 +1,6 @@
 -- `resolve::path::store` meets its contract.
 use mathlib.Core.Path.{◌∙◌}
 use Rattle.resolve.specs.Output.{stored}
-use borrow.Author.Rules.{rules}
 use Rattle.resolve.proofs.path.store.Goals as goal
 
 pub shape_of-area : goal.shape_of-area

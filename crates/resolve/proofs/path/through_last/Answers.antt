@@ -1,7 +1,6 @@
 -- `resolve::path::through_last` meets its contract.
-use Rattle.resolve.specs.Last.{Backwards, backwards_begins, backwards_stop, backwards_less, backwards_done}
+use Rattle.resolve.specs.Last.{backwards_begins, backwards_stop, backwards_less, backwards_done}
 use native.Mathlib.Omega.{arith}
-use borrow.Author.Rules.{rules}
 use Rattle.resolve.proofs.path.through_last.Goals as goal
 
 pub loop-n-init : goal.loop-n-init

@@ -1,7 +1,5 @@
 -- `resolve::path::through_last` meets its contract. The loop's invariant: there is no "/" from `n` on.
-use Rattle.resolve.specs.Last.{Backwards, backwards_begins, backwards_stop, backwards_less, backwards_done}
-use native.Mathlib.Omega.{arith}
-use borrow.Author.Rules.{rules}
+use Rattle.resolve.specs.Last.{Backwards}
 use Rattle.resolve.proofs.path.through_last.Given as goal
 
 abbrev pub invariant-loop-n : goal.invariant-loop-n

@@ -1,6 +1,5 @@
 -- `resolve::path::without_last` meets its contract.
 use Rattle.resolve.specs.Last.{without_none, without-some}
-use borrow.Author.Rules.{rules}
 use Rattle.resolve.proofs.path.without_last.Goals as goal
 
 pub returns-then-n-eq0 : goal.returns-then-n-eq0

@@ -2,7 +2,6 @@
 use Rattle.resolve.specs.Parts.{ordered_of}
 use Rattle.resolve.specs.Target.{leads_path, leads_bare, leads_none}
 use native.Mathlib.Omega.{arith}
-use borrow.Author.Rules.{rules}
 use Rattle.resolve.proofs.target.merge.Goals as goal
 
 pub returns-then-path-authority : goal.returns-then-path-authority

@@ -2,7 +2,6 @@
 use Rattle.resolve.specs.Parts.{ordered, ordered_of, fragment_at}
 use Rattle.resolve.specs.Target.{aimed_scheme, aimed_authority, aimed_query, aimed_fragment, aimed_absolute, aimed_merged}
 use native.Mathlib.Omega.{arith}
-use borrow.Author.Rules.{rules}
 use Rattle.resolve.proofs.target.transform.Goals as goal
 
 pub returns-then-r-gt0 : goal.returns-then-r-gt0

@@ -2,7 +2,6 @@
 use mathlib.Core.Path.{◌∙◌}
 use Rattle.start_names.specs.Classes.{class_none, class_loaded}
 use native.Mathlib.Omega.{arith}
-use borrow.Author.Rules.{rules}
 use Rattle.start_names.proofs.Class.load.Goals as goal
 
 pub returns-then-classes-j : goal.returns-then-classes-j

@@ -2,7 +2,6 @@
 use Rattle.start_names.specs.Classes.{one_class}
 use mathlib.Core.Bool.{false≢true}
 use native.Mathlib.Omega.{arith}
-use borrow.Author.Rules.{rules}
 use Rattle.start_names.proofs.Class.same.Goals as goal
 
 pub returns-then-classes-j : goal.returns-then-classes-j

@@ -2,7 +2,6 @@
 use lib.ListN.{length-set}
 use Rattle.start_names.specs.Classes.{class_refused, class_stored}
 use native.Mathlib.Omega.{arith}
-use borrow.Author.Rules.{rules}
 use Rattle.start_names.proofs.Class.store.Goals as goal
 
 pub returns-then-classes-j : goal.returns-then-classes-j

@@ -1,5 +1,4 @@
 -- `start_names::Class::words` meets its contract.
-use borrow.Author.Rules.{rules}
 use Rattle.start_names.proofs.Class.words.Goals as goal
 
 pub returns-in-Declaration : goal.returns-in-Declaration

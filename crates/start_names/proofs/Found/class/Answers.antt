@@ -1,5 +1,4 @@
 -- `start_names::Found::class` meets its contract. An arm for each answer.
-use borrow.Author.Rules.{rules}
 use Rattle.start_names.proofs.Found.class.Goals as goal
 
 pub returns-in-Own : goal.returns-in-Own

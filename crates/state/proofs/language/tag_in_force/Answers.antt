@@ -1,6 +1,5 @@
 -- `state::language::tag_in_force` meets its contract. By what the element says.
 use Rattle.state.specs.Language.{tag_in_force}
-use borrow.Author.Rules.{rules}
 use Rattle.state.proofs.language.tag_in_force.Goals as goal
 
 pub returns-in-Unsaid : goal.returns-in-Unsaid

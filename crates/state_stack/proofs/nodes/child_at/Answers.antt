@@ -1,7 +1,6 @@
 -- `state_stack::nodes::child_at` meets its contract. A law of specs/ for each return, with the tests that led there.
 use Rattle.state_stack.specs.Take.{no_child-below, no_child-above, a_child}
 use native.Mathlib.Omega.{arith}
-use borrow.Author.Rules.{rules}
 use Rattle.state_stack.proofs.nodes.child_at.Goals as goal
 
 pub returns-then-e-lt4 : goal.returns-then-e-lt4

@@ -3,7 +3,6 @@ use mathlib.Core.Path.{refl}
 use Rattle.spec.specs.Limits.{work_store_bytes}
 use Rattle.state_stack.specs.Take.{close_store, close_other, close_none, close_full, close_done}
 use borrow.Author.Tests.{not-true, not-false}
-use Rattle.state.specs.Tests.{yes, no}
 use native.Mathlib.Omega.{arith}
 use borrow.Author.Rules.{rules}
 use Rattle.std.proofs.Common.{sym}

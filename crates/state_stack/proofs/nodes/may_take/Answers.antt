@@ -2,7 +2,6 @@
 use Rattle.spec.specs.Limits as L
 use Rattle.state_stack.specs.Take.{may_take}
 use mathlib.Core.Path.{refl}
-use borrow.Author.Rules.{rules}
 use Rattle.state_stack.proofs.nodes.may_take.Goals as goal
 
 pub returns : goal.returns

@@ -1,8 +1,6 @@
 -- `state_stack::nodes::shift` meets its contract.
-use Rattle.state_stack.specs.Take.{Shifted, shifted_begins, shifted_more, shifted_done}
-use Prim.Native.Nat.{◌-◌}
+use Rattle.state_stack.specs.Take.{shifted_begins, shifted_more, shifted_done}
 use native.Mathlib.Omega.{arith}
-use borrow.Author.Rules.{rules}
 use Rattle.state_stack.proofs.nodes.shift.Goals as goal
 
 pub loop-i-init : goal.loop-i-init

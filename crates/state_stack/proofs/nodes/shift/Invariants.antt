@@ -1,8 +1,6 @@
 -- `state_stack::nodes::shift` meets its contract. The loop's invariant: the first `i` bytes have moved down, and what lies from there on is as it was.
-use Rattle.state_stack.specs.Take.{Shifted, shifted_begins, shifted_more, shifted_done}
+use Rattle.state_stack.specs.Take.{Shifted}
 use Prim.Native.Nat.{◌-◌}
-use native.Mathlib.Omega.{arith}
-use borrow.Author.Rules.{rules}
 use Rattle.state_stack.proofs.nodes.shift.Given as goal
 
 abbrev pub invariant-loop-i : goal.invariant-loop-i

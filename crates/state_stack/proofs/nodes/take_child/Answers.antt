@@ -1,10 +1,8 @@
 -- `state_stack::nodes::take_child` meets its contract. A law of specs/ for each return, with the tests that led there.
 use Rattle.spec.specs.Limits.{work_store_bytes}
 use Rattle.state_stack.specs.Take.{movable, child_none, child-many, child-made}
-use Rattle.state.specs.Tests.{yes, no}
 use mathlib.Core.Path.{◌∙◌}
 use native.Mathlib.Omega.{arith}
-use borrow.Author.Rules.{rules}
 use Rattle.std.proofs.Common.{sym}
 use Rattle.state_stack.proofs.nodes.take_child.Goals as goal
 

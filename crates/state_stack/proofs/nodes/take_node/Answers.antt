@@ -1,7 +1,6 @@
 -- `state_stack::nodes::take_node` meets its contract. A law of specs/ for each return, with the tests that led there.
 use Rattle.state_stack.specs.Take.{took_object, took_child, took_none}
 use mathlib.Core.Path.{◌∙◌, sym}
-use borrow.Author.Rules.{rules}
 use Rattle.state_stack.proofs.nodes.take_node.Goals as goal
 
 pub shape_of-frames-then-same_kind : goal.shape_of-frames-then-same_kind

@@ -1,8 +1,5 @@
 -- `packets::count_rdf` meets its contract. By whether the wrapper is on top.
-use Rattle.state.specs.Tests.{yes, no}
 use Rattle.state_stack.specs.Packets.{no_wrapper, wrapper_had}
-use native.Mathlib.Omega.{arith}
-use borrow.Author.Rules.{rules}
 use Rattle.std.proofs.Common.{sym}
 use Rattle.std.proofs.Common.{◌∙◌}
 use Rattle.state_stack.proofs.packets.count_rdf.Goals as goal

@@ -1,7 +1,5 @@
 -- `packets::mark` meets its contract. Where an element is open its frame is stored.
 use Rattle.state_stack.specs.Packets.{mark-empty, mark_done}
-use native.Mathlib.Omega.{arith}
-use borrow.Author.Rules.{rules}
 use Rattle.state_stack.proofs.packets.mark.Goals as goal
 
 pub returns-then-r-eq0 : goal.returns-then-r-eq0

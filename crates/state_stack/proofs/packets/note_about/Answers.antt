@@ -1,9 +1,7 @@
 -- `packets::note_about` meets its contract. By whether an rdf:RDF is on top that waits.
 use mathlib.Core.Path.{refl}
-use Rattle.state.specs.Tests.{yes, no}
 use Rattle.state_stack.specs.Packets.{no_rdf, rdf-noted, about-noted}
 use native.Mathlib.Omega.{arith}
-use borrow.Author.Rules.{rules}
 use Rattle.std.proofs.Common.{sym}
 use Rattle.std.proofs.Common.{◌∙◌}
 use Rattle.state_stack.proofs.packets.note_about.Goals as goal

@@ -1,8 +1,6 @@
 -- `packets::note_li` meets its contract. By whether an rdf:Alt is on top that waits.
-use Rattle.state.specs.Tests.{yes, no}
 use Rattle.state_stack.specs.Packets.{no_node, not_waiting, li-noted}
 use native.Mathlib.Omega.{arith}
-use borrow.Author.Rules.{rules}
 use Rattle.std.proofs.Common.{sym}
 use Rattle.std.proofs.Common.{◌∙◌}
 use Rattle.state_stack.proofs.packets.note_li.Goals as goal

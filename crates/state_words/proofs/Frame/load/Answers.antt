@@ -2,7 +2,6 @@
 use Rattle.state_words.specs.Words.{frame_none, frame_loaded}
 use mathlib.Core.Path.{◌∙◌}
 use native.Mathlib.Omega.{arith}
-use borrow.Author.Rules.{rules}
 use Rattle.state_words.proofs.Frame.load.Goals as goal
 
 pub returns-then-frames-i : goal.returns-then-frames-i

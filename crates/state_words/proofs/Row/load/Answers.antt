@@ -1,7 +1,6 @@
 -- `state_words::Row::load` meets its contract. Three words of the row.
 use Rattle.state_words.specs.Words.{row_none, row_loaded}
 use native.Mathlib.Omega.{arith}
-use borrow.Author.Rules.{rules}
 use Rattle.state_words.proofs.Row.load.Goals as goal
 
 pub returns-then-rows-i : goal.returns-then-rows-i

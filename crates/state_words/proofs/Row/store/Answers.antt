@@ -2,7 +2,6 @@
 use lib.ListN.{length-set}
 use Rattle.state_words.specs.Words.{row-refused, row_stored}
 use native.Mathlib.Omega.{arith}
-use borrow.Author.Rules.{rules}
 use Rattle.state_words.proofs.Row.store.Goals as goal
 
 pub returns-then-rows-i : goal.returns-then-rows-i

@@ -1,11 +1,8 @@
 -- `blocks::store` meets its contract.
-use Prim.Native.Nat.{◌-◌}
 use mathlib.Core.Path.{◌∙◌}
-use lib.ListN.{length}
 use native.Mathlib.Omega.{arith}
 use Rattle.copy.specs.Copy.{put-fits}
-use Rattle.writer.specs.Blocks.{block, Stored, stored_begins, stored_more, stored_done}
-use borrow.Author.Rules.{rules}
+use Rattle.writer.specs.Blocks.{block, stored_begins, stored_more, stored_done}
 use Rattle.writer.proofs.blocks.store.Goals as goal
 
 pub returns-then-src-lt-BLOCK : goal.returns-then-src-lt-BLOCK

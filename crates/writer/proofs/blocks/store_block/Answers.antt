@@ -1,11 +1,9 @@
 -- `blocks::store_block` meets its contract.
-use Prim.Native.Nat.{◌-◌}
-use mathlib.Core.Path.{◌≡◌, refl}
-use lib.ListN.{length, take, length-take}
+use mathlib.Core.Path.{refl}
+use lib.ListN.{length-take}
 use native.Mathlib.Omega.{arith}
-use Rattle.copy.specs.Copy.{Copied, copied_more}
+use Rattle.copy.specs.Copy.{copied_more}
 use Rattle.writer.specs.Blocks.{block, block-begins, block_done}
-use borrow.Author.Rules.{rules}
 use Rattle.writer.proofs.blocks.store_block.Goals as goal
 
 pub slice_bounds-put-end-2 : goal.slice_bounds-put-end-2

@@ -1,11 +1,9 @@
 -- `blocks::store_block` meets its contract. The loop's invariant: the array holds the first block of `src`, and its first `i` bytes are stored.
 use Prim.Native.Nat.{◌-◌}
-use mathlib.Core.Path.{◌≡◌, refl}
-use lib.ListN.{length, take, length-take}
-use native.Mathlib.Omega.{arith}
-use Rattle.copy.specs.Copy.{Copied, copied_more}
-use Rattle.writer.specs.Blocks.{block, block-begins, block_done}
-use borrow.Author.Rules.{rules}
+use mathlib.Core.Path.{◌≡◌}
+use lib.ListN.{length, take}
+use Rattle.copy.specs.Copy.{Copied}
+use Rattle.writer.specs.Blocks.{block}
 use Rattle.writer.proofs.blocks.store_block.Given as goal
 
 abbrev pub invariant-loop-i : goal.invariant-loop-i

@@ -2,7 +2,6 @@
 use lib.ListN.{length-take}
 use Rattle.writer.specs.Put.{put_as}
 use native.Mathlib.Omega.{arith}
-use borrow.Author.Rules.{rules}
 use Rattle.writer.proofs.coded.escape.Goals as goal
 
 pub slice_bounds-text-end : goal.slice_bounds-text-end

@@ -1,10 +1,6 @@
 -- `coded::escape_row` meets its contract.
-use Prim.Native.Nat.{◌-◌}
-use lib.ListN.{length}
-use Rattle.writer.specs.Rules.{byte_of}
-use Rattle.writer.specs.Coded.{Going, plain-begins, going_begins, going_byte, going_whole}
+use Rattle.writer.specs.Coded.{plain-begins, going_begins, going_byte, going_whole}
 use native.Mathlib.Omega.{arith}
-use borrow.Author.Rules.{rules}
 use Rattle.writer.proofs.coded.escape_row.Goals as goal
 
 pub loop-i-init : goal.loop-i-init

@@ -2,9 +2,7 @@
 use Prim.Native.Nat.{◌-◌}
 use lib.ListN.{length}
 use Rattle.writer.specs.Rules.{byte_of}
-use Rattle.writer.specs.Coded.{Going, plain-begins, going_begins, going_byte, going_whole}
-use native.Mathlib.Omega.{arith}
-use borrow.Author.Rules.{rules}
+use Rattle.writer.specs.Coded.{Going}
 use Rattle.writer.proofs.coded.escape_row.Given as goal
 
 abbrev pub invariant-loop-i : goal.invariant-loop-i

@@ -1,9 +1,6 @@
 -- `writer::coded::has_marked` meets its contract.
-use Prim.Native.Nat.{◌-◌}
-use Rattle.writer.specs.Rules.{byte_of}
-use Rattle.writer.specs.Coded.{Clean, clean_none, clean_more, clean_less}
+use Rattle.writer.specs.Coded.{clean_none, clean_more, clean_less}
 use native.Mathlib.Omega.{arith}
-use borrow.Author.Rules.{rules}
 use Rattle.writer.proofs.coded.has_marked.Goals as goal
 
 pub loop-i-init : goal.loop-i-init

@@ -1,9 +1,7 @@
 -- `writer::coded::has_marked` meets its contract. The loop's invariant: unless one was marked, the bytes before `i` are written as they are.
 use Prim.Native.Nat.{◌-◌}
 use Rattle.writer.specs.Rules.{byte_of}
-use Rattle.writer.specs.Coded.{Clean, clean_none, clean_more, clean_less}
-use native.Mathlib.Omega.{arith}
-use borrow.Author.Rules.{rules}
+use Rattle.writer.specs.Coded.{Clean}
 use Rattle.writer.proofs.coded.has_marked.Given as goal
 
 abbrev pub invariant-loop-i : goal.invariant-loop-i

@@ -1,5 +1,4 @@
 -- `coded::is_marked` meets its contract by cases of the rule.
-use borrow.Author.Rules.{rules}
 use Rattle.writer.proofs.coded.is_marked.Goals as goal
 
 pub returns-in-Iri : goal.returns-in-Iri

@@ -1,7 +1,6 @@
 -- `coded::row` meets its contract. The loop's invariant: one byte at least, and no more than there are.
 use Prim.Native.Nat.{◌-◌, ◌<◌, ◌≤◌}
 use lib.ListN.{length}
-use borrow.Author.Rules.{rules}
 use Rattle.writer.proofs.coded.row.Given as goal
 
 abbrev pub invariant-loop-i : goal.invariant-loop-i

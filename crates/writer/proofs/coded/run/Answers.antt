@@ -1,10 +1,6 @@
 -- `coded::run` meets its contract.
-use Prim.Native.Nat.{◌-◌}
-use lib.ListN.{length}
-use Rattle.writer.specs.Rules.{byte_of}
-use Rattle.writer.specs.Coded.{Plain, plain_more}
+use Rattle.writer.specs.Coded.{plain_more}
 use native.Mathlib.Omega.{arith}
-use borrow.Author.Rules.{rules}
 use Rattle.writer.proofs.coded.run.Goals as goal
 
 pub loop-i-init : goal.loop-i-init

@@ -2,9 +2,7 @@
 use Prim.Native.Nat.{◌-◌}
 use lib.ListN.{length}
 use Rattle.writer.specs.Rules.{byte_of}
-use Rattle.writer.specs.Coded.{Plain, plain_more}
-use native.Mathlib.Omega.{arith}
-use borrow.Author.Rules.{rules}
+use Rattle.writer.specs.Coded.{Plain}
 use Rattle.writer.proofs.coded.run.Given as goal
 
 abbrev pub invariant-loop-i : goal.invariant-loop-i

@@ -1,10 +1,6 @@
 -- `coded::skip_blocks` meets its contract.
-use Prim.Native.Nat.{◌≤◌, ◌-◌}
-use Rattle.writer.specs.Rules.{byte_of}
-use Rattle.writer.specs.Coded.{Plain, plain-begins, plain-block, plain-last, plain_less}
+use Rattle.writer.specs.Coded.{plain-begins, plain-block, plain-last, plain_less}
 use native.Mathlib.Omega.{arith}
-use borrow.Author.Tests.{not-true}
-use borrow.Author.Rules.{rules}
 use Rattle.writer.proofs.coded.skip_blocks.Goals as goal
 
 pub returns-then-s-lt-BLOCK : goal.returns-then-s-lt-BLOCK

@@ -1,10 +1,7 @@
 -- `coded::skip_blocks` meets its contract. The loop's invariant: the bytes before the block are written as they are.
 use Prim.Native.Nat.{◌≤◌, ◌-◌}
 use Rattle.writer.specs.Rules.{byte_of}
-use Rattle.writer.specs.Coded.{Plain, plain-begins, plain-block, plain-last, plain_less}
-use native.Mathlib.Omega.{arith}
-use borrow.Author.Tests.{not-true}
-use borrow.Author.Rules.{rules}
+use Rattle.writer.specs.Coded.{Plain}
 use Rattle.writer.proofs.coded.skip_blocks.Given as goal
 
 abbrev pub invariant-loop-rule : goal.invariant-loop-rule

@@ -1,5 +1,4 @@
 -- `coded::spell` meets its contract by cases of the rule.
-use borrow.Author.Rules.{rules}
 use Rattle.writer.proofs.coded.spell.Goals as goal
 
 pub returns-in-Iri : goal.returns-in-Iri

@@ -1,11 +1,8 @@
 -- `coded::write` meets its contract.
-use Prim.Native.Nat.{◌-◌}
-use lib.ListN.{length, length-take, length-drop}
+use lib.ListN.{length-take, length-drop}
 use Rattle.copy.specs.Copy.{rest_of}
-use Rattle.writer.specs.Rules.{byte_of}
-use Rattle.writer.specs.Coded.{Going, going_begins, going_more, going_done, going_less}
+use Rattle.writer.specs.Coded.{going_begins, going_more, going_done, going_less}
 use native.Mathlib.Omega.{arith}
-use borrow.Author.Rules.{rules}
 use Rattle.writer.proofs.coded.write.Goals as goal
 
 pub slice_bounds-bytes-end : goal.slice_bounds-bytes-end

@@ -1,11 +1,8 @@
 -- `coded::write` meets its contract. The loop's invariant: whoever wrote the first run has written the first `i` bytes now.
 use Prim.Native.Nat.{◌-◌}
-use lib.ListN.{length, length-take, length-drop}
-use Rattle.copy.specs.Copy.{rest_of}
+use lib.ListN.{length}
 use Rattle.writer.specs.Rules.{byte_of}
-use Rattle.writer.specs.Coded.{Going, going_begins, going_more, going_done, going_less}
-use native.Mathlib.Omega.{arith}
-use borrow.Author.Rules.{rules}
+use Rattle.writer.specs.Coded.{Going}
 use Rattle.writer.proofs.coded.write.Given as goal
 
 abbrev pub invariant-loop-i : goal.invariant-loop-i

@@ -3,7 +3,6 @@ use borrow.Author.Tests.{lt-ltb, le-ltb}
 use Rattle.spec.specs.Bytes.{if◌then◌else◌}
 use Rattle.spec.specs.NTriples.{hex_digit}
 use native.Mathlib.Omega.{arith}
-use borrow.Author.Rules.{rules}
 use Rattle.writer.proofs.iriref.hex.Goals as goal
 
 pub returns-then-n-lt10 : goal.returns-then-n-lt10

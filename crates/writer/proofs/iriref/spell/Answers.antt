@@ -1,9 +1,7 @@
 -- `iriref::spell` meets its contract: the byte itself, or its two hex digits.
 use mathlib.Core.Path.{sym, ◌∙◌}
-use borrow.Author.Tests.{not-true, not-false}
 use Rattle.writer.specs.Words.{iri_same, iri_digits}
 use native.Mathlib.Omega.{arith}
-use borrow.Author.Rules.{rules}
 use Rattle.writer.proofs.iriref.spell.Goals as goal
 
 pub returns-then-not-is_forbidden : goal.returns-then-not-is_forbidden

@@ -2,7 +2,6 @@
 use Rattle.spec.specs.NTriples.{iri_byte}
 use Rattle.writer.specs.Coded.{coded_none}
 use native.Mathlib.Omega.{arith}
-use borrow.Author.Rules.{rules}
 use Rattle.writer.proofs.iriref.write.Goals as goal
 
 pub returns-then-s-eq0 : goal.returns-then-s-eq0

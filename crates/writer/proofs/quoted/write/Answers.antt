@@ -2,7 +2,6 @@
 use Rattle.spec.specs.NTriples.{literal_byte}
 use Rattle.writer.specs.Coded.{coded_none}
 use native.Mathlib.Omega.{arith}
-use borrow.Author.Rules.{rules}
 use Rattle.writer.proofs.quoted.write.Goals as goal
 
 pub returns-then-s-eq0 : goal.returns-then-s-eq0

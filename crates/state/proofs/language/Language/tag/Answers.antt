@@ -1,6 +1,5 @@
 -- `state::language::Language::tag` meets its contract. By what is in force.
 use Rattle.state.specs.Language.{tag_of_language}
-use borrow.Author.Rules.{rules}
 use Rattle.state.proofs.language.Language.tag.Goals as goal
 
 pub returns-in-None : goal.returns-in-None

@@ -1,6 +1,5 @@
 -- `state::language::Own::tag` meets its contract. By what it says.
 use Rattle.state.specs.Language.{tag_of_own}
-use borrow.Author.Rules.{rules}
 use Rattle.state.proofs.language.Own.tag.Goals as goal
 
 pub returns-in-Unsaid : goal.returns-in-Unsaid
