@@ -260,8 +260,9 @@ fn step(
     out: &mut [u8],
 ) -> State {
     let done = reader::step(state, work, ids, input, last, out);
+    let state = done.state;
     report(stdout, what, done);
-    done.state
+    state
 }
 
 // ---- texts

@@ -1,0 +1,7 @@
+-- `settle` meets its contract.
+use borrow.Author.Tests.{not-false}
+use borrow.Author.Rules.{rules}
+use Rattle.iceshaft.proofs.settle.Goals as goal
+
+pub returns : goal.returns
+returns c = (c.if-chosen.false, not-false _ c.if-not-chosen.false)

@@ -1,0 +1,7 @@
+-- `telling::tell_unknown` is safe: the line is no longer than what is lent for it.
+use borrow.Author.Rules.{rules}
+use Rattle.streams.specs.Telling.{line-size}
+use Rattle.iceshaft.proofs.telling.tell_unknown.Goals as goal
+
+pub slice_bounds-tell_line-end : goal.slice_bounds-tell_line-end
+slice_bounds-tell_line-end c = line-size c.unknown_line-n.ensures
