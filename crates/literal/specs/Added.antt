@@ -18,7 +18,7 @@ use Rattle.copy.specs.Copy.{part, wrote_part}
 use Rattle.writer.specs.Put.{Put, most, counted, put_wrote}
 use Rattle.state_words.specs.Parts.{END, FRAME}
 use Rattle.state_words.specs.declared.Kind.{Kind}
-use Rattle.state_words.specs.declared.Kind.TheVariants.{ParseTypeLiteralPropertyElt, ParseTypeOtherPropertyElt, Wrapper}
+use Rattle.state_words.specs.declared.Kind.TheVariants.{ParseTypeLiteralPropertyElt, ParseTypeOtherPropertyElt}
 use Rattle.state_words.specs.Words.{pick}
 use Rattle.state.specs.declared.Registers.{Registers}
 use Rattle.state.specs.Meaning.{at, start_of, elements_of}

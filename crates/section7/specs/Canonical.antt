@@ -1,6 +1,5 @@
 -- Exclusive XML Canonicalization 1.0, with comments and no inclusive prefixes: the text of an XML literal (7.2.17).
 use Rattle.std.specs.Prelude.{Bool, true, false, ◌&&◌, ◌||◌, not, List, [], ◌∷◌, ◌++◌, map, ℕ, eqb, ltb}
-use Rattle.std.proofs.Math.Option.{Option, none, some}
 use Rattle.spec.specs.Bytes.{Bytes, ascii, byte, if◌then◌else◌, same, is_empty, member, those}
 use Rattle.spec.specs.XmlNames.{prefix_of, local_of}
 use Rattle.spec.specs.Pyx.{Attribute, attribute}

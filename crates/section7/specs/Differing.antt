@@ -1,7 +1,7 @@
 -- An input for each clause of Differences, under its name: section 7 accepts the document with its triples, and the reader
 -- gives another answer.
 -- In the comments `..` stands for the declarations of rdf and e.
-use Rattle.std.specs.Prelude.{◌≡◌, refl, Bool, false, List, [], ◌∷◌, ◌++◌, ℕ}
+use Rattle.std.specs.Prelude.{◌≡◌, refl, Bool, false, List, [], ◌∷◌, ℕ}
 use Rattle.std.proofs.Math.Option.{Option, none, some}
 use Rattle.std.proofs.Common.{append-nil}
 use Prim.Native.String.{String}

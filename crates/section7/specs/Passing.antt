@@ -1,5 +1,5 @@
 -- 7 and 18 are given only where a limit is passed.
-use Rattle.std.specs.Prelude.{◌≡◌, Bool, true, false, ◌&&◌, ℕ, ◌+◌, leb, ltb}
+use Rattle.std.specs.Prelude.{◌≡◌, Bool, true, false, ℕ, ◌+◌, leb, ltb}
 use Rattle.std.proofs.Math.Path.{refl}
 use Rattle.std.proofs.Common.{sym, ◌∙◌}
 use Rattle.std.proofs.Math.Bool.{not}
@@ -12,12 +12,12 @@ use Rattle.spec.specs.Numbers.{Answer, refuse, good}
 use Rattle.spec.specs.declared.Refusal.{Refusal}
 use Rattle.spec.specs.declared.Refusal.TheVariants.{NotWellFormed, OverLimit, NoNamespace, NotNcName, BadLanguage, BadIri, RepeatedId, BadLabel, Reserved, TwoNames, StrayText, EmptyLiteral, LabelsSpent, ProfileBroken}
 use Rattle.spec.specs.Limits.{most_labels}
-use Rattle.spec.specs.XmlNames.{is_nc_name, local_of, prefix_of}
+use Rattle.spec.specs.XmlNames.{is_nc_name}
 use Rattle.spec.specs.Pyx.{Attribute, attribute, Event, opening, closing, text, instruction}
-use Rattle.spec.specs.Namespaces.{Binding, namespace, in_namespace, expand_element, is_declaration, expand_attribute, known_attribute}
+use Rattle.spec.specs.Namespaces.{Binding, in_namespace, expand_element, is_declaration, expand_attribute, known_attribute}
 use Rattle.spec.specs.Document.{Value, default, collection, literal, other, Property, Kind, rdf_rdf, wrapper, node_element, property_element, xml_element, Frame, Doc, with_frames, language_in_force, Place, outside, nodes, nodes_or_text, xml, properties, place_in, fits}
 use Rattle.spec.specs.XmlLang.{Language}
-use Rattle.spec.specs.StartTag.{Role, nothing, xml_lang, xml_base, rdf_ID, rdf_bag_id, rdf_node_id, rdf_about, rdf_resource, rdf_datatype, rdf_parse_type, rdf_type, forbidden, property, role_of, judge, known, Meaning, means, meaning, resolved, Tag, read_tag, is_short}
+use Rattle.spec.specs.StartTag.{Role, nothing, xml_lang, xml_base, rdf_ID, rdf_bag_id, rdf_node_id, rdf_about, rdf_resource, rdf_datatype, rdf_parse_type, rdf_type, forbidden, property, role_of, judge, known, means, meaning, resolved, Tag, read_tag, is_short}
 use Rattle.spec.specs.Productions.{Opened, one_more, open_node, object_of, open_with_node, open_default, open_resource, open_with, no_parse_type, as_collection, as_resource, as_literal, as_other, ParseType, open_as, open_property, open_root}
 use Rattle.spec.specs.NTriples.{Subject}
 use Rattle.spec.specs.Opening.{Step, counts_fit, mode_rules, under_rules, copy_element, open_element, open_in, on_opening}

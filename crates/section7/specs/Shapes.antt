@@ -1,10 +1,10 @@
 -- What the productions ask of attributes and children alone, as a test: what fails it is not in the grammar.
-use Rattle.std.specs.Prelude.{◌≡◌, Bool, true, false, ◌&&◌, ◌||◌, not, List, [], ◌∷◌, ◌++◌, ℕ, suc, eqb, length}
+use Rattle.std.specs.Prelude.{◌≡◌, Bool, true, false, ◌&&◌, ◌||◌, List, [], ◌∷◌, ◌++◌, ℕ, suc, eqb, length}
 use Rattle.std.proofs.Math.Path.{refl}
-use Rattle.std.proofs.Common.{sym, ◌∙◌, ap}
-use Rattle.std.proofs.lemmas.Bool.{false≢true, not-true}
+use Rattle.std.proofs.Common.{◌∙◌, ap}
+use Rattle.std.proofs.lemmas.Bool.{not-true}
 use Rattle.std.proofs.Math.Option.{Option, none, some}
-use Rattle.spec.specs.Bytes.{Bytes, ascii, if◌then◌else◌, same, is_empty, is_some, member, All}
+use Rattle.spec.specs.Bytes.{Bytes, ascii, if◌then◌else◌, same, is_empty, member}
 use Rattle.spec.specs.Pyx.{Attribute}
 use Rattle.spec.specs.Namespaces.{declared}
 use Rattle.spec.specs.Rdf.{rdf}

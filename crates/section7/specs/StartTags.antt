@@ -32,7 +32,7 @@ use Rattle.spec.specs.RdfXml.{next, on_event}
 use Rattle.theorems.specs.Always.{always_bind, always_any, always_after, always_self, always_good}
 use Rattle.theorems.specs.Rules.{no_rules}
 use Rattle.theorems.specs.Roles.{or_none, name_in}
-use Rattle.section7.specs.Events.{Context, written, target, language_under, inside, AttributeEvent, attributes, uri_of, is_reserved_term, is_named}
+use Rattle.section7.specs.Events.{Context, written, target, language_under, inside, AttributeEvent, uri_of, is_reserved_term, is_named}
 use Rattle.section7.specs.Grammar.{value, values, is_rdf_id, all_resolved, type_triple, type_triples, Identifier, under, identifier, entered, fragment, iri_of_identifier, StartElement, Used, attrs, node_id}
 use Rattle.section7.specs.Differences.{says, is_free_label, NoDifferenceInTag, OneIriEach}
 use Rattle.section7.specs.Reading.{Gives, Steps, doc, context}

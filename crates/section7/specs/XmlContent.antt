@@ -1,23 +1,22 @@
 -- 7.2.17: the events of XML content inside a parseType Literal.
-use Rattle.std.specs.Prelude.{◌≡◌, Bool, true, false, ◌&&◌, not}
+use Rattle.std.specs.Prelude.{◌≡◌, true, false, ◌&&◌, not}
 use Rattle.std.proofs.Math.Path.{refl, sym, ap}
 use Rattle.std.proofs.Common.{◌∙◌}
-use Rattle.std.proofs.lemmas.Bool.{false≢true}
-use Rattle.std.proofs.Math.Option.{Option, none, some}
+use Rattle.std.proofs.Math.Option.{Option, none}
 use mathlib.Core.List.{List, [], ◌∷◌, ◌++◌, map, append_assoc, append-nil}
 use Rattle.spec.specs.Bytes.{Bytes, if◌then◌else◌, same, is_empty, member, repeats, each, All, ◌>>=◌, ◌>>◌, require◌or◌}
-use Rattle.spec.specs.Numbers.{Answer, refuse, good}
-use Rattle.spec.specs.declared.Refusal.TheVariants.{NotWellFormed, OverLimit, NoNamespace, EmptyLiteral}
+use Rattle.spec.specs.Numbers.{good}
+use Rattle.spec.specs.declared.Refusal.TheVariants.{NotWellFormed, OverLimit, EmptyLiteral}
 use Rattle.spec.specs.Pyx.{Attribute, attribute, Event, opening, closing, text}
-use Rattle.spec.specs.Namespaces.{Binding, declared, name_of, all_legal, is_known, known_attribute, repeats_written}
+use Rattle.spec.specs.Namespaces.{Binding, declared, name_of, all_legal, known_attribute, repeats_written}
 use Rattle.spec.specs.Rdf.{rdf}
-use Rattle.spec.specs.NTriples.{Triple, typed, coded}
+use Rattle.spec.specs.NTriples.{typed, coded}
 use Rattle.spec.specs.XmlLang.{unsaid}
-use Rattle.spec.specs.Document.{Value, literal, Property, Kind, property_element, xml_element, ordinary, Frame, Doc, with_frames, with_kind, is_xml_element, on_value, change_value, in_scope, language_in_force, Place, xml, place_in, in_kind, in_value}
+use Rattle.spec.specs.Document.{literal, Property, property_element, xml_element, ordinary, Frame, Doc, with_frames, with_kind, is_xml_element, on_value, change_value, in_scope, xml, place_in, in_kind, in_value}
 use Rattle.spec.specs.Productions.{statement}
 use Rattle.spec.specs.XmlLiteral.{start_tag_xml, end_tag_xml, text_byte, text_xml, takes_xml, add_xml}
 use Rattle.spec.specs.Xmp.{starts_wrapper}
-use Rattle.spec.specs.Opening.{Step, is_second_root, copy_element, open_in, is_xml, repeated, on_opening}
+use Rattle.spec.specs.Opening.{is_second_root, copy_element, open_in, is_xml, repeated, on_opening}
 use Rattle.spec.specs.EndTag.{end_value, end_kind, close_element}
 use Rattle.spec.specs.RdfXml.{on_text, on_event, next}
 use Rattle.spec.proofs.Bytes.{same_refl}

@@ -1,5 +1,5 @@
 -- What is wrong with an attribute, if anything is.
-use Rattle.std.specs.Prelude.{◌≡◌, refl, Bool, true, false}
+use Rattle.std.specs.Prelude.{◌≡◌, true, false}
 use Rattle.spec.specs.Bytes.{Bytes, ◌>>◌, require◌or◌}
 use Rattle.spec.specs.Numbers.{Answer, refuse, good}
 use Rattle.spec.specs.declared.Refusal.TheVariants.{NotNcName, BadLabel, BadLanguage}

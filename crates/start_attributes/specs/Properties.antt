@@ -15,7 +15,6 @@ use Rattle.spec.specs.Numbers.{good}
 use Rattle.spec.specs.Pyx.{Attribute, attribute}
 use Rattle.spec.specs.Namespaces.{Binding, name_of, xml_name, joined, expand_attribute}
 use Rattle.spec.specs.StartTag.{property, role_number, same_role, role_of, property_attributes}
-use Rattle.copy.specs.Copy.{part}
 use Rattle.start_names.specs.declared.Class.{Class}
 use Rattle.start_names.specs.declared.Class.TheVariants.{Declaration, Unknown, Unprefixed, Xml, Own, Held}
 use Rattle.start_names.specs.Tag.{name_at, value_at, colon_at, front_of, back_of, attribute_at, Split, Splits}

@@ -1,5 +1,5 @@
 -- A start tag that was judged good is carried out: the document behind it keeps the limits, and is what the state means.
-use Rattle.std.specs.Prelude.{ℕ, ◌≡◌, refl, false, List, ◌∷◌, length, take}
+use Rattle.std.specs.Prelude.{ℕ, ◌≡◌, refl, false, List, length, take}
 use Rattle.std.proofs.Math.Path.{sym, ap}
 use Rattle.std.proofs.Common.{◌∙◌, arith, le-leb}
 use Rattle.std.proofs.Math.Bool.{true}
@@ -17,7 +17,7 @@ use Rattle.state_ids.specs.declared.Added.{Added}
 use Rattle.state_ids.specs.Ids.{ids_of, room_for, ValidIds, length_ids, total_ids}
 use Rattle.state_ids.specs.Adding.{has_room}
 use Rattle.state.specs.declared.Registers.{Registers}
-use Rattle.state.specs.Meaning.{start_of, elements_of, subject_below, doc_of}
+use Rattle.state.specs.Meaning.{subject_below, doc_of}
 use Rattle.state_stack.specs.Calls.{top_frame}
 use Rattle.state_stack.specs.Change.{holds-doc}
 use Rattle.state_inner.specs.Calls.{language_in}

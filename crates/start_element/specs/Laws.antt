@@ -8,7 +8,7 @@ use native.Mathlib.Omega.{arith}
 use Rattle.std.proofs.Math.ListN.{length}
 use Rattle.spec.specs.Bytes.{Bytes, if◌then◌else◌, size_of, total}
 use Rattle.spec.specs.Limits as L
-use Rattle.spec.specs.Namespaces.{Binding, declared}
+use Rattle.spec.specs.Namespaces.{declared}
 use Rattle.spec.specs.NTriples.{Subject, named}
 use Rattle.spec.specs.Document.{Kind as What, rdf_rdf, wrapper, node_element, property_element, xml_element, Part, Frame as Element, with_kind, with_part, kind_bytes, binding_bytes, frame_bytes, held_bytes}
 use Rattle.spec.specs.Productions.{is_li}
@@ -23,21 +23,19 @@ use Rattle.state_words.specs.Kept.{Kept, kept_all, kept_then, kept_less, kept_be
 use Rattle.state.specs.declared.Registers.{Registers}
 use Rattle.state.specs.declared.Flags.{Flags}
 use Rattle.state.specs.declared.Counts as state
-use Rattle.state.specs.Meaning.{at, first, span, bindings_of, what_of, part_of, element_of, subject_below, frames_of, inners_of, start_of, elements_of, doc_of}
+use Rattle.state.specs.Meaning.{span, what_of, element_of, subject_below, frames_of, inners_of, start_of, elements_of, doc_of}
 use Rattle.state.specs.Valid.{is_node, node_below, stands, Rising, Valid}
 use Rattle.state.specs.Language.{is_said}
 use Rattle.state.specs.Held.{held}
 use Rattle.state.specs.Stay.{bindings_kept}
 use Rattle.state_stack.specs.declared.Changed.{Changed}
-use Rattle.state_stack.specs.Change.{Holds, flat, labelled_to, labelled-holds, top_frame_lem, top_element}
+use Rattle.state_stack.specs.Change.{Holds, flat, labelled_to, labelled-holds, top_element}
 use Rattle.state_stack.specs.Calls.{frame_of, Pushes, may_push, top_frame, same_kind, CountsLi, may_count}
 use Rattle.state_stack.specs.Laws.{Bound, New, push_holds, top_deep, topmost, Numbered, li_may, li-holds, by}
 use Rattle.state_stack.specs.Packets.{HasRdf, NotesLi, NotesAbout, SameTop, note_li, note_about, note_part, is_wrapper_lem, had_rdf-holds, note_li-holds, note_about-holds, noted-counted, noted_twice, same_top, same_then, same-rdf, same-li, same-about, same-stands, same-below, li-same}
 use Rattle.start_names.specs.Tag.{attributes_of}
 use Rattle.start_element.specs.declared.Next.{Next}
 use Rattle.start_element.specs.declared.Parts.{Parts}
-use Rattle.start_element.specs.declared.Source.{Source}
-use Rattle.start_element.specs.declared.Source.TheVariants.{Missing, Own, Made}
 use Rattle.start_element.specs.Element.{text_of, new_element, Fitting}
 use Rattle.start_element.specs.Sizes.{parts_bytes, Measures, measured}
 use Rattle.start_element.specs.Rows.{Fits, Entered}

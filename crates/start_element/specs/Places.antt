@@ -7,7 +7,7 @@ use Rattle.std.proofs.Math.Dec.{eqb}
 use borrow.Author.Tests.{eqb-true, eq-eqb}
 use Rattle.spec.specs.Bytes.{Bytes}
 use Rattle.spec.specs.Limits.{most_labels}
-use Rattle.spec.specs.NTriples.{Subject, blank}
+use Rattle.spec.specs.NTriples.{Subject}
 use Rattle.copy.specs.Copy.{Put, Wrote, then, put-fits, wrote_none, wrote_same}
 use Rattle.state_words.specs.Parts.{NAME, BINDINGS, BASE, TAG, MAIN, ID, DATATYPE, TAIL, END, PLACES}
 use Rattle.state_words.specs.declared.Kind.{Kind}

@@ -1,31 +1,25 @@
 -- The form of a start tag outside Literal content: refusal 6, and the counts (7).
-use Rattle.std.specs.Prelude.{ℕ, zero, suc, ◌+◌, ◌-◌, ◌*◌, ◌/◌, ◌<◌, ◌≤◌, ◌≡◌, refl, Bool, true, false, ◌&&◌, ◌||◌, not, List, [], ◌∷◌, ◌++◌, eqb, leb, take}
+use Rattle.std.specs.Prelude.{ℕ, zero, suc, ◌+◌, ◌/◌, ◌<◌, ◌≤◌, ◌≡◌, refl, Bool, true, false, ◌&&◌, ◌||◌, not, List, [], ◌∷◌, ◌++◌, eqb, take}
 use Rattle.std.proofs.Common.{sym, ap, ◌∙◌, arith, length-append}
 use Rattle.std.proofs.lemmas.Bool.{false≢true}
 use Rattle.std.proofs.Math.ListN.{length}
-use borrow.Author.Tests.{eq-eqb, ne_eqb, le-leb, lt-leb}
+use borrow.Author.Tests.{ne_eqb, le-leb, lt-leb}
 use Rattle.spec.specs.Bytes.{Bytes, is_empty, those}
-use Rattle.spec.specs.Numbers.{Answer, refuse, good}
-use Rattle.spec.specs.declared.Refusal.{Refusal}
+use Rattle.spec.specs.Numbers.{refuse}
 use Rattle.spec.specs.declared.Refusal.TheVariants.{NotWellFormed, OverLimit}
 use Rattle.spec.specs.Limits as L
-use Rattle.spec.specs.Pyx.{Attribute}
-use Rattle.spec.specs.Namespaces.{Binding, declared, all_legal, repeats_expanded}
-use Rattle.spec.specs.Document.{Frame as Element, Doc, in_scope, place_in}
-use Rattle.spec.specs.Document as D
+use Rattle.spec.specs.Namespaces.{declared, all_legal, repeats_expanded}
+use Rattle.spec.specs.Document.{Frame as Element, in_scope, place_in}
 use Rattle.spec.specs.Opening.{is_second_root, counts_fit, is_xml, on_opening}
-use Rattle.state_words.specs.Words.{pick}
 use Rattle.state.specs.declared.Registers.{Registers}
-use Rattle.state.specs.Meaning.{binding_of, bindings_of, frames_of, inners_of, elements_of, doc_of}
+use Rattle.state.specs.Meaning.{bindings_of, elements_of, doc_of}
 use Rattle.state.specs.Valid.{Valid}
 use Rattle.state.specs.Held as H
 use Rattle.state.specs.Live.{in_scope_lem}
-use Rattle.start_names.specs.Tag.{attribute_at, attributes_from, attributes_of, name_at, colon_at, start_at, size_at, value_size_at, Split, Splits}
+use Rattle.start_names.specs.Tag.{attributes_from, attributes_of, start_at, size_at, value_size_at, Split, Splits}
 use Rattle.start_names.specs.Found.{scope}
 use Rattle.start_names.specs.Pairs.{behind, pairs}
 use Rattle.start_names.specs.Classes.{same_keys, Classified, Classifies, expanded_means}
-use Rattle.event.specs.declared.Place.{Place}
-use Rattle.event.specs.declared.Place.TheVariants.{Outside, Nodes, Properties, NodesOrText, Xml}
 use Rattle.start_form.specs.Order.{Starts, WellFormed, second_root, illegal, repeats, too_many}
 use Rattle.start_form.specs.declared.Form.{Form}
 use Rattle.start_form.specs.declared.Form.TheVariants.{Stop, Good}

@@ -1,20 +1,18 @@
 -- The order of refusals of a start tag outside Literal content, requirement by requirement.
-use Rattle.std.specs.Prelude.{ℕ, suc, ◌≤◌, ◌≡◌, refl, Bool, true, false, ◌&&◌, List, [], ◌∷◌, ◌++◌, leb, length}
-use Rattle.std.proofs.Common.{sym, ap, ◌∙◌, arith, le-leb}
-use Rattle.std.proofs.lemmas.Bool.{false≢true, lt-leb}
+use Rattle.std.specs.Prelude.{ℕ, ◌≡◌, refl, Bool, true, false, List, [], ◌∷◌, ◌++◌}
+use Rattle.std.proofs.Common.{sym, ◌∙◌}
+use Rattle.std.proofs.lemmas.Bool.{false≢true}
 use Rattle.spec.specs.Bytes.{Bytes, if◌then◌else◌, is_empty, ◌>>=◌, ◌>>◌, require◌or◌}
 use Rattle.spec.specs.Numbers.{Answer, refuse, good}
 use Rattle.spec.specs.declared.Refusal.{Refusal}
 use Rattle.spec.specs.declared.Refusal.TheVariants.{NotWellFormed, OverLimit}
-use Rattle.spec.specs.Limits as L
 use Rattle.spec.specs.Pyx.{Attribute}
 use Rattle.spec.specs.Namespaces.{declared, all_legal, repeats_expanded}
-use Rattle.spec.specs.NTriples.{Subject}
 use Rattle.spec.specs.Document.{Frame, Doc, in_scope, Place, outside, nodes, nodes_or_text, xml, properties, place_in}
 use Rattle.spec.specs.StartTag.{Tag, read_tag, is_short}
 use Rattle.spec.specs.Productions.{Opened, open_node, open_property, open_root}
 use Rattle.spec.specs.Xmp.{starts_wrapper, open_wrapper}
-use Rattle.spec.specs.Opening.{Step, is_second_root, counts_fit, opened, mode_rules, under_rules, open_element, open_in, is_xml, repeated, on_opening}
+use Rattle.spec.specs.Opening.{is_second_root, counts_fit, opened, mode_rules, under_rules, open_element, open_in, is_xml, repeated, on_opening}
 
 -- the production of a place outside Literal content; the last line is for a place that `by_production` leaves out
 unfoldable pub production_in : Place → Tag → ℕ → Answer Opened

@@ -1,11 +1,11 @@
 -- The lines of a start tag: the loop over its property attributes, and what the calls write in the definitions' words.
 use Rattle.std.specs.Prelude.{◌≡◌, refl, Bool, true, false, not, ℕ, suc, ◌+◌, ◌-◌, ◌<◌, ◌≤◌, eqb, length, get_or}
 use Rattle.std.proofs.Common.{sym, ◌∙◌, add-one, arith}
-use Rattle.std.proofs.Math.Option.{Option, none, some}
+use Rattle.std.proofs.Math.Option.{none, some}
 use mathlib.Core.List.{List, [], ◌∷◌, ◌++◌, append_assoc, append-nil}
 use Rattle.std.proofs.Math.ListN.{get_or-eq_default}
 use Rattle.spec.specs.Bytes.{Bytes, ascii, if◌then◌else◌, same}
-use Rattle.spec.specs.NTriples.{Subject, named, node, Term, Triple, triple, line, write}
+use Rattle.spec.specs.NTriples.{Subject, named, node, Triple, triple, line, write}
 use Rattle.spec.specs.Rdf.{rdf}
 use Rattle.spec.specs.Namespaces.{xml_name}
 use Rattle.spec.specs.XmlLang.{written, Language}

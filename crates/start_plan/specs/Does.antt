@@ -1,21 +1,21 @@
 -- A plan gives the kind of element and the number of labels that the production of the definitions gives.
-use Rattle.std.specs.Prelude.{ℕ, zero, suc, ◌+◌, Bool, ◌||◌, not, List, [], eqb, take}
+use Rattle.std.specs.Prelude.{ℕ, suc, Bool, not, List, [], take}
 use Rattle.std.proofs.Math.Path.{◌≡◌, refl, sym, ap}
 use Rattle.std.proofs.Common.{◌∙◌, arith}
 use Rattle.std.proofs.Math.Bool.{true, false}
 use Rattle.std.proofs.Math.Option.{Option, none, some}
-use Rattle.spec.specs.Bytes.{Bytes, if◌then◌else◌, or_else, is_some, is_empty}
+use Rattle.spec.specs.Bytes.{Bytes, if◌then◌else◌, is_some, is_empty}
 use Rattle.spec.specs.NTriples.{Subject, named, blank, label}
 use Rattle.spec.specs.XmlLang.{unsaid}
 use Rattle.spec.specs.Document.{Object, no_object, node_object, default, collection, literal, other, Property}
-use Rattle.spec.specs.Document.{Kind as What, rdf_rdf, wrapper, node_element, property_element, Part, ordinary, Frame as Element}
+use Rattle.spec.specs.Document.{rdf_rdf, wrapper, node_element, property_element, Part, ordinary, Frame as Element}
 use Rattle.spec.specs.Pyx.{Attribute}
 use Rattle.spec.specs.Namespaces.{declared}
 use Rattle.spec.specs.StartTag.{Tag}
 use Rattle.spec.specs.Productions.{Opened, subject_of, no_parse_type, as_collection, as_resource, as_literal, as_other, has_node}
 use Rattle.copy.specs.Copy.{part}
 use Rattle.state_words.specs.declared.Kind.{Kind}
-use Rattle.state_words.specs.declared.Kind.TheVariants.{Rdf, NodeElt, PropertyElt, ParseTypeCollectionPropertyElt, ParseTypeLiteralPropertyElt, ParseTypeOtherPropertyElt, Wrapper}
+use Rattle.state_words.specs.declared.Kind.TheVariants.{Rdf, NodeElt, PropertyElt, ParseTypeCollectionPropertyElt, ParseTypeLiteralPropertyElt, ParseTypeOtherPropertyElt}
 use Rattle.state_words.specs.Words.{pick}
 use Rattle.state.specs.Meaning.{object_of}
 use Rattle.start_names.specs.Tag.{attributes_of}
@@ -23,14 +23,13 @@ use Rattle.state.specs.declared.language.Own.TheVariants.{Unsaid}
 use Rattle.state.specs.Language.{own_in}
 use Rattle.start_element.specs.declared.Source.{Source}
 use Rattle.start_element.specs.declared.Source.TheVariants.{Missing, Own, Made}
-use Rattle.start_element.specs.declared.Parts.{Parts}
-use Rattle.start_element.specs.Element.{text_of, maybe, node_is, property_is, kind_is, part_is, new_element, Lacks, Fitting}
+use Rattle.start_element.specs.Element.{text_of, maybe, node_is, property_is, kind_is, part_is, new_element, Fitting}
 use Rattle.start_rules.specs.Judged.{node_subject, node_opened, property_in, labels_behind, takes_label, property_opened}
 use Rattle.start_rules.specs.Judged as J
 use Rattle.start_plan.specs.declared.Given.{Given}
 use Rattle.start_plan.specs.declared.Plan.{Plan}
-use Rattle.start_plan.specs.Plan.{is_there, made_label, subject_in, object_in, root_plan, wrapper_plan, node_plan, default_plan, held_plan, resource_plan}
-use Rattle.start_plan.specs.Says.{Says, there_is, node-subject, object_by, object_means, no_object_lem}
+use Rattle.start_plan.specs.Plan.{object_in, root_plan, wrapper_plan, node_plan, default_plan, held_plan, resource_plan}
+use Rattle.start_plan.specs.Says.{Says, node-subject, object_by, object_means}
 
 -- no object, no part of one
 lacking : (r n : Source) (u : Bool) → (object_in (record { base = Missing; tag = Unsaid; node = n; id = Missing; about = Missing; resource = r; datatype = Missing }) u).what ≡ 0

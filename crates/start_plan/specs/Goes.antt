@@ -1,7 +1,7 @@
 -- When a start tag may be carried out as planned: what was judged of it.
-use Rattle.std.specs.Prelude.{ℕ, ◌+◌, ◌≤◌, ◌≡◌, Bool, true, false, List, [], ◌∷◌, ◌++◌, eqb, length, take}
-use Rattle.std.proofs.Math.Option.{Option, none, some}
-use Rattle.spec.specs.Bytes.{Bytes, or_else}
+use Rattle.std.specs.Prelude.{ℕ, ◌≡◌, true, List, [], ◌∷◌, ◌++◌, eqb, length, take}
+use Rattle.std.proofs.Math.Option.{Option}
+use Rattle.spec.specs.Bytes.{Bytes}
 use Rattle.spec.specs.Numbers.{good}
 use Rattle.spec.specs.NTriples.{Subject, node, Triple}
 use Rattle.spec.specs.Document.{Part, Doc, Property, language_in_force}
@@ -15,7 +15,6 @@ use Rattle.state.specs.Meaning.{subject_below}
 use Rattle.start_names.specs.Tag.{attributes_of}
 use Rattle.ntriples.specs.Terms.{id_of as given}
 use Rattle.start_attributes.specs.Properties.{properties_from}
-use Rattle.start_element.specs.declared.Source.{Source}
 use Rattle.start_element.specs.Element.{text_of, maybe, node_is, new_element}
 use Rattle.start_element.specs.Laws.{Granted, CountedBy, NotedBy, noting}
 use Rattle.start_plan.specs.declared.Lines.{Lines}

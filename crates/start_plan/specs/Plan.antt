@@ -1,15 +1,13 @@
 -- The plan of a start tag, by its production.
-use Rattle.std.specs.Prelude.{ℕ, ◌≡◌, refl, Bool, true, false, eqb}
-use Rattle.std.proofs.Common.{sym, ap, ◌∙◌, eq-eqb, ne_eqb}
+use Rattle.std.specs.Prelude.{ℕ, ◌≡◌, Bool, true, false, eqb}
+use Rattle.std.proofs.Common.{eq-eqb, ne_eqb}
 use Rattle.state_words.specs.declared.Kind.{Kind}
-use Rattle.state_words.specs.declared.Kind.TheVariants.{Rdf, NodeElt, PropertyElt, ParseTypeCollectionPropertyElt, ParseTypeLiteralPropertyElt, ParseTypeOtherPropertyElt, Wrapper}
+use Rattle.state_words.specs.declared.Kind.TheVariants.{Rdf, NodeElt, PropertyElt, Wrapper}
 use Rattle.state_words.specs.Words.{pick}
 use Rattle.state.specs.declared.language.Own.TheVariants.{Unsaid}
 use Rattle.start_element.specs.declared.Source.{Source}
 use Rattle.start_element.specs.declared.Source.TheVariants.{Missing, Own, Made}
-use Rattle.start_element.specs.declared.Parts.{Parts}
 use Rattle.start_plan.specs.declared.Given.{Given}
-use Rattle.start_plan.specs.declared.Lines.{Lines}
 use Rattle.start_plan.specs.declared.Lines.TheVariants.{Nothing, Node, Object, Resource}
 use Rattle.start_plan.specs.declared.Plan.{Plan}
 use Rattle.start_plan.specs.declared.Named.{Named}

@@ -1,33 +1,24 @@
 -- What a plan does is what the production of the definitions says.
-use Rattle.std.specs.Prelude.{ℕ, zero, suc, ◌+◌, ◌≤◌, ◌≡◌, Bool, ◌||◌, not, List, [], eqb}
+use Rattle.std.specs.Prelude.{ℕ, ◌≡◌, Bool, ◌||◌, not, List, eqb}
 use Rattle.std.proofs.Math.Path.{refl, ap}
 use Rattle.std.proofs.Common.{sym, ◌∙◌}
 use Rattle.std.proofs.Math.Bool.{true, false}
 use Rattle.std.proofs.lemmas.Bool.{false≢true}
 use Rattle.std.proofs.Math.Option.{Option, none, some}
-use Rattle.spec.specs.Bytes.{Bytes, or_else, is_some, is_empty}
-use Rattle.spec.specs.NTriples.{Subject, named, blank}
-use Rattle.spec.specs.Document.{Object, no_object, node_object, default, collection, literal, other, Property}
-use Rattle.spec.specs.Document.{Kind as What, rdf_rdf, node_element, property_element, Frame as Element}
-use Rattle.spec.specs.Namespaces.{declared}
+use Rattle.spec.specs.Bytes.{Bytes, or_else, is_some}
+use Rattle.spec.specs.NTriples.{named, blank}
+use Rattle.spec.specs.Document.{Object, no_object, node_object}
 use Rattle.spec.specs.StartTag.{Tag}
 use Rattle.spec.specs.Productions.{subject_of}
 use Rattle.copy.specs.Copy.{part}
-use Rattle.state_words.specs.declared.Kind.{Kind}
-use Rattle.state_words.specs.declared.Kind.TheVariants.{Rdf, NodeElt, PropertyElt, ParseTypeCollectionPropertyElt, ParseTypeLiteralPropertyElt, ParseTypeOtherPropertyElt, Wrapper}
-use Rattle.state_words.specs.Words.{pick}
 use Rattle.state.specs.Language.{own_of_code}
 use Rattle.state.specs.Meaning.{object_of}
-use Rattle.start_names.specs.Tag.{attributes_of}
 use Rattle.state.specs.declared.language.Own.TheVariants.{Unsaid}
 use Rattle.start_element.specs.declared.Source.{Source}
 use Rattle.start_element.specs.declared.Source.TheVariants.{Missing, Own, Made}
-use Rattle.start_element.specs.declared.Parts.{Parts}
-use Rattle.start_element.specs.Element.{text_of, maybe, node_is, property_is, kind_is, new_element, Lacks, Fitting}
+use Rattle.start_element.specs.Element.{text_of, maybe, node_is}
 use Rattle.start_plan.specs.declared.Given.{Given}
-use Rattle.start_plan.specs.declared.Named.{Named}
-use Rattle.start_plan.specs.declared.Plan.{Plan}
-use Rattle.start_plan.specs.Plan.{is_there, made_label, labelled, subject_in, object_in, root_plan, node_plan, default_plan, held_plan, resource_plan}
+use Rattle.start_plan.specs.Plan.{is_there, subject_in, object_in}
 
 -- what the parts say is what the tag t says
 pub record Says (g : Given) (e a : List ℕ) (t : Tag) : Type 0 where

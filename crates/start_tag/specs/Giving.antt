@@ -1,13 +1,13 @@
 -- Where each thing that a start tag says stands: what was resolved in the area, values in the decoded event.
-use Rattle.std.specs.Prelude.{ℕ, ◌+◌, ◌*◌, ◌<◌, ◌≤◌, ◌≡◌, refl, Bool, true, false, not, List, [], ◌∷◌, ◌++◌, eqb, leb, ltb, length, get_or, take, drop}
+use Rattle.std.specs.Prelude.{ℕ, ◌+◌, ◌<◌, ◌≤◌, ◌≡◌, refl, Bool, true, false, not, List, [], ◌∷◌, ◌++◌, leb, ltb, length}
 use Rattle.std.proofs.Math.Path.{sym, ap}
-use Rattle.std.proofs.Common.{◌∙◌, arith, eq-eqb, ne_eqb, eqb-true, le-leb, leb-true, leb-false, lt-ltb, le-ltb}
-use Rattle.std.proofs.lemmas.Bool.{false≢true, lt-leb, not-true, not-false}
+use Rattle.std.proofs.Common.{◌∙◌, arith, lt-ltb, le-ltb}
+use Rattle.std.proofs.lemmas.Bool.{false≢true, not-true}
 use Rattle.std.proofs.Math.Option.{Option, none, some}
 use Rattle.spec.specs.Bytes.{Bytes, is_some, present}
 use Rattle.spec.specs.Limits.{most_name_bytes, most_held_bytes}
 use Rattle.spec.proofs.Booleans.{and_left, and_right}
-use Rattle.spec.specs.Numbers.{Answer, refuse, good}
+use Rattle.spec.specs.Numbers.{good}
 use Rattle.spec.specs.Document.{Doc}
 use Rattle.spec.specs.StartTag as S
 use Rattle.copy.specs.Copy.{part}
@@ -22,9 +22,8 @@ use Rattle.start_references.specs.Reference.{given, is_long, Refers, refers_kept
 use Rattle.start_references.specs.Values.{value_if, value-most}
 use Rattle.start_element.specs.declared.Source.{Source}
 use Rattle.start_element.specs.declared.Source.TheVariants.{Missing, Own, Made}
-use Rattle.start_element.specs.Element.{text_of, maybe}
+use Rattle.start_element.specs.Element.{maybe}
 use Rattle.start_plan.specs.declared.Given.{Given}
-use Rattle.start_plan.specs.Plan.{is_there}
 use Rattle.start_plan.specs.Says.{Says}
 use Rattle.start_tag.specs.declared.reading.Tag.{Tag}
 use Rattle.start_tag.specs.Made.{short_if, refers_short, tag-says}

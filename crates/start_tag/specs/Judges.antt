@@ -1,11 +1,11 @@
 -- What is judged of a start tag that was read, and what comes of it.
-use Rattle.std.specs.Prelude.{ℕ, ◌+◌, ◌-◌, ◌≤◌, refl, Bool, true, false, ◌&&◌, not, leb, length, take}
+use Rattle.std.specs.Prelude.{ℕ, ◌+◌, ◌-◌, ◌≤◌, Bool, true, false, ◌&&◌, not, leb, length, take}
 use Rattle.std.proofs.Math.Path.{◌≡◌, ap}
 use Rattle.std.proofs.Common.{sym, ◌∙◌, arith}
 use Rattle.std.proofs.Math.Option.{Option, some}
 use mathlib.Core.List.{List, [], ◌∷◌}
 use borrow.Author.Tests.{leb-true}
-use Rattle.spec.specs.Bytes.{Bytes, same, or_else, require◌or◌}
+use Rattle.spec.specs.Bytes.{Bytes, same, require◌or◌}
 use Rattle.spec.specs.Rdf.{rdf}
 use Rattle.spec.proofs.Booleans.{and_left, and_right}
 use Rattle.spec.specs.Numbers.{Answer, refuse, good}

@@ -1,10 +1,10 @@
 -- An element's expanded name as the rules see it: one that is longer than an IRI may be is none of the names that they know.
 use Prim.Native.Nat.{ℕ}
-use Rattle.std.specs.Prelude.{◌≡◌, refl, Bool, true, false, not, List, []}
+use Rattle.std.specs.Prelude.{◌≡◌, Bool, List, []}
 use Rattle.std.proofs.Common.{sym, ap, ◌∙◌, arith}
-use Rattle.std.proofs.Math.Option.{Option, none, some}
+use Rattle.std.proofs.Math.Option.{some}
 use Rattle.spec.specs.Bytes.{Bytes, same}
-use Rattle.spec.specs.Numbers.{Answer, refuse, good}
+use Rattle.spec.specs.Numbers.{good}
 use Rattle.spec.specs.Rdf.{rdf, may_be_node, may_be_property}
 use Rattle.spec.specs.Rdf as F
 use Rattle.spec.specs.Productions.{is_li}

@@ -3,17 +3,14 @@ use Rattle.std.specs.Prelude.{ℕ, suc, ◌+◌, ◌*◌, ◌<◌, ◌≤◌, �
 use Rattle.std.proofs.Math.Path.{refl, ap}
 use Rattle.std.proofs.Common.{sym, ◌∙◌, arith, add-one}
 use Rattle.std.proofs.Math.Bool.{not}
-use Rattle.std.proofs.lemmas.Bool.{false≢true, not-false}
-use Rattle.std.proofs.Math.Option.{none, some}
-use Rattle.spec.specs.Bytes.{Bytes, same, is_some, ◌>>◌, require◌or◌}
-use Rattle.spec.proofs.Bytes.{same_true}
+use Rattle.std.proofs.lemmas.Bool.{not-false}
+use Rattle.spec.specs.Bytes.{Bytes, same, is_some}
 use Rattle.label.specs.Label.{length_label}
 use Rattle.spec.specs.Numbers.{Answer, refuse, good}
 use Rattle.spec.specs.declared.Refusal.{Refusal}
 use Rattle.spec.specs.declared.Refusal.TheVariants.{OverLimit, Reserved, ProfileBroken}
 use Rattle.spec.specs.Limits.{most_labels, most_held_bytes}
 use Rattle.spec.specs.Rdf.{rdf, may_be_node}
-use Rattle.spec.specs.Rdf as F
 use Rattle.spec.specs.NTriples.{label}
 use Rattle.spec.specs.Document.{place_in}
 use Rattle.spec.specs.Xmp as X
@@ -21,19 +18,14 @@ use Rattle.spec.specs.Xmp.{new_part, noted}
 use Rattle.spec.specs.Opening.{is_xml}
 use Rattle.state_words.specs.declared.Kind.TheVariants.{NodeElt}
 use Rattle.state_ids.specs.Ids.{ids_of}
-use Rattle.spec.specs.StartTag as S
-use Rattle.spec.specs.Productions.{Opened, tag_lines, element_type, is_li, open_node}
+use Rattle.spec.specs.Productions.{tag_lines, element_type, open_node}
 use Rattle.copy.specs.Copy.{part, Wrote, wrote_part, wrote_same}
 use Rattle.state_words.specs.Kept.{kept_before, kept_behind, kept_less}
-use Rattle.state_words.specs.Words.{pick}
 use Rattle.spec.specs.XmlLang.{carries}
 use Rattle.state.specs.Language.{is_said, carries_by_lem}
 use Rattle.state.specs.declared.Registers.{Registers}
 use Rattle.state.specs.Meaning.{subject_below, elements_of}
 use Rattle.state.specs.Valid.{stands}
-use Rattle.start_names.specs.Tag.{value_at}
-use Rattle.start_references.specs.Reference.{given}
-use Rattle.start_references.specs.Values.{value_if}
 use Rattle.start_attributes.specs.declared.roles.Judgment.{Judgment}
 use Rattle.start_attributes.specs.declared.roles.Judgment.TheVariants as judgment
 use Rattle.start_attributes.specs.Judgment.{said}

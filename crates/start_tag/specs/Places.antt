@@ -1,5 +1,5 @@
 -- By what a start tag stands in: the root, a node element, a property element.
-use Prim.Native.Nat.{ℕ, zero, suc, ◌+◌, ◌-◌, ◌*◌, ◌<◌, ◌≤◌}
+use Prim.Native.Nat.{ℕ, zero, suc, ◌-◌, ◌<◌, ◌≤◌}
 use Rattle.std.specs.Prelude.{◌≡◌, Bool, false, eqb, ltb, length}
 use Rattle.std.proofs.Math.Path.{refl, sym, ap}
 use Rattle.std.proofs.Common.{◌∙◌, arith, eq-eqb, ne_eqb, ltb-true, lt-ltb}
@@ -7,7 +7,7 @@ use Rattle.std.proofs.Math.Bool.{true, not, false≢true}
 use mathlib.Core.List.{List, []}
 use Rattle.std.proofs.Math.Logic.{inr}
 use Rattle.spec.specs.Limits.{most_attributes}
-use Rattle.spec.specs.Bytes.{Bytes, same, is_some}
+use Rattle.spec.specs.Bytes.{Bytes, same}
 use Rattle.spec.specs.Numbers.{good}
 use Rattle.spec.specs.declared.Refusal.{Refusal}
 use Rattle.spec.specs.declared.Refusal.TheVariants.{OverLimit, ProfileBroken}
@@ -20,13 +20,13 @@ use Rattle.spec.specs.Xmp.{new_part}
 use Rattle.spec.specs.StartTag as S
 use Rattle.spec.specs.Productions.{open_node, open_root}
 use Rattle.spec.proofs.Bytes.{same_true}
-use Rattle.state_words.specs.Parts.{FRAME, TABLE}
+use Rattle.state_words.specs.Parts.{TABLE}
 use Rattle.state_words.specs.declared.Kind.{Kind}
 use Rattle.state_words.specs.declared.Kind.TheVariants.{Rdf, NodeElt, PropertyElt, ParseTypeCollectionPropertyElt, ParseTypeLiteralPropertyElt, ParseTypeOtherPropertyElt, Wrapper}
 use Rattle.state_words.specs.Kept.{kept_all}
 use Rattle.state_words.specs.Words.{pick, frame_at, load_frame, load_frame_lem}
 use Rattle.spec.specs.XmlLang.{carries}
-use Rattle.state.specs.Language.{is_said, carries_by_lem}
+use Rattle.state.specs.Language.{carries_by_lem}
 use Rattle.state.specs.declared.Registers.{Registers}
 use Rattle.state.specs.Meaning.{subject_below, subject_of, elements_of, count}
 use Rattle.state.specs.Valid.{Valid, is_wrapper, is_root_in, stands}

@@ -16,7 +16,7 @@ use Rattle.spec.specs.Xmp as X
 use Rattle.spec.specs.Xmp.{new_part}
 use Rattle.spec.specs.Rdf.{rdf, may_be_property}
 use Rattle.spec.specs.Rdf as F
-use Rattle.spec.specs.NTriples.{Subject, node, label, decimal}
+use Rattle.spec.specs.NTriples.{Subject, label, decimal}
 use Rattle.spec.specs.Document as D
 use Rattle.spec.specs.Document.{ordinary}
 use Rattle.spec.specs.Productions as O
@@ -52,7 +52,7 @@ use Rattle.ntriples.specs.Terms as N
 use Rattle.start_element.specs.declared.Source.{Source}
 use Rattle.start_element.specs.declared.Source.TheVariants.{Made}
 use Rattle.start_element.specs.Element.{text_of, maybe, node_is, Fitting}
-use Rattle.start_element.specs.Laws.{Counts, CountedBy, is_outer, stands_in}
+use Rattle.start_element.specs.Laws.{CountedBy, is_outer, stands_in}
 use Rattle.start_plan.specs.declared.Given.{Given}
 use Rattle.start_plan.specs.declared.Plan.{Plan}
 use Rattle.start_plan.specs.declared.Start.{Start}

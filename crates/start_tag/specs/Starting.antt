@@ -1,25 +1,23 @@
 -- A start tag outside Literal content: what is asked of it, what is judged, and what is done.
-use Rattle.std.specs.Prelude.{ℕ, ◌*◌, ◌≤◌, ◌≡◌, refl, Bool, false, List, [], length, take}
-use Rattle.std.proofs.Common.{sym, ◌∙◌, arith}
+use Rattle.std.specs.Prelude.{ℕ, ◌≤◌, ◌≡◌, refl, false, List, [], length, take}
+use Rattle.std.proofs.Common.{◌∙◌, arith}
 use Rattle.std.proofs.Math.Path.{ap}
 use Rattle.std.proofs.Math.Bool.{true}
 use Rattle.spec.specs.Bytes.{Bytes}
-use Rattle.spec.specs.Numbers.{Answer, refuse, good}
+use Rattle.spec.specs.Numbers.{refuse}
 use Rattle.spec.specs.declared.Refusal.{Refusal}
 use Rattle.spec.specs.Pyx as P
-use Rattle.spec.specs.Document.{Doc, place_in}
+use Rattle.spec.specs.Document.{place_in}
 use Rattle.spec.specs.StartTag.{read_tag}
 use Rattle.spec.specs.Xmp.{starts_wrapper}
 use Rattle.spec.specs.Opening.{is_xml, on_opening}
 use Rattle.spec.specs.RdfXml.{on_event}
-use Rattle.state_ids.specs.Ids.{ids_of, ValidIds}
+use Rattle.state_ids.specs.Ids.{ids_of}
 use Rattle.state.specs.declared.Registers.{Registers}
 use Rattle.state.specs.Meaning.{elements_of, doc_of}
-use Rattle.state.specs.Valid.{Valid}
 use Rattle.start_names.specs.Tag.{attributes_of}
 use Rattle.event.specs.Result.{handled, handled_by, refused_on}
-use Rattle.event.specs.Progress.{Lent, lent, doc_in, Lawful, Progresses, HandlesAll, stopped}
-use Rattle.event.specs.declared.Progress.{Progress}
+use Rattle.event.specs.Progress.{Lent, lent, doc_in, Lawful, HandlesAll, stopped}
 use Rattle.event.specs.declared.Progress.TheVariants as progress
 use Rattle.start_form.specs.declared.Form.{Form}
 use Rattle.start_form.specs.declared.Form.TheVariants as form

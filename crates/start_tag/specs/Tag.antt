@@ -42,7 +42,6 @@ use Rattle.start_references.specs.declared.Resolutions.{Resolutions}
 use Rattle.start_references.specs.declared.Resolutions.TheVariants.{Stop as Refused, Good as Came}
 use Rattle.start_references.specs.Values.{value-most, value_if, first_value, in_force}
 use Rattle.start_references.specs.References.{Five, references, others, five_of, five_at, five_means, fresh_by, fresh_means, references-fresh, Resolved, Resolving}
-use Rattle.start_attributes.specs.Places.{places}
 use Rattle.start_attributes.specs.declared.roles.Judgment.{Judgment}
 use Rattle.start_attributes.specs.declared.roles.Judgment.TheVariants.{Good as Fine, Stop as Wrong}
 use Rattle.start_attributes.specs.Judgment.{said}

@@ -1,7 +1,7 @@
 -- What an accepted event does to a document, by cases: whatever each of these changes keeps holds behind every accepted event.
 use Rattle.std.specs.Prelude.{◌≡◌, refl, Bool, true, false, not, List, [], ◌∷◌, ℕ, ◌+◌, length}
 use Rattle.std.proofs.Common.{sym, ◌∙◌, ap, subst}
-use Rattle.std.proofs.Math.Option.{Option, none}
+use Rattle.std.proofs.Math.Option.{none}
 use Rattle.std.proofs.lemmas.Bool.{not-true}
 use Rattle.spec.specs.XmlLang.{Language, unsaid}
 use Rattle.spec.specs.Bytes.{Bytes, if◌then◌else◌, All}

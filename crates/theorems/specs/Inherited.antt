@@ -2,7 +2,7 @@
 -- namespaces in force are those before it opened.
 use Rattle.std.specs.Prelude.{◌≡◌, refl, Bool, true, false, ℕ, suc, ◌<◌, length}
 use Rattle.std.proofs.Common.{sym, ◌∙◌, ap, arith, length-append}
-use Rattle.std.proofs.Math.Option.{Option, none}
+use Rattle.std.proofs.Math.Option.{Option}
 use mathlib.Core.List.{List, [], ◌∷◌, ◌++◌, tail-eq_of_cons-eq}
 use Rattle.spec.specs.Bytes.{Bytes, if◌then◌else◌, or_else}
 use Rattle.spec.specs.Numbers.{good}

@@ -8,7 +8,7 @@ use Rattle.spec.specs.Bytes as B
 use Rattle.spec.specs.Grammar.{Grammar, one, ◌or◌, ◌then◌, many, Describes, stop, more, accepts}
 use Rattle.spec.proofs.Booleans.{and_left, and_right, and_both, or_cases, or_left, or_right_lem}
 use Rattle.spec.specs.Abnf.{optional}
-use Rattle.spec.specs.Utf8.{characters, holds_of, as_characters}
+use Rattle.spec.specs.Utf8.{holds_of, as_characters}
 use Rattle.spec.specs.XmlNames.{is_nc_name, is_name, is_name_char, is_name_start, no_colon, start_ranges, further_ranges}
 use Rattle.spec.specs.XmlNames as N
 use Rattle.spec.specs.NTriplesGrammar.{BLANK_NODE_LABEL, PN_CHARS, PN_CHARS_U, text}

@@ -1,11 +1,9 @@
 -- `end_tag::end_collection` meets its contract. Measured, and then written: one law of specs/ for each return.
 use mathlib.Core.Path.{refl, ◌∙◌}
-use Rattle.state.specs.Tests.{yes, no}
 use Rattle.writer.specs.Said.{says_not, says_all}
 use Rattle.end_tag.specs.Ends.{tells_over, tells_full, tells_done}
 use Rattle.end_tag.specs.Kinds.{collection_tells, labels_spent, listed}
 use native.Mathlib.Omega.{arith}
-use borrow.Author.Rules.{rules}
 use Rattle.std.proofs.Common.{sym}
 use Rattle.end_tag.proofs.end_collection.Goals as goal
 

@@ -1,11 +1,9 @@
 -- `end_tag::end_literal` meets its contract. Written where all of it has room: one law of specs/ for each return.
 use mathlib.Core.Path.{sym, ◌∙◌}
 use borrow.Author.Tests.{not-true, not-false}
-use Rattle.state.specs.Tests.{yes, no}
 use Rattle.end_tag.specs.Ends.{tells_over, tells_full, tells_done}
 use Rattle.end_tag.specs.Kinds.{literal_tells, literal-empty}
 use Rattle.copy.specs.Texts.{empty_is, empty_not}
-use borrow.Author.Rules.{rules}
 use Rattle.end_tag.proofs.end_literal.Goals as goal
 
 pub returns-then-tail_size-eq0 : goal.returns-then-tail_size-eq0

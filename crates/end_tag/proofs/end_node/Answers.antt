@@ -1,7 +1,6 @@
 -- `end_tag::end_node` meets its contract. Where what is held fits, the node closes.
 use Rattle.end_tag.specs.Node.{node_over, node_done}
 use native.Mathlib.Omega.{arith}
-use borrow.Author.Rules.{rules}
 use Rattle.end_tag.proofs.end_node.Goals as goal
 
 pub returns-then-minus-gt-MOST_HELD : goal.returns-then-minus-gt-MOST_HELD

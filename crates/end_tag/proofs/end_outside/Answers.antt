@@ -1,10 +1,8 @@
 -- `end_tag::end_outside` meets its contract. 6, or the end tag matches.
 use mathlib.Core.Path.{refl}
 use borrow.Author.Tests.{not-true, not-false}
-use Rattle.state.specs.Tests.{yes, no}
 use Rattle.end_tag.specs.Kinds.{whole}
 use Rattle.end_tag.specs.Outside.{none_open, other_name, is_closing, matched}
-use borrow.Author.Rules.{rules}
 use Rattle.std.proofs.Common.{sym}
 use Rattle.std.proofs.Common.{◌∙◌}
 use Rattle.end_tag.proofs.end_outside.Goals as goal

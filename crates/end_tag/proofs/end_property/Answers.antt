@@ -1,10 +1,8 @@
 -- `end_tag::end_property` meets its contract. Written where all of it has room: one law of specs/ for each return.
 use mathlib.Core.Path.{refl}
 use borrow.Author.Tests.{not-true, not-false}
-use Rattle.state.specs.Tests.{yes, no}
 use Rattle.end_tag.specs.Ends.{tells_over, tells_full, tells_done}
 use Rattle.end_tag.specs.Kinds.{property_tells}
-use borrow.Author.Rules.{rules}
 use Rattle.std.proofs.Common.{sym}
 use Rattle.std.proofs.Common.{◌∙◌}
 use Rattle.end_tag.proofs.end_property.Goals as goal

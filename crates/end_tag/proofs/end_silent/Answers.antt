@@ -1,8 +1,6 @@
 -- `end_tag::end_silent` meets its contract. Held bytes decide.
-use Rattle.state.specs.Tests.{yes, no}
 use Rattle.end_tag.specs.Ends.{tells_over, tells_nothing}
 use Rattle.end_tag.specs.Kinds.{silent_tells}
-use borrow.Author.Rules.{rules}
 use Rattle.std.proofs.Common.{sym}
 use Rattle.std.proofs.Common.{◌∙◌}
 use Rattle.end_tag.proofs.end_silent.Goals as goal

@@ -4,7 +4,6 @@ use Rattle.state_words.specs.declared.Kind.TheVariants.{Rdf, ParseTypeOtherPrope
 use Rattle.state_words.specs.declared.Frame.{Frame}
 use Rattle.end_tag.specs.Ends.{ends_as}
 use Rattle.end_tag.specs.Kinds.{rdf_silent, other_silent}
-use borrow.Author.Rules.{rules}
 use Rattle.end_tag.proofs.end_state.Goals as goal
 
 pub end_collection-requires : goal.end_collection-requires

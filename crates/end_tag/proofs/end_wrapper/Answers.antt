@@ -1,10 +1,8 @@
 -- `end_tag::end_wrapper` meets its contract. Whether it has had its rdf:RDF decides.
-use mathlib.Core.Path.{sym, ap, ◌∙◌}
+use mathlib.Core.Path.{ap, ◌∙◌}
 use Rattle.state_words.specs.declared.Kind.TheVariants.{Wrapper}
-use Rattle.state_words.specs.declared.Frame.{Frame}
 use Rattle.state.specs.Meaning.{count}
 use Rattle.end_tag.specs.Kinds.{wrapper-empty, wrapper_silent}
-use borrow.Author.Rules.{rules}
 use Rattle.end_tag.proofs.end_wrapper.Goals as goal
 
 pub returns-then-has-eq0 : goal.returns-then-has-eq0

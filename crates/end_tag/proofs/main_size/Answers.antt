@@ -1,6 +1,5 @@
 -- `end_tag::main_size` meets its contract. The difference, where there is one.
 use native.Mathlib.Omega.{arith}
-use borrow.Author.Rules.{rules}
 use Rattle.end_tag.proofs.main_size.Goals as goal
 
 pub returns-then-to-from : goal.returns-then-to-from

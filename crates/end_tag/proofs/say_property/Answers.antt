@@ -2,7 +2,6 @@
 use mathlib.Core.Path.{refl, ◌∙◌}
 use Rattle.writer.specs.Said.{says_sure, says_not, says_all}
 use native.Mathlib.Omega.{arith}
-use borrow.Author.Rules.{rules}
 use Rattle.end_tag.proofs.say_property.Goals as goal
 
 pub shape_of-out-then-property_fits : goal.shape_of-out-then-property_fits

@@ -2,7 +2,6 @@
 use mathlib.Core.Path.{sym, ◌∙◌}
 use Rattle.end_tag.specs.Node.{after_object, after_child, after_none}
 use native.Mathlib.Omega.{arith}
-use borrow.Author.Rules.{rules}
 use Rattle.end_tag.proofs.stored_after.Goals as goal
 
 pub overflow_add-result : goal.overflow_add-result

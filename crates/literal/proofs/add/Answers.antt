@@ -3,10 +3,8 @@ use Prim.Native.Nat.{◌+◌}
 use Rattle.state_inner.specs.Calls.{held_in}
 use borrow.Author.Tests.{leb-true, leb-false}
 use Rattle.spec.specs.Limits as L
-use Rattle.state.specs.Tests.{yes, no}
 use Rattle.literal.specs.Added.{add_over, add_done}
 use native.Mathlib.Omega.{arith}
-use borrow.Author.Rules.{rules}
 use Rattle.std.proofs.Common.{sym}
 use Rattle.std.proofs.Common.{◌∙◌}
 use Rattle.literal.proofs.add.Goals as goal

@@ -1,10 +1,6 @@
 -- `literal::all_known` meets its contract.
-use Prim.Native.Nat.{◌-◌}
-use Rattle.state.specs.Tests.{yes, no}
-use Rattle.start_names.specs.Found.{scope}
-use Rattle.literal.specs.Known.{Knowing, knowing_begins, knowing_stop, knowing_more, knowing_done}
+use Rattle.literal.specs.Known.{knowing_begins, knowing_stop, knowing_more, knowing_done}
 use native.Mathlib.Omega.{arith}
-use borrow.Author.Rules.{rules}
 use Rattle.std.proofs.Common.{sym}
 use Rattle.std.proofs.Common.{◌∙◌}
 use Rattle.literal.proofs.all_known.Goals as goal

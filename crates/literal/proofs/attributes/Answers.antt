@@ -1,8 +1,6 @@
 -- `literal::attributes` meets its contract.
-use Prim.Native.Nat.{◌-◌}
-use Rattle.literal.specs.Copied.{Copying, copying_begins, copying_more, copying_done}
+use Rattle.literal.specs.Copied.{copying_begins, copying_more, copying_done}
 use native.Mathlib.Omega.{arith}
-use borrow.Author.Rules.{rules}
 use Rattle.literal.proofs.attributes.Goals as goal
 
 pub loop-j-init : goal.loop-j-init

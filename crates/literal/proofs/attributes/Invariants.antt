@@ -1,8 +1,6 @@
 -- `literal::attributes` meets its contract. The loop's invariant: the first `j` attributes are written.
 use Prim.Native.Nat.{◌-◌}
-use Rattle.literal.specs.Copied.{Copying, copying_begins, copying_more, copying_done}
-use native.Mathlib.Omega.{arith}
-use borrow.Author.Rules.{rules}
+use Rattle.literal.specs.Copied.{Copying}
 use Rattle.literal.proofs.attributes.Given as goal
 
 abbrev pub invariant-loop-j : goal.invariant-loop-j

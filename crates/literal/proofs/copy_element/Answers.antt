@@ -6,7 +6,6 @@ use Rattle.start_element.specs.Sizes.{few-declared}
 use Rattle.literal.specs.Added.{xml_in}
 use Rattle.literal.specs.Entered.{copy_over, copy-room, copy_done}
 use native.Mathlib.Omega.{arith}
-use borrow.Author.Rules.{rules}
 use Rattle.literal.proofs.copy_element.Goals as goal
 
 pub overflow_add-more : goal.overflow_add-more

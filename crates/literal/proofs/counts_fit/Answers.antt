@@ -3,7 +3,6 @@ use Prim.Native.Nat.{◌+◌}
 use Rattle.literal.specs.Known.{counts_deep, counts-many, counts-bound, counts-rest}
 use mathlib.Core.Path.{sym, ap}
 use native.Mathlib.Omega.{arith}
-use borrow.Author.Rules.{rules}
 use Rattle.literal.proofs.counts_fit.Goals as goal
 
 pub returns-then-r-ge-MOST : goal.returns-then-r-ge-MOST

@@ -1,10 +1,8 @@
 -- `literal::end_inside` meets its contract: 6, or the end tag is added to what is left.
 use mathlib.Core.Path.{refl, ◌∙◌}
-use Rattle.state.specs.Tests.{yes, no}
 use Rattle.literal.specs.Added.{xml_in, adds_quietly}
 use Rattle.literal.specs.Events.{end_differs, end_quiet, closed-holds, closed-mark}
 use native.Mathlib.Omega.{arith}
-use borrow.Author.Rules.{rules}
 use Rattle.std.proofs.Common.{sym}
 use Rattle.literal.proofs.end_inside.Goals as goal
 

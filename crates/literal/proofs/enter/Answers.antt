@@ -1,7 +1,6 @@
 -- `literal::enter` meets its contract: the name, the bindings behind it, and the row of the element.
 use mathlib.Core.Path.{◌∙◌}
 use Rattle.literal.specs.Entered.{rows_fit, entered}
-use borrow.Author.Rules.{rules}
 use Rattle.literal.proofs.enter.Goals as goal
 
 pub bind_all-next-requires : goal.bind_all-next-requires

@@ -1,7 +1,6 @@
 -- `literal::has_room` meets its contract, test by test.
 use Rattle.literal.specs.Added.{room-spent, room_short, room-rest}
 use native.Mathlib.Omega.{arith}
-use borrow.Author.Rules.{rules}
 use Rattle.literal.proofs.has_room.Goals as goal
 
 pub returns-then-held-gt-MOST_HELD : goal.returns-then-held-gt-MOST_HELD

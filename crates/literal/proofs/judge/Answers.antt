@@ -1,10 +1,7 @@
 -- `literal::judge` meets its contract: a law of each refusal, with the tests that led there.
-use borrow.Author.Tests.{not-true, not-false}
 use mathlib.Core.Path.{sym, ◌∙◌}
-use Rattle.state.specs.Tests.{yes, no}
 use Rattle.literal.specs.Judged.{judge_illegal, judge-repeats, judge-counts, judge_element, judge-attributes, judge_good}
 use Rattle.literal.specs.Known.{counts_as, known_name, known_all}
-use borrow.Author.Rules.{rules}
 use Rattle.literal.proofs.judge.Goals as goal
 
 pub returns-then-not-all_legal : goal.returns-then-not-all_legal

@@ -1,7 +1,6 @@
 -- `literal::kept` meets its contract: the frame on top tells.
 use mathlib.Core.Path.{sym, ◌∙◌}
 use Rattle.literal.specs.Added.{kept_all, kept_none}
-use borrow.Author.Rules.{rules}
 use Rattle.literal.proofs.kept.Goals as goal
 
 pub returns-then-same_kind : goal.returns-then-same_kind

@@ -2,7 +2,6 @@
 use Rattle.literal.specs.Known.{known_none, known_not, known_found}
 use Rattle.start_names.specs.Found.{found_bytes}
 use mathlib.Core.Path.{refl}
-use borrow.Author.Rules.{rules}
 use Rattle.literal.proofs.known.Goals as goal
 
 pub returns-then-prefix-eq0 : goal.returns-then-prefix-eq0

@@ -1,7 +1,6 @@
 -- `literal::known_at` meets its contract.
 use Rattle.literal.specs.Known.{known_declaration, known_other}
 use Rattle.start_names.specs.Declarations.{told}
-use borrow.Author.Rules.{rules}
 use Rattle.literal.proofs.known_at.Goals as goal
 
 pub returns-then-is_declaration : goal.returns-then-is_declaration

@@ -3,7 +3,6 @@ use mathlib.Core.Path.{refl}
 use Rattle.copy.specs.Copy.{part}
 use Rattle.literal.specs.Judged.{judged_refused}
 use Rattle.literal.specs.Entered.{ready}
-use borrow.Author.Rules.{rules}
 use Rattle.literal.proofs.start_inside.Goals as goal
 
 pub judge-judged-requires : goal.judge-judged-requires

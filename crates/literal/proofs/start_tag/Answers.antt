@@ -1,7 +1,6 @@
 -- `literal::start_tag` meets its contract: three pieces.
 use mathlib.Core.Path.{◌∙◌}
 use Rattle.literal.specs.Copied.{tag-put}
-use borrow.Author.Rules.{rules}
 use Rattle.literal.proofs.start_tag.Goals as goal
 
 pub shape_of-area : goal.shape_of-area

@@ -4,7 +4,6 @@ use Rattle.literal.specs.Added.{xml_in, adds_quietly}
 use Rattle.literal.specs.Events.{text_quiet}
 use mathlib.Core.Path.{refl}
 use native.Mathlib.Omega.{arith}
-use borrow.Author.Rules.{rules}
 use Rattle.literal.proofs.text_inside.Goals as goal
 
 pub shape_of-frames : goal.shape_of-frames

@@ -1,5 +1,4 @@
 -- `reader_contract::closes` meets its contract: the numbers from 5 on close.
-use borrow.Author.Rules.{rules}
 use Rattle.reader_contract.specs.Meets.{closing_numbers}
 use Rattle.reader_contract.proofs.closes.Goals as goal
 

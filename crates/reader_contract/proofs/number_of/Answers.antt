@@ -1,5 +1,4 @@
 -- `reader_contract::number_of` meets its contract by cases.
-use borrow.Author.Rules.{rules}
 use Rattle.reader_contract.proofs.number_of.Goals as goal
 
 pub returns-in-Incomplete : goal.returns-in-Incomplete

@@ -1,13 +1,9 @@
 -- `start_attributes::first_in` meets its contract.
 use mathlib.Core.Path.{◌∙◌}
-use Prim.Native.Nat.{◌-◌}
-use lib.ListN.{length}
-use lib.Dec.{eqb}
 use borrow.Author.Tests.{eq-eqb, ne_eqb}
-use Rattle.copy.specs.Scan.{Sought, sought_begins, sought_stop, sought_more, sought_done}
+use Rattle.copy.specs.Scan.{sought_begins, sought_stop, sought_more, sought_done}
 use Rattle.start_attributes.specs.First.{first_in}
 use native.Mathlib.Omega.{arith}
-use borrow.Author.Rules.{rules}
 use Rattle.start_attributes.proofs.first_in.Goals as goal
 
 pub loop-i-init : goal.loop-i-init

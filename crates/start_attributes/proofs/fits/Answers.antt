@@ -1,6 +1,5 @@
 -- `start_attributes::fits` meets its contract, part by part.
 use Rattle.start_attributes.specs.Short.{front_long, both_long, both_fit}
-use borrow.Author.Rules.{rules}
 use Rattle.start_attributes.proofs.fits.Goals as goal
 
 pub returns-then-front-gt-MOST_BYTES : goal.returns-then-front-gt-MOST_BYTES

@@ -1,7 +1,6 @@
 -- `start_attributes::is_known` meets its contract, arm by arm.
 use Rattle.spec.specs.Bytes.{ascii}
 use Rattle.start_attributes.specs.Attributes.{known_by}
-use borrow.Author.Rules.{rules}
 use Rattle.start_attributes.proofs.is_known.Goals as goal
 
 pub returns-in-Declaration : goal.returns-in-Declaration

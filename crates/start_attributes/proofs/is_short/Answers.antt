@@ -2,7 +2,6 @@
 use Rattle.spec.specs.Bytes.{ascii}
 use Rattle.spec.specs.Namespaces.{xml_name}
 use Rattle.start_attributes.specs.Short.{short_written, short_expanded}
-use borrow.Author.Rules.{rules}
 use Rattle.start_attributes.proofs.is_short.Goals as goal
 
 pub returns-then-kind-ne-EXPANDED : goal.returns-then-kind-ne-EXPANDED

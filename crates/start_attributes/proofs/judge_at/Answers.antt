@@ -1,8 +1,6 @@
 -- `start_attributes::judge_at` meets its contract: 8, then by the role.
 use mathlib.Core.Path.{sym, ◌∙◌}
-use borrow.Author.Tests.{not-true, not-false}
 use Rattle.start_attributes.specs.Attributes.{not_known, is_known_lem}
-use borrow.Author.Rules.{rules}
 use Rattle.start_attributes.proofs.judge_at.Goals as goal
 
 pub returns-then-not-is_known : goal.returns-then-not-is_known

@@ -1,12 +1,9 @@
 -- `start_attributes::names_short` meets its contract.
 use mathlib.Core.Path.{◌∙◌}
-use Prim.Native.Nat.{◌-◌}
-use borrow.Author.Tests.{not-true, not-false}
-use Rattle.copy.specs.Scan.{Passed, passed-begins}
-use Rattle.start_attributes.specs.Short.{short_at, short_test}
-use Rattle.start_attributes.specs.Places.{places, place_stops, place_passes, places_pass}
+use Rattle.copy.specs.Scan.{passed-begins}
+use Rattle.start_attributes.specs.Short.{short_test}
+use Rattle.start_attributes.specs.Places.{place_stops, place_passes, places_pass}
 use native.Mathlib.Omega.{arith}
-use borrow.Author.Rules.{rules}
 use Rattle.start_attributes.proofs.names_short.Goals as goal
 
 pub loop-j-init : goal.loop-j-init

@@ -1,12 +1,8 @@
 -- `start_attributes::names_short` meets its contract. The loop's invariant: the expanded names of the first `j` attributes are short.
-use mathlib.Core.Path.{◌∙◌}
 use Prim.Native.Nat.{◌-◌}
-use borrow.Author.Tests.{not-true, not-false}
-use Rattle.copy.specs.Scan.{Passed, passed-begins}
-use Rattle.start_attributes.specs.Short.{short_at, short_test}
-use Rattle.start_attributes.specs.Places.{places, place_stops, place_passes, places_pass}
-use native.Mathlib.Omega.{arith}
-use borrow.Author.Rules.{rules}
+use Rattle.copy.specs.Scan.{Passed}
+use Rattle.start_attributes.specs.Short.{short_at}
+use Rattle.start_attributes.specs.Places.{places}
 use Rattle.start_attributes.proofs.names_short.Given as goal
 
 abbrev pub invariant-loop-j : goal.invariant-loop-j

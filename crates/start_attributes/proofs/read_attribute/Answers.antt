@@ -1,6 +1,5 @@
 -- `start_attributes::read_attribute` meets its contract: the role is that of the attribute's class.
 use Rattle.start_attributes.specs.Reads.{read_one}
-use borrow.Author.Rules.{rules}
 use Rattle.start_attributes.proofs.read_attribute.Goals as goal
 
 pub returns : goal.returns

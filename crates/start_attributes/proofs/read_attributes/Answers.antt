@@ -1,8 +1,6 @@
 -- `start_attributes::read_attributes` meets its contract.
-use Prim.Native.Nat.{◌-◌}
-use Rattle.start_attributes.specs.Reads.{Reading, reading_begins, reading_more, reading_stops, reading_done}
+use Rattle.start_attributes.specs.Reads.{reading_begins, reading_more, reading_stops, reading_done}
 use native.Mathlib.Omega.{arith}
-use borrow.Author.Rules.{rules}
 use Rattle.start_attributes.proofs.read_attributes.Goals as goal
 
 pub loop-j-init : goal.loop-j-init

@@ -1,8 +1,6 @@
 -- `start_attributes::read_attributes` meets its contract. The loop's invariant: the first `j` attributes are read, and nothing is wrong with them.
 use Prim.Native.Nat.{◌-◌}
-use Rattle.start_attributes.specs.Reads.{Reading, reading_begins, reading_more, reading_stops, reading_done}
-use native.Mathlib.Omega.{arith}
-use borrow.Author.Rules.{rules}
+use Rattle.start_attributes.specs.Reads.{Reading}
 use Rattle.start_attributes.proofs.read_attributes.Given as goal
 
 abbrev pub invariant-loop-j : goal.invariant-loop-j

@@ -2,7 +2,6 @@
 use Rattle.spec.specs.Namespaces.{xml_name}
 use Rattle.spec.specs.Bytes.{ascii}
 use Rattle.start_attributes.specs.Attributes.{no_role_declaration, no_role_unknown, role_unprefixed, role_xml, role_own, role_held, text-unprefixed, text_xml_lem, text_own, text-held}
-use borrow.Author.Rules.{rules}
 use Rattle.start_attributes.proofs.role_at.Goals as goal
 
 pub returns-in-Declaration : goal.returns-in-Declaration

@@ -2,7 +2,6 @@
 use mathlib.Core.Path.{refl}
 use Rattle.start_commit.specs.Acts.{act_full, act_done}
 use borrow.Author.Tests.{not-true, not-false}
-use borrow.Author.Rules.{rules}
 use Rattle.start_commit.proofs.act.Goals as goal
 
 pub shape_of-frames-then-not-said : goal.shape_of-frames-then-not-said

@@ -1,8 +1,6 @@
 -- `start_commit::enter` meets its contract. The same table, or one more in it.
 use Rattle.start_commit.specs.Entered.{enters_none, enters_one}
 use mathlib.Core.Path.{sym, ◌∙◌}
-use borrow.Author.Tests.{not-true, not-false}
-use borrow.Author.Rules.{rules}
 use Rattle.start_commit.proofs.enter.Goals as goal
 
 pub returns-then-not-is_there : goal.returns-then-not-is_there

@@ -1,7 +1,6 @@
 -- `start_commit::main_of` meets its contract. Of a span that ends before it starts, nothing.
 use Rattle.start_commit.specs.Told.{span-lent}
 use native.Mathlib.Omega.{arith}
-use borrow.Author.Rules.{rules}
 use Rattle.start_commit.proofs.main_of.Goals as goal
 
 pub returns-then-to-from : goal.returns-then-to-from

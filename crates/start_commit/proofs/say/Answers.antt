@@ -4,7 +4,6 @@ use lib.Seq.{length-take-le}
 use Rattle.writer.specs.Said.{says_nothing, drafted_not, drafted_all, drafted_long}
 use Rattle.start_commit.specs.Told.{no_lines}
 use native.Mathlib.Omega.{arith}
-use borrow.Author.Rules.{rules}
 use Rattle.start_commit.proofs.say.Goals as goal
 
 pub returns-in-Nothing : goal.returns-in-Nothing

@@ -1,6 +1,5 @@
 -- `start_commit::tell` meets its contract. By the plan.
 use Rattle.start_commit.specs.Told.{told-nothing, told-node, told-object, told_resource}
-use borrow.Author.Rules.{rules}
 use Rattle.start_commit.proofs.tell.Goals as goal
 
 pub returns-in-Nothing : goal.returns-in-Nothing

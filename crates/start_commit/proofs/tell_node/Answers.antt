@@ -1,6 +1,5 @@
 -- `start_commit::tell_node` meets its contract. What is lent is what the plan says.
 use Rattle.start_commit.specs.Told.{node-told}
-use borrow.Author.Rules.{rules}
 use Rattle.start_commit.proofs.tell_node.Goals as goal
 
 pub shape_of-out : goal.shape_of-out

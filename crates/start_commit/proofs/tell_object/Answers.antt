@@ -1,6 +1,5 @@
 -- `start_commit::tell_object` meets its contract. What is lent is what the plan says.
 use Rattle.start_commit.specs.Told.{object-told}
-use borrow.Author.Rules.{rules}
 use Rattle.start_commit.proofs.tell_object.Goals as goal
 
 pub shape_of-out : goal.shape_of-out

@@ -1,6 +1,5 @@
 -- `start_element::append` meets its contract. One write.
 use Rattle.start_element.specs.Places.{puts}
-use borrow.Author.Rules.{rules}
 use Rattle.start_element.proofs.append.Goals as goal
 
 pub shape_of-work : goal.shape_of-work

@@ -1,7 +1,6 @@
 -- `start_element::bind_all` meets its contract.
-use Rattle.start_element.specs.Rows.{Entering, entering_begins, entering_fits, entering_more, entering_done}
+use Rattle.start_element.specs.Rows.{entering_begins, entering_fits, entering_more, entering_done}
 use native.Mathlib.Omega.{arith}
-use borrow.Author.Rules.{rules}
 use Rattle.start_element.proofs.bind_all.Goals as goal
 
 pub loop-j-init : goal.loop-j-init

@@ -1,7 +1,5 @@
 -- `start_element::bind_all` meets its contract. The loop's invariant: the attributes from `j` on have their bindings.
-use Rattle.start_element.specs.Rows.{Entering, entering_begins, entering_fits, entering_more, entering_done}
-use native.Mathlib.Omega.{arith}
-use borrow.Author.Rules.{rules}
+use Rattle.start_element.specs.Rows.{Entering}
 use Rattle.start_element.proofs.bind_all.Given as goal
 
 abbrev pub invariant-loop-j : goal.invariant-loop-j

@@ -2,9 +2,7 @@
 use Rattle.start_element.specs.Rows.{binds_none, binds_one}
 use Rattle.start_element.specs.Sizes.{these_bytes}
 use Rattle.start_names.specs.Declarations.{told}
-use borrow.Author.Tests.{not-true, not-false}
 use native.Mathlib.Omega.{arith}
-use borrow.Author.Rules.{rules}
 use Rattle.start_element.proofs.bind_at.Goals as goal
 
 pub returns-then-not-is_declaration : goal.returns-then-not-is_declaration

@@ -1,8 +1,6 @@
 -- `start_element::bytes_at` meets its contract. None where attribute j is no declaration.
-use borrow.Author.Tests.{not-true, not-false}
 use Rattle.start_names.specs.Declarations.{told}
 use Rattle.start_element.specs.Sizes.{no_bytes, these_bytes}
-use borrow.Author.Rules.{rules}
 use Rattle.start_element.proofs.bytes_at.Goals as goal
 
 pub returns-then-not-is_declaration : goal.returns-then-not-is_declaration

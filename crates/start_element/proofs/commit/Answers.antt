@@ -1,7 +1,6 @@
 -- `start_element::commit` meets its contract. What was judged holds still where the element was counted and noted.
 use Rattle.start_element.specs.Laws.{ready_noted, commits}
 use mathlib.Core.Path.{◌∙◌}
-use borrow.Author.Rules.{rules}
 use Rattle.start_element.proofs.commit.Goals as goal
 
 pub open-q-requires : goal.open-q-requires

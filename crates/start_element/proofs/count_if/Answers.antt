@@ -1,8 +1,6 @@
 -- `start_element::count_if` meets its contract. A law of specs/ for each return.
 use mathlib.Core.Path.{◌∙◌}
 use Rattle.start_element.specs.Laws.{counts_not, counts-li, counts-rdf}
-use borrow.Author.Tests.{not-true, not-false}
-use borrow.Author.Rules.{rules}
 use Rattle.start_element.proofs.count_if.Goals as goal
 
 pub returns-then-not-li : goal.returns-then-not-li

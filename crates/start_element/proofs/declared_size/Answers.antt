@@ -1,9 +1,7 @@
 -- `start_element::declared_size` meets its contract.
-use Prim.Native.Nat.{◌-◌}
 use Rattle.spec.specs.Limits.{most_attributes}
-use Rattle.start_element.specs.Sizes.{Summed, summed_begins, summed_more, summed_done, few_bytes}
+use Rattle.start_element.specs.Sizes.{summed_begins, summed_more, summed_done, few_bytes}
 use native.Mathlib.Omega.{arith}
-use borrow.Author.Rules.{rules}
 use Rattle.start_element.proofs.declared_size.Goals as goal
 
 pub loop-j-init : goal.loop-j-init

@@ -1,9 +1,6 @@
 -- `start_element::declared_size` meets its contract. The loop's invariant: the first `j` attributes have `n` bytes.
 use Prim.Native.Nat.{◌-◌}
-use Rattle.spec.specs.Limits.{most_attributes}
-use Rattle.start_element.specs.Sizes.{Summed, summed_begins, summed_more, summed_done, few_bytes}
-use native.Mathlib.Omega.{arith}
-use borrow.Author.Rules.{rules}
+use Rattle.start_element.specs.Sizes.{Summed}
 use Rattle.start_element.proofs.declared_size.Given as goal
 
 abbrev pub invariant-loop-j : goal.invariant-loop-j

@@ -2,8 +2,6 @@
 use mathlib.Core.Path.{◌∙◌}
 use Rattle.start_element.specs.Laws.{notes_nothing, notes_child}
 use borrow.Author.Tests.{not-true, not-false}
-use native.Mathlib.Omega.{arith}
-use borrow.Author.Rules.{rules}
 use Rattle.start_element.proofs.note_if.Goals as goal
 
 pub returns-then-not-r : goal.returns-then-not-r

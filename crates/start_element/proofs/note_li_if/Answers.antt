@@ -1,8 +1,5 @@
 -- `start_element::note_li_if` meets its contract. A law of specs/ for each return.
-use borrow.Author.Tests.{not-true, not-false}
 use Rattle.start_element.specs.Laws.{li_not, li_does}
-use native.Mathlib.Omega.{arith}
-use borrow.Author.Rules.{rules}
 use Rattle.start_element.proofs.note_li_if.Goals as goal
 
 pub returns-then-not-li : goal.returns-then-not-li

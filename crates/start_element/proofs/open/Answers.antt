@@ -3,7 +3,6 @@ use mathlib.Core.Path.{◌∙◌}
 use Rattle.spec.specs.Limits.{most_bindings}
 use Rattle.start_element.specs.Laws.{name-room, bind_room, lay_room, opens}
 use native.Mathlib.Omega.{arith}
-use borrow.Author.Rules.{rules}
 use Rattle.start_element.proofs.open.Goals as goal
 
 pub overflow_add-from : goal.overflow_add-from

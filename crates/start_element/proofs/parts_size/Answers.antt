@@ -3,7 +3,6 @@ use Rattle.start_element.specs.Sizes.{few-text, few-tag}
 use mathlib.Core.Path.{ap}
 use lib.ListN.{length}
 use native.Mathlib.Omega.{arith}
-use borrow.Author.Rules.{rules}
 use Rattle.start_element.proofs.parts_size.Goals as goal
 
 pub overflow_add-result : goal.overflow_add-result

@@ -1,5 +1,4 @@
 -- `start_element::put_text` meets its contract: the part's bytes are written.
-use borrow.Author.Rules.{rules}
 use Rattle.start_element.proofs.put_text.Goals as goal
 
 pub append-requires : goal.append-requires

@@ -5,7 +5,6 @@ use Rattle.spec.specs.Limits.{most_attributes}
 use Rattle.start_element.specs.Sizes.{few_parts, few-declared, measured}
 use Rattle.copy.specs.Copy.{part_short}
 use native.Mathlib.Omega.{arith}
-use borrow.Author.Rules.{rules}
 use Rattle.start_element.proofs.size.Goals as goal
 
 pub overflow_add-result : goal.overflow_add-result

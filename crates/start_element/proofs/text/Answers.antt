@@ -1,6 +1,5 @@
 -- `start_element::text` meets its contract. By the source.
 use Rattle.start_element.specs.Element.{text_of}
-use borrow.Author.Rules.{rules}
 use Rattle.start_element.proofs.text.Goals as goal
 
 pub returns-in-Missing : goal.returns-in-Missing

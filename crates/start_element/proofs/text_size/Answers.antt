@@ -2,7 +2,6 @@
 use mathlib.Core.Path.{ap}
 use lib.ListN.{length}
 use Rattle.start_element.specs.Element.{text_of}
-use borrow.Author.Rules.{rules}
 use Rattle.start_element.proofs.text_size.Goals as goal
 
 pub returns-in-Missing : goal.returns-in-Missing

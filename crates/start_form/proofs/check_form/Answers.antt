@@ -1,7 +1,6 @@
 -- `start_form::check_form` meets its contract.
 use Rattle.start_form.specs.Form.{form_second, form_fault, form_deep, form_bound, form_good}
 use native.Mathlib.Omega.{arith}
-use borrow.Author.Rules.{rules}
 use Rattle.start_form.proofs.check_form.Goals as goal
 
 pub returns-then-is_second_root : goal.returns-then-is_second_root

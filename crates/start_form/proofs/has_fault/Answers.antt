@@ -1,7 +1,5 @@
 -- `start_form::has_fault` meets its contract.
 use Rattle.start_form.specs.Form.{fault_none, fault_illegal, fault_alone, fault_twice}
-use borrow.Author.Tests.{not-true, not-false}
-use borrow.Author.Rules.{rules}
 use Rattle.start_form.proofs.has_fault.Goals as goal
 
 pub returns-then-k-eq0 : goal.returns-then-k-eq0

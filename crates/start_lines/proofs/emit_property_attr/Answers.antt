@@ -2,10 +2,8 @@
 use Rattle.start_lines.specs.Lines.{no_line, one_line}
 use Rattle.spec.specs.Namespaces.{xml_name}
 use Rattle.spec.specs.Bytes.{ascii}
-use borrow.Author.Tests.{not-true, not-false}
 use mathlib.Core.Path.{sym, ◌∙◌}
 use native.Mathlib.Omega.{arith}
-use borrow.Author.Rules.{rules}
 use Rattle.start_lines.proofs.emit_property_attr.Goals as goal
 
 pub returns-then-not-is_property : goal.returns-then-not-is_property

@@ -1,10 +1,6 @@
 -- `start_lines::emit_property_attrs` meets its contract.
-use Rattle.start_lines.specs.Lines.{Emitting, emitting_begins, emitting_more, emitting_done}
-use Rattle.ntriples.specs.Terms.{subject_of}
-use Rattle.state.specs.Language.{language_of}
-use Prim.Native.Nat.{◌-◌}
+use Rattle.start_lines.specs.Lines.{emitting_begins, emitting_more, emitting_done}
 use native.Mathlib.Omega.{arith}
-use borrow.Author.Rules.{rules}
 use Rattle.start_lines.proofs.emit_property_attrs.Goals as goal
 
 pub loop-j-init : goal.loop-j-init

@@ -1,10 +1,8 @@
 -- `start_lines::emit_property_attrs` meets its contract. The loop's invariant: the lines of the first `j` attributes are written.
-use Rattle.start_lines.specs.Lines.{Emitting, emitting_begins, emitting_more, emitting_done}
+use Rattle.start_lines.specs.Lines.{Emitting}
 use Rattle.ntriples.specs.Terms.{subject_of}
 use Rattle.state.specs.Language.{language_of}
 use Prim.Native.Nat.{◌-◌}
-use native.Mathlib.Omega.{arith}
-use borrow.Author.Rules.{rules}
 use Rattle.start_lines.proofs.emit_property_attrs.Given as goal
 
 abbrev pub invariant-loop-j : goal.invariant-loop-j

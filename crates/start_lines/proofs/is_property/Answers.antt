@@ -1,6 +1,5 @@
 -- `start_lines::is_property` meets its contract.
 use Rattle.start_lines.specs.Lines.{role_none}
-use borrow.Author.Rules.{rules}
 use Rattle.start_lines.proofs.is_property.Goals as goal
 
 pub returns-then-roles-j : goal.returns-then-roles-j

@@ -1,7 +1,6 @@
 -- `start_lines::property_line` meets its contract: one line, from what it reads.
 use Rattle.writer.specs.Put.{put_as}
 use Rattle.start_lines.specs.Lines.{property-text}
-use borrow.Author.Rules.{rules}
 use Rattle.start_lines.proofs.property_line.Goals as goal
 
 pub shape_of-out : goal.shape_of-out

@@ -2,7 +2,6 @@
 use mathlib.Core.Path.{◌∙◌}
 use Rattle.start_lines.specs.Lines.{lines_then}
 use Rattle.writer.specs.Put.{puts, put_as}
-use borrow.Author.Rules.{rules}
 use Rattle.start_lines.proofs.tag_lines.Goals as goal
 
 pub shape_of-out : goal.shape_of-out

@@ -1,9 +1,7 @@
 -- `start_lines::type_line` meets its contract: no line, or one.
 use Rattle.start_lines.specs.Lines.{no_type, one_type}
 use Rattle.spec.specs.Bytes.{ascii}
-use borrow.Author.Tests.{not-true, not-false}
 use native.Mathlib.Omega.{arith}
-use borrow.Author.Rules.{rules}
 use Rattle.start_lines.proofs.type_line.Goals as goal
 
 pub returns-then-not-typed : goal.returns-then-not-typed

@@ -1,8 +1,5 @@
 -- `start_plan::build_node_elt` meets its contract: a law for each return.
 use Rattle.start_plan.specs.Plan.{node_made}
-use mathlib.Core.Path.{sym, ◌∙◌}
-use native.Mathlib.Omega.{arith}
-use borrow.Author.Rules.{rules}
 use Rattle.start_plan.proofs.build_node_elt.Goals as goal
 
 pub returns : goal.returns

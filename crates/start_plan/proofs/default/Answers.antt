@@ -1,8 +1,5 @@
 -- `start_plan::default` meets its contract: a law for each return.
 use Rattle.start_plan.specs.Plan.{default_none, default_some}
-use mathlib.Core.Path.{sym, ◌∙◌}
-use native.Mathlib.Omega.{arith}
-use borrow.Author.Rules.{rules}
 use Rattle.start_plan.proofs.default.Goals as goal
 
 pub returns-then-what-eq0 : goal.returns-then-what-eq0

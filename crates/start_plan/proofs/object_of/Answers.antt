@@ -1,8 +1,6 @@
 -- `start_plan::object_of` meets its contract: a law for each return.
 use Rattle.start_plan.specs.Plan.{as_resource_lem, as_node, as_label, as_nothing}
 use mathlib.Core.Path.{sym, ◌∙◌}
-use native.Mathlib.Omega.{arith}
-use borrow.Author.Rules.{rules}
 use Rattle.start_plan.proofs.object_of.Goals as goal
 
 pub returns-then-is_there : goal.returns-then-is_there

@@ -1,6 +1,4 @@
 -- `start_plan::resource` meets its contract: a law for each return.
-use native.Mathlib.Omega.{arith}
-use borrow.Author.Rules.{rules}
 use Rattle.start_plan.proofs.resource.Goals as goal
 
 pub returns : goal.returns

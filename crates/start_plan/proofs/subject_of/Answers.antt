@@ -1,8 +1,6 @@
 -- `start_plan::subject_of` meets its contract: a law for each return.
 use Rattle.start_plan.specs.Plan.{by_id, by_about, by_node, by_label}
 use mathlib.Core.Path.{sym, ◌∙◌}
-use native.Mathlib.Omega.{arith}
-use borrow.Author.Rules.{rules}
 use Rattle.start_plan.proofs.subject_of.Goals as goal
 
 pub returns-then-is_there : goal.returns-then-is_there

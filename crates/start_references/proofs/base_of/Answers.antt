@@ -1,6 +1,5 @@
 -- `start_references::base_of` meets its contract: by where xml:base stands.
 use Rattle.start_references.specs.Values.{bases_own, bases_other}
-use borrow.Author.Rules.{rules}
 use Rattle.start_references.proofs.base_of.Goals as goal
 
 pub returns-then-j-k : goal.returns-then-j-k

@@ -1,6 +1,5 @@
 -- `start_references::is_used` meets its contract.
 use Rattle.start_references.specs.References.{used_missing, used_bad, used-long, used-made}
-use borrow.Author.Rules.{rules}
 use Rattle.start_references.proofs.is_used.Goals as goal
 
 pub returns-in-Missing : goal.returns-in-Missing

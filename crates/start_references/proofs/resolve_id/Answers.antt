@@ -5,7 +5,6 @@ use Rattle.start_references.specs.Reference.{given}
 use Rattle.start_references.specs.Values.{value-most, some-value}
 use Rattle.start_references.specs.References.{no_own_id, id_as}
 use native.Mathlib.Omega.{arith}
-use borrow.Author.Rules.{rules}
 use Rattle.start_references.proofs.resolve_id.Goals as goal
 
 pub returns-then-k-j : goal.returns-then-k-j

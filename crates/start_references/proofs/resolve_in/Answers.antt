@@ -3,7 +3,6 @@ use Rattle.start_references.specs.Reference.{given}
 use Rattle.start_references.specs.Values.{some-value}
 use Rattle.start_references.specs.References.{no_value, value_as}
 use native.Mathlib.Omega.{arith}
-use borrow.Author.Rules.{rules}
 use Rattle.start_references.proofs.resolve_in.Goals as goal
 
 pub returns-then-k-j : goal.returns-then-k-j

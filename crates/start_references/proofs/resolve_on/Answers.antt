@@ -2,7 +2,6 @@
 use mathlib.Core.Path.{sym, ◌∙◌}
 use Rattle.start_references.specs.References.{five_at, stop_bad, stop_used, stop_others, all_resolved}
 use Rattle.start_references.specs.Reference.{given}
-use borrow.Author.Rules.{rules}
 use Rattle.start_references.proofs.resolve_on.Goals as goal
 
 pub shape_of-area-then-is_bad : goal.shape_of-area-then-is_bad

@@ -1,6 +1,5 @@
 -- `start_references::resolve_others` meets its contract.
 use Rattle.start_references.specs.References.{five_at, four_made}
-use borrow.Author.Rules.{rules}
 use Rattle.start_references.proofs.resolve_others.Goals as goal
 
 pub returns : goal.returns

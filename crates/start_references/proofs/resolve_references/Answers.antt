@@ -1,7 +1,6 @@
 -- `start_references::resolve_references` meets its contract: the base is the value of the first xml:base, or what was found in force.
 use Rattle.start_references.specs.References.{fresh_by, five_at, base_as}
 use Rattle.start_references.specs.Values.{based}
-use borrow.Author.Rules.{rules}
 use Rattle.start_references.proofs.resolve_references.Goals as goal
 
 pub resolve_on-requires : goal.resolve_on-requires

@@ -2,7 +2,6 @@
 use Rattle.start_rules.specs.Names.{is_rdf-name}
 use Rattle.spec.specs.Bytes.{ascii, is_empty}
 use mathlib.Core.Path.{refl, ◌∙◌}
-use borrow.Author.Rules.{rules}
 use Rattle.start_rules.proofs.is_rdf.Goals as goal
 
 pub returns : goal.returns

@@ -1,7 +1,6 @@
 -- `start_rules::is_reserved_node` meets its contract, by its term.
 use mathlib.Core.Path.{◌∙◌}
 use Rattle.start_rules.specs.Names.{node_by_term}
-use borrow.Author.Rules.{rules}
 use Rattle.start_rules.proofs.is_reserved_node.Goals as goal
 
 pub returns : goal.returns

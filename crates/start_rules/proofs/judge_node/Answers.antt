@@ -1,7 +1,6 @@
 -- `start_rules::judge_node` meets its contract: the refusals in their order.
 use Rattle.start_rules.specs.Judged.{node_reserved, node-two, node-spent, node_good}
 use mathlib.Core.Path.{sym, ◌∙◌}
-use borrow.Author.Rules.{rules}
 use Rattle.start_rules.proofs.judge_node.Goals as goal
 
 pub returns-then-reserved : goal.returns-then-reserved

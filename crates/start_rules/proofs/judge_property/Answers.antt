@@ -1,7 +1,6 @@
 -- `start_rules::judge_property` meets its contract: the refusals in their order.
 use Rattle.start_rules.specs.Judged.{property_reserved, property-two, property-counted, property-spent, property_good}
 use mathlib.Core.Path.{sym, ◌∙◌}
-use borrow.Author.Rules.{rules}
 use Rattle.start_rules.proofs.judge_property.Goals as goal
 
 pub returns-then-reserved : goal.returns-then-reserved

@@ -1,6 +1,5 @@
 -- `start_rules::make_label` meets its contract: a label is left, and its bytes are stored.
 use Rattle.start_rules.specs.Made.{label-made}
-use borrow.Author.Rules.{rules}
 use Rattle.start_rules.proofs.make_label.Goals as goal
 
 pub returns : goal.returns

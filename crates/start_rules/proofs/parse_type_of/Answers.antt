@@ -1,9 +1,7 @@
 -- `start_rules::parse_type_of` meets its contract, test by test.
 use Rattle.start_rules.specs.Judged.{parse_absent, parse_collection, parse_resource, parse-literal, parse-other}
 use Rattle.spec.specs.Bytes.{ascii}
-use borrow.Author.Tests.{not-true, not-false}
 use mathlib.Core.Path.{sym, ◌∙◌}
-use borrow.Author.Rules.{rules}
 use Rattle.start_rules.proofs.parse_type_of.Goals as goal
 
 pub returns-then-not-there : goal.returns-then-not-there

@@ -3,7 +3,6 @@ use Rattle.start_rules.specs.Made.{iri_made}
 use Rattle.spec.specs.Limits.{most_labels}
 use Rattle.spec.specs.Bytes.{ascii}
 use native.Mathlib.Omega.{arith}
-use borrow.Author.Rules.{rules}
 use Rattle.start_rules.proofs.property_iri.Goals as goal
 
 pub overflow_add-count : goal.overflow_add-count

@@ -2,10 +2,8 @@
 use Rattle.start_rules.specs.Names.{name-outside, name-inside}
 use Rattle.copy.specs.Texts.{begins-length}
 use Rattle.spec.specs.Bytes.{ascii}
-use borrow.Author.Tests.{not-true, not-false}
 use mathlib.Core.Path.{sym, ◌∙◌}
 use native.Mathlib.Omega.{arith}
-use borrow.Author.Rules.{rules}
 use Rattle.start_rules.proofs.rdf_name.Goals as goal
 
 pub returns-then-not-begins : goal.returns-then-not-begins

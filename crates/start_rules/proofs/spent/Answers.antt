@@ -1,6 +1,5 @@
 -- `start_rules::spent` meets its contract.
 use Rattle.start_rules.specs.Judged.{spent_by}
-use borrow.Author.Tests.{not-true, not-false}
 use Rattle.start_rules.proofs.spent.Goals as goal
 
 pub returns-then-not-asked : goal.returns-then-not-asked

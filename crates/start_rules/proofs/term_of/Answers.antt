@@ -1,7 +1,6 @@
 -- `start_rules::term_of` meets its contract: the name behind the namespace tells.
 use mathlib.Core.Path.{sym, ◌∙◌}
 use Rattle.start_rules.specs.Names.{name_term}
-use borrow.Author.Rules.{rules}
 use Rattle.start_rules.proofs.term_of.Goals as goal
 
 pub returns : goal.returns

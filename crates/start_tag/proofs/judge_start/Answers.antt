@@ -4,7 +4,6 @@ use Rattle.spec.specs.Limits.{most_attributes}
 use Rattle.state_ids.specs.Ids.{spans_in}
 use Rattle.start_tag.specs.Starting.{form_stops, tag_asks, read_stops, ready_behind, wrapper_starts, start_judged}
 use native.Mathlib.Omega.{arith}
-use borrow.Author.Rules.{rules}
 use Rattle.start_tag.proofs.judge_start.Goals as goal
 
 pub shape_of-classes-in-Stop : goal.shape_of-classes-in-Stop

@@ -1,7 +1,6 @@
 -- `start_tag::start_outside` meets its contract.
 use mathlib.Core.Path.{refl}
 use Rattle.start_tag.specs.Starting.{judge_asks, start_stops, start_goes}
-use native.Mathlib.Omega.{arith}
 use borrow.Author.Rules.{rules}
 use Rattle.start_tag.proofs.start_outside.Goals as goal
 

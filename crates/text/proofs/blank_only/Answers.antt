@@ -1,7 +1,5 @@
 -- `text::blank_only` meets its contract: 16, or nothing changes.
-use Rattle.state.specs.Tests.{yes, no}
 use Rattle.text.specs.Blank.{blank_stray, blank_stays}
-use borrow.Author.Rules.{rules}
 use Rattle.std.proofs.Common.{sym}
 use Rattle.std.proofs.Common.{◌∙◌}
 use Rattle.text.proofs.blank_only.Goals as goal

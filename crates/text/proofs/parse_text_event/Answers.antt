@@ -1,7 +1,6 @@
 -- `text::parse_text_event` meets its contract: a law of each place.
 use mathlib.Core.Path.{sym, ◌∙◌, refl}
 use Rattle.text.specs.Blank.{stands-outside, stands-nodes, stands_properties, stands_xml}
-use borrow.Author.Rules.{rules}
 use Rattle.text.proofs.parse_text_event.Goals as goal
 
 pub text_inside-requires : goal.text_inside-requires

@@ -2,9 +2,7 @@
 use mathlib.Core.Path.{sym, ◌∙◌}
 use borrow.Author.Tests.{leb-true, leb-false}
 use Rattle.spec.specs.Limits as L
-use Rattle.state.specs.Tests.{yes, no}
 use Rattle.text.specs.Object.{text_blank, text_over, text_done}
-use borrow.Author.Rules.{rules}
 use Rattle.text.proofs.take_text.Goals as goal
 
 pub returns-then-is_blank : goal.returns-then-is_blank

@@ -1,7 +1,6 @@
 -- `text::text_fits` meets its contract: the registers with the text on top.
 use Rattle.text.specs.Object.{fits_not, fits_top}
 use native.Mathlib.Omega.{arith}
-use borrow.Author.Rules.{rules}
 use Rattle.text.proofs.text_fits.Goals as goal
 
 pub returns-then-n-gt-STORE : goal.returns-then-n-gt-STORE

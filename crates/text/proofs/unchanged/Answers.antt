@@ -1,9 +1,7 @@
 -- `text::unchanged` meets its contract: held bytes decide.
 use borrow.Author.Tests.{leb-true, leb-false}
 use Rattle.spec.specs.Limits as L
-use Rattle.state.specs.Tests.{yes, no}
 use Rattle.text.specs.Blank.{unchanged_over, unchanged_done}
-use borrow.Author.Rules.{rules}
 use Rattle.std.proofs.Common.{sym}
 use Rattle.std.proofs.Common.{◌∙◌}
 use Rattle.text.proofs.unchanged.Goals as goal

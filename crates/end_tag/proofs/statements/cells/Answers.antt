@@ -1,9 +1,8 @@
 -- `end_tag::statements::cells` meets its contract.
 use mathlib.Core.Path.{refl}
 use Rattle.spec.specs.Limits.{most_labels}
-use Rattle.end_tag.specs.Cells.{Celled, celled_begins, celled_more, celled_done}
+use Rattle.end_tag.specs.Cells.{celled_begins, celled_more, celled_done}
 use native.Mathlib.Omega.{arith}
-use borrow.Author.Rules.{rules}
 use Rattle.end_tag.proofs.statements.cells.Goals as goal
 
 pub loop-i-init : goal.loop-i-init

@@ -1,9 +1,5 @@
 -- `end_tag::statements::cells` meets its contract. The loop's invariant: what is written, and the cells of the children that are left, are the cells of all.
-use mathlib.Core.Path.{refl}
-use Rattle.spec.specs.Limits.{most_labels}
-use Rattle.end_tag.specs.Cells.{Celled, celled_begins, celled_more, celled_done}
-use native.Mathlib.Omega.{arith}
-use borrow.Author.Rules.{rules}
+use Rattle.end_tag.specs.Cells.{Celled}
 use Rattle.end_tag.proofs.statements.cells.Given as goal
 
 abbrev pub invariant-loop-i : goal.invariant-loop-i

@@ -2,7 +2,6 @@
 use Rattle.spec.specs.Limits.{most_labels}
 use Rattle.end_tag.specs.Cells.{next_label}
 use native.Mathlib.Omega.{arith}
-use borrow.Author.Rules.{rules}
 use Rattle.end_tag.proofs.statements.label_of.Goals as goal
 
 pub returns : goal.returns

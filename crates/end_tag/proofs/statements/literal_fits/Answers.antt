@@ -1,6 +1,5 @@
 -- `end_tag::statements::literal_fits` meets its contract. Its object is a text with a datatype.
 use Rattle.end_tag.specs.Room.{literal-fits}
-use borrow.Author.Rules.{rules}
 use Rattle.end_tag.proofs.statements.literal_fits.Goals as goal
 
 pub returns : goal.returns

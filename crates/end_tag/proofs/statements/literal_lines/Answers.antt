@@ -2,7 +2,6 @@
 use Rattle.spec.specs.Bytes.{ascii}
 use Rattle.spec.specs.Rdf.{rdf}
 use Rattle.ntriples.specs.Terms.{term_of}
-use borrow.Author.Rules.{rules}
 use Rattle.end_tag.proofs.statements.literal_lines.Goals as goal
 
 pub returns : goal.returns

@@ -1,7 +1,6 @@
 -- `end_tag::statements::object_room` meets its contract. By the mark of the object.
 use borrow.Author.Tests.{eq-eqb, ne_eqb}
 use native.Mathlib.Omega.{arith}
-use borrow.Author.Rules.{rules}
 use Rattle.end_tag.proofs.statements.object_room.Goals as goal
 
 pub returns-then-what-eq1 : goal.returns-then-what-eq1

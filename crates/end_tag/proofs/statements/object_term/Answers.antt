@@ -1,6 +1,5 @@
 -- `end_tag::statements::object_term` meets its contract. By the mark of the tail.
 use Rattle.end_tag.specs.Object.{term_named, term_blank, term_literal}
-use borrow.Author.Rules.{rules}
 use Rattle.end_tag.proofs.statements.object_term.Goals as goal
 
 pub returns-then-what-eq1 : goal.returns-then-what-eq1

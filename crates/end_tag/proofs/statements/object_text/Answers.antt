@@ -1,6 +1,5 @@
 -- `end_tag::statements::object_text` meets its contract. By the mark of the tail.
 use Rattle.end_tag.specs.Object.{lent_none, lent-marked}
-use borrow.Author.Rules.{rules}
 use Rattle.end_tag.proofs.statements.object_text.Goals as goal
 
 pub returns-then-has-eq0 : goal.returns-then-has-eq0

@@ -1,7 +1,6 @@
 -- `end_tag::statements::part_of` meets its contract. A piece from one place to the next.
 use Rattle.end_tag.specs.Object.{span-lent}
 use native.Mathlib.Omega.{arith}
-use borrow.Author.Rules.{rules}
 use Rattle.end_tag.proofs.statements.part_of.Goals as goal
 
 pub returns-then-to-from : goal.returns-then-to-from

@@ -2,7 +2,6 @@
 use mathlib.Core.Bool.{false≢true}
 use Rattle.end_tag.specs.Room.{property-fits}
 use native.Mathlib.Omega.{arith}
-use borrow.Author.Rules.{rules}
 use Rattle.end_tag.proofs.statements.property_fits.Goals as goal
 
 pub returns-then-tag-gt-MOST_TAG : goal.returns-then-tag-gt-MOST_TAG

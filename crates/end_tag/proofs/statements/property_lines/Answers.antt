@@ -1,7 +1,6 @@
 -- `end_tag::statements::property_lines` meets its contract. The statement, with the object that the marks and parts say.
 use Rattle.writer.specs.Put.{put_as}
 use Rattle.end_tag.specs.Object.{said}
-use borrow.Author.Rules.{rules}
 use Rattle.end_tag.proofs.statements.property_lines.Goals as goal
 
 pub shape_of-out : goal.shape_of-out

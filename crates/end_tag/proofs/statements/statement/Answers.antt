@@ -1,7 +1,6 @@
 -- `end_tag::statements::statement` meets its contract. The statement of `ntriples`, with the parts of the frames.
 use Rattle.writer.specs.Put.{put_as}
 use Rattle.end_tag.specs.Object.{stated}
-use borrow.Author.Rules.{rules}
 use Rattle.end_tag.proofs.statements.statement.Goals as goal
 
 pub returns : goal.returns

@@ -2,7 +2,6 @@
 use borrow.Author.Tests.{leb-true}
 use Rattle.end_tag.specs.Room.{fits_one, fits_five}
 use native.Mathlib.Omega.{arith}
-use borrow.Author.Rules.{rules}
 use Rattle.end_tag.proofs.statements.statement_fits.Goals as goal
 
 pub returns-then-has-eq0 : goal.returns-then-has-eq0

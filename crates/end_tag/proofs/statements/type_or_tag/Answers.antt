@@ -1,7 +1,6 @@
 -- `end_tag::statements::type_or_tag` meets its contract. By the mark of a datatype.
 use mathlib.Core.Path.{refl}
 use Rattle.end_tag.specs.Object.{lent_unmarked, lent-marked}
-use borrow.Author.Rules.{rules}
 use Rattle.end_tag.proofs.statements.type_or_tag.Goals as goal
 
 pub returns-then-has-eq0 : goal.returns-then-has-eq0

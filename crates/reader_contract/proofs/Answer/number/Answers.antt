@@ -1,6 +1,5 @@
 -- `Answer::number` meets its contract by cases.
 use mathlib.Core.Path.{◌∙◌}
-use borrow.Author.Rules.{rules}
 use Rattle.reader_contract.proofs.Answer.number.Goals as goal
 
 pub returns-in-Refused : goal.returns-in-Refused

@@ -1,6 +1,5 @@
 -- `State::marked` meets its contract by cases.
 use mathlib.Core.Path.{sym, ◌∙◌}
-use borrow.Author.Rules.{rules}
 use Rattle.reader_contract.specs.Meaning.{mark_set, mark_not}
 use Rattle.reader_contract.proofs.State.marked.Goals as goal
 

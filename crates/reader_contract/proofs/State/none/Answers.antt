@@ -1,5 +1,4 @@
 -- `State::none` meets its contract: a fresh state, closed.
-use borrow.Author.Rules.{rules}
 use Rattle.reader_contract.specs.Meaning.{nothing}
 use Rattle.reader_contract.proofs.State.none.Goals as goal
 

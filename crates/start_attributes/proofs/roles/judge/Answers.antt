@@ -1,6 +1,5 @@
 -- `start_attributes::roles::judge` meets its contract, role by role.
 use Rattle.spec.specs.StartTag.{judge}
-use borrow.Author.Rules.{rules}
 use Rattle.start_attributes.proofs.roles.judge.Goals as goal
 
 pub returns-in-Nothing : goal.returns-in-Nothing

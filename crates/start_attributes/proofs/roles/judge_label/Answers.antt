@@ -1,8 +1,6 @@
 -- `start_attributes::roles::judge_label` meets its contract, test by test.
 use mathlib.Core.Path.{sym, ◌∙◌}
-use borrow.Author.Tests.{not-true, not-false}
 use Rattle.start_attributes.specs.Judgment.{no_name, ends_in_stop_lem, is_generated_lem, is_label}
-use borrow.Author.Rules.{rules}
 use Rattle.start_attributes.proofs.roles.judge_label.Goals as goal
 
 pub returns-then-not-is_nc_name : goal.returns-then-not-is_nc_name

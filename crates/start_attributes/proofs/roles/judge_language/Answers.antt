@@ -1,6 +1,5 @@
 -- `start_attributes::roles::judge_language` meets its contract, arm by arm.
 use Rattle.start_attributes.specs.Judgment.{tag_good, tag_clears, tag_bad}
-use borrow.Author.Rules.{rules}
 use Rattle.start_attributes.proofs.roles.judge_language.Goals as goal
 
 pub returns-in-Good : goal.returns-in-Good

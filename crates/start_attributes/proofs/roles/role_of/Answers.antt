@@ -1,9 +1,7 @@
 -- `start_attributes::roles::role_of` meets its contract, test by test.
 use mathlib.Core.Path.{sym, ◌∙◌}
-use borrow.Author.Tests.{not-true, not-false}
 use Rattle.spec.specs.Bytes.{ascii}
 use Rattle.start_attributes.specs.Role.{by_expanded, is_lang, is_base, is_nothing}
-use borrow.Author.Rules.{rules}
 use Rattle.start_attributes.proofs.roles.role_of.Goals as goal
 
 pub returns-then-not-begins : goal.returns-then-not-begins

@@ -2,7 +2,6 @@
 use mathlib.Core.Path.{sym, ◌∙◌}
 use Rattle.spec.specs.Bytes.{if◌then◌else◌}
 use Rattle.start_attributes.specs.Vocabulary.{if_named}
-use borrow.Author.Rules.{rules}
 use Rattle.start_attributes.proofs.vocabulary.either.Goals as goal
 
 pub returns-then-is_joined : goal.returns-then-is_joined

@@ -2,7 +2,6 @@
 use mathlib.Core.Path.{◌∙◌}
 use mathlib.Core.List.{append-nil}
 use Rattle.start_attributes.specs.Vocabulary.{front_empty}
-use borrow.Author.Rules.{rules}
 use Rattle.start_attributes.proofs.vocabulary.is_joined.Goals as goal
 
 pub returns-then-front-eq0 : goal.returns-then-front-eq0

@@ -3,7 +3,6 @@ use mathlib.Core.Path.{refl, ◌∙◌}
 use native.Mathlib.Omega.{arith}
 use Rattle.spec.specs.Bytes.{ascii, if◌then◌else◌}
 use Rattle.start_attributes.specs.Vocabulary.{vocabulary, term_among, of_length, by_length, no_length}
-use borrow.Author.Rules.{rules}
 use Rattle.start_attributes.proofs.vocabulary.local_term.Goals as goal
 
 pub overflow_add-front : goal.overflow_add-front

@@ -2,11 +2,9 @@
 use mathlib.Core.Path.{refl, sym, ◌∙◌}
 use Rattle.spec.specs.Rdf.{rdf}
 use Rattle.spec.specs.Bytes.{ascii}
-use borrow.Author.Tests.{not-true, not-false}
 use Rattle.copy.specs.Copy.{rest_of}
 use Rattle.start_attributes.specs.Vocabulary.{rdf_space, whole-outside, whole-inside}
 use native.Mathlib.Omega.{arith}
-use borrow.Author.Rules.{rules}
 use Rattle.start_attributes.proofs.vocabulary.rdf_term.Goals as goal
 
 pub term_across-requires : goal.term_across-requires

@@ -1,10 +1,8 @@
 -- `vocabulary::term_across` meets its contract, test by test.
 use mathlib.Core.Path.{sym, ◌∙◌}
-use borrow.Author.Tests.{not-true, not-false}
 use Rattle.copy.specs.Copy.{rest_of}
 use Rattle.start_attributes.specs.Vocabulary.{cut-outside, cut-other, cut_inside, cut-room}
 use native.Mathlib.Omega.{arith}
-use borrow.Author.Rules.{rules}
 use Rattle.start_attributes.proofs.vocabulary.term_across.Goals as goal
 
 pub returns-then-not-begins : goal.returns-then-not-begins

@@ -1,7 +1,5 @@
 -- `start_form::crowded::is_well_formed` meets its contract: a law for each return.
 use Rattle.start_form.specs.CrowdedForm.{forms_second, forms_illegal, forms_repeats}
-use borrow.Author.Tests.{not-true, not-false}
-use borrow.Author.Rules.{rules}
 use Rattle.start_form.proofs.crowded.is_well_formed.Goals as goal
 
 pub returns-then-is_second_root : goal.returns-then-is_second_root

@@ -2,7 +2,6 @@
 use mathlib.Core.Bool.{true, false}
 use Rattle.start_form.specs.Crowd.{reread, ready, refuses}
 use native.Mathlib.Omega.{arith}
-use borrow.Author.Rules.{rules}
 use Rattle.start_form.proofs.crowded.refusal.Goals as goal
 
 pub is_well_formed-requires : goal.is_well_formed-requires

@@ -1,6 +1,5 @@
 -- `start_form::crowded::repeats` meets its contract, by where the tag stands.
 use Rattle.start_form.specs.CrowdedForm.{repeats-written, repeats_expanded_lem}
-use borrow.Author.Rules.{rules}
 use Rattle.start_form.proofs.crowded.repeats.Goals as goal
 
 pub repeats_written-requires : goal.repeats_written-requires

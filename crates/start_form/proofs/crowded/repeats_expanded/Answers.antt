@@ -1,7 +1,6 @@
 -- `start_form::crowded::repeats_expanded` meets its contract, by how many they are.
 use Rattle.start_form.specs.CrowdedForm.{finds_few}
 use native.Mathlib.Omega.{arith}
-use borrow.Author.Rules.{rules}
 use Rattle.start_form.proofs.crowded.repeats_expanded.Goals as goal
 
 pub returns : goal.returns

@@ -3,7 +3,6 @@ use mathlib.Core.Path.{◌∙◌}
 use Rattle.start_names.specs.Repeats.{written_means}
 use Rattle.start_form.specs.Marks.{zero_pairs}
 use native.Mathlib.Omega.{arith}
-use borrow.Author.Rules.{rules}
 use Rattle.start_form.proofs.crowded.repeats_written.Goals as goal
 
 pub returns : goal.returns

@@ -1,7 +1,6 @@
 -- `start_form::marks::byte_from_end` meets its contract: in the last part, in the first, or in none.
 use Rattle.start_form.specs.Marks.{byte_back, byte_front, byte_none}
 use native.Mathlib.Omega.{arith}
-use borrow.Author.Rules.{rules}
 use Rattle.start_form.proofs.marks.byte_from_end.Goals as goal
 
 pub returns-then-i-back : goal.returns-then-i-back

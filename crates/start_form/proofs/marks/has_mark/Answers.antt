@@ -1,9 +1,6 @@
 -- `start_form::marks::has_mark` meets its contract.
-use Prim.Native.Nat.{◌-◌}
-use lib.ListN.{length}
-use Rattle.copy.specs.Scan.{Gathered, gathered_begins, gathered_more, gathered_done}
+use Rattle.copy.specs.Scan.{gathered_begins, gathered_more, gathered_done}
 use native.Mathlib.Omega.{arith}
-use borrow.Author.Rules.{rules}
 use Rattle.start_form.proofs.marks.has_mark.Goals as goal
 
 pub loop-j-init : goal.loop-j-init

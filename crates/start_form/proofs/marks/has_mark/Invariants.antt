@@ -1,9 +1,7 @@
 -- `start_form::marks::has_mark` meets its contract. The loop's invariant: `found` is the answer for the first `j` marks.
 use Prim.Native.Nat.{◌-◌}
 use lib.ListN.{length}
-use Rattle.copy.specs.Scan.{Gathered, gathered_begins, gathered_more, gathered_done}
-use native.Mathlib.Omega.{arith}
-use borrow.Author.Rules.{rules}
+use Rattle.copy.specs.Scan.{Gathered}
 use Rattle.start_form.proofs.marks.has_mark.Given as goal
 
 abbrev pub invariant-loop-j : goal.invariant-loop-j

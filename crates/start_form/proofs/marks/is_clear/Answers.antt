@@ -1,9 +1,7 @@
 -- `start_form::marks::is_clear` meets its contract: there are too few, or a block is searched.
-use mathlib.Core.Path.{◌∙◌}
 use Rattle.copy.specs.Copy.{part_of, length_part}
 use Rattle.start_form.specs.Marks.{clear_short, clear_block}
 use native.Mathlib.Omega.{arith}
-use borrow.Author.Rules.{rules}
 use Rattle.start_form.proofs.marks.is_clear.Goals as goal
 
 pub returns-then-to-i-lt-BLOCK : goal.returns-then-to-i-lt-BLOCK

@@ -1,10 +1,7 @@
 -- `start_form::marks::mark` meets its contract.
-use Prim.Native.Nat.{◌-◌}
 use mathlib.Core.Path.{◌∙◌}
-use mathlib.Core.List.{◌++◌}
-use Rattle.start_form.specs.Marks.{Marking, marking_begins, marking_more, marking_done}
+use Rattle.start_form.specs.Marks.{marking_begins, marking_more, marking_done}
 use native.Mathlib.Omega.{arith}
-use borrow.Author.Rules.{rules}
 use Rattle.start_form.proofs.marks.mark.Goals as goal
 
 pub loop-i-init : goal.loop-i-init

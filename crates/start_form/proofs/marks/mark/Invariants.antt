@@ -1,10 +1,7 @@
 -- `start_form::marks::mark` meets its contract. The loop's invariant: `i` bytes are in the number.
 use Prim.Native.Nat.{◌-◌}
-use mathlib.Core.Path.{◌∙◌}
 use mathlib.Core.List.{◌++◌}
-use Rattle.start_form.specs.Marks.{Marking, marking_begins, marking_more, marking_done}
-use native.Mathlib.Omega.{arith}
-use borrow.Author.Rules.{rules}
+use Rattle.start_form.specs.Marks.{Marking}
 use Rattle.start_form.proofs.marks.mark.Given as goal
 
 abbrev pub invariant-loop-i : goal.invariant-loop-i

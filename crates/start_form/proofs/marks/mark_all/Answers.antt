@@ -1,10 +1,8 @@
 -- `start_form::marks::mark_all` meets its contract.
-use Prim.Native.Nat.{◌-◌}
 use Rattle.spec.specs.Bytes.{ascii}
 use Rattle.spec.specs.Namespaces.{xml_name}
-use Rattle.start_form.specs.Marks.{MarkingAll, all_begins, all_more, all_done}
+use Rattle.start_form.specs.Marks.{all_begins, all_more, all_done}
 use native.Mathlib.Omega.{arith}
-use borrow.Author.Rules.{rules}
 use Rattle.start_form.proofs.marks.mark_all.Goals as goal
 
 pub loop-j-init : goal.loop-j-init

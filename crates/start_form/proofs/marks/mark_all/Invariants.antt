@@ -1,10 +1,6 @@
 -- `start_form::marks::mark_all` meets its contract. The loop's invariant: the first `j` attributes are marked.
 use Prim.Native.Nat.{◌-◌}
-use Rattle.spec.specs.Bytes.{ascii}
-use Rattle.spec.specs.Namespaces.{xml_name}
-use Rattle.start_form.specs.Marks.{MarkingAll, all_begins, all_more, all_done}
-use native.Mathlib.Omega.{arith}
-use borrow.Author.Rules.{rules}
+use Rattle.start_form.specs.Marks.{MarkingAll}
 use Rattle.start_form.proofs.marks.mark_all.Given as goal
 
 abbrev pub invariant-loop-j : goal.invariant-loop-j

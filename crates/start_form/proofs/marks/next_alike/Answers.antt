@@ -1,8 +1,6 @@
 -- `start_form::marks::next_alike` meets its contract.
-use Prim.Native.Nat.{◌-◌}
-use Rattle.start_form.specs.Marks.{Next, next_begins, next_block, next_more}
+use Rattle.start_form.specs.Marks.{next_begins, next_block, next_more}
 use native.Mathlib.Omega.{arith}
-use borrow.Author.Rules.{rules}
 use Rattle.start_form.proofs.marks.next_alike.Goals as goal
 
 pub loop-i-init : goal.loop-i-init

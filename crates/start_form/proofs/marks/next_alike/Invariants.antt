@@ -1,8 +1,6 @@
 -- `start_form::marks::next_alike` meets its contract. The loop's invariant: none of those from `from` up to `i` has the marks of `j`.
 use Prim.Native.Nat.{◌-◌}
-use Rattle.start_form.specs.Marks.{Next, next_begins, next_block, next_more}
-use native.Mathlib.Omega.{arith}
-use borrow.Author.Rules.{rules}
+use Rattle.start_form.specs.Marks.{Next}
 use Rattle.start_form.proofs.marks.next_alike.Given as goal
 
 abbrev pub invariant-loop-i : goal.invariant-loop-i

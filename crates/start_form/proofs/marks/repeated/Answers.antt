@@ -1,11 +1,8 @@
 -- `start_form::marks::repeated` meets its contract.
-use Prim.Native.Nat.{◌-◌}
 use mathlib.Core.Path.{sym, ◌∙◌}
 use lib.ListN.{length-replicate}
-use Rattle.start_names.specs.Pairs.{Unpaired, unpaired_begins, unpaired_hit, unpaired_more, unpaired_done}
-use Rattle.start_names.specs.Classes.{same_keys}
+use Rattle.start_names.specs.Pairs.{unpaired_begins, unpaired_hit, unpaired_more, unpaired_done}
 use native.Mathlib.Omega.{arith}
-use borrow.Author.Rules.{rules}
 use Rattle.start_form.proofs.marks.repeated.Goals as goal
 
 pub mark_all-requires : goal.mark_all-requires

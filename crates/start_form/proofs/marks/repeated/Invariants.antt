@@ -1,11 +1,7 @@
 -- `start_form::marks::repeated` meets its contract. The loop's invariant: none of the first `j` attributes is repeated.
 use Prim.Native.Nat.{◌-◌}
-use mathlib.Core.Path.{sym, ◌∙◌}
-use lib.ListN.{length-replicate}
-use Rattle.start_names.specs.Pairs.{Unpaired, unpaired_begins, unpaired_hit, unpaired_more, unpaired_done}
+use Rattle.start_names.specs.Pairs.{Unpaired}
 use Rattle.start_names.specs.Classes.{same_keys}
-use native.Mathlib.Omega.{arith}
-use borrow.Author.Rules.{rules}
 use Rattle.start_form.proofs.marks.repeated.Given as goal
 
 abbrev pub invariant-loop-j : goal.invariant-loop-j

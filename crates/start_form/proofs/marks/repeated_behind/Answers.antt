@@ -1,13 +1,10 @@
 -- `start_form::marks::repeated_behind` meets its contract.
-use Prim.Native.Nat.{◌-◌}
 use mathlib.Core.Path.{sym, ◌∙◌}
 use Rattle.spec.specs.Bytes.{ascii}
 use Rattle.spec.specs.Namespaces.{xml_name}
-use Rattle.start_names.specs.Pairs.{Alone, alone_begins, alone_hit, alone_more, alone_done}
-use Rattle.start_names.specs.Classes.{same_keys}
+use Rattle.start_names.specs.Pairs.{alone_begins, alone_hit, alone_more, alone_done}
 use Rattle.start_form.specs.Marks.{alone_next}
 use native.Mathlib.Omega.{arith}
-use borrow.Author.Rules.{rules}
 use Rattle.start_form.proofs.marks.repeated_behind.Goals as goal
 
 pub next_alike-i-requires : goal.next_alike-i-requires

@@ -4,7 +4,6 @@ use Rattle.start_names.specs.Declarations.{told}
 use Rattle.start_names.specs.Found.{found_bytes}
 use Rattle.start_names.specs.Classes.{says-unprefixed}
 use Rattle.start_form.specs.OwnLaws.{says_own, says-held}
-use borrow.Author.Rules.{rules}
 use Rattle.start_form.proofs.own.class_of.Goals as goal
 
 pub returns-then-is_declaration : goal.returns-then-is_declaration

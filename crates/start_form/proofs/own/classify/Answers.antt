@@ -1,9 +1,7 @@
 -- `start_form::own::classify` meets its contract.
-use Prim.Native.Nat.{◌-◌}
 use mathlib.Core.Path.{refl}
-use Rattle.start_names.specs.Classes.{Classifying, classifying_begins, classifying_more, classifying_done}
+use Rattle.start_names.specs.Classes.{classifying_begins, classifying_more, classifying_done}
 use native.Mathlib.Omega.{arith}
-use borrow.Author.Rules.{rules}
 use Rattle.start_form.proofs.own.classify.Goals as goal
 
 pub loop-j-init : goal.loop-j-init

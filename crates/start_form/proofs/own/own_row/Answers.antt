@@ -1,7 +1,6 @@
 -- `start_form::own::own_row` meets its contract. By the length of the name.
 use Rattle.start_form.specs.OwnLaws.{row_within, row_short, row-long}
 use native.Mathlib.Omega.{arith}
-use borrow.Author.Rules.{rules}
 use Rattle.start_form.proofs.own.own_row.Goals as goal
 
 pub overflow_cast-result : goal.overflow_cast-result

@@ -1,9 +1,8 @@
 -- `start_form::own::own_rows` meets its contract.
 --
 use Rattle.start_names.specs.Declarations.{told}
-use Rattle.start_form.specs.OwnLaws.{Owning, owning_begins, owning_other, owning_more, owning_done}
+use Rattle.start_form.specs.OwnLaws.{owning_begins, owning_other, owning_more, owning_done}
 use native.Mathlib.Omega.{arith}
-use borrow.Author.Rules.{rules}
 use Rattle.start_form.proofs.own.own_rows.Goals as goal
 
 pub loop-j-init : goal.loop-j-init

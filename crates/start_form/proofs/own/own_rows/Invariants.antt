@@ -1,9 +1,6 @@
 -- `start_form::own::own_rows` meets its contract.
 -- The loop's invariant: the rows so far bind what the attributes from `j` on declare.
-use Rattle.start_names.specs.Declarations.{told}
-use Rattle.start_form.specs.OwnLaws.{Owning, owning_begins, owning_other, owning_more, owning_done}
-use native.Mathlib.Omega.{arith}
-use borrow.Author.Rules.{rules}
+use Rattle.start_form.specs.OwnLaws.{Owning}
 use Rattle.start_form.proofs.own.own_rows.Given as goal
 
 abbrev pub invariant-loop-j : goal.invariant-loop-j

@@ -1,8 +1,6 @@
 -- `start_references::reference::absolute` meets its contract.
 use mathlib.Core.Path.{sym, ◌∙◌}
-use borrow.Author.Tests.{not-true, not-false}
 use Rattle.start_references.specs.Reference.{no_iri, long_iri, put_iri}
-use borrow.Author.Rules.{rules}
 use Rattle.start_references.proofs.reference.absolute.Goals as goal
 
 pub returns-then-not-is_iri : goal.returns-then-not-is_iri

@@ -5,7 +5,6 @@ use lib.ListN.{length, length-take, take}
 use Rattle.spec.specs.Bytes.{byte}
 use Rattle.start_references.specs.Reference.{given, hashed, id_resolved}
 use native.Mathlib.Omega.{arith}
-use borrow.Author.Rules.{rules}
 use Rattle.start_references.proofs.reference.far_id.Goals as goal
 
 pub slice_bounds-resolved-end : goal.slice_bounds-resolved-end

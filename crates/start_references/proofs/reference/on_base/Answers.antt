@@ -4,7 +4,6 @@ use Prim.Native.Nat.{◌+◌, ◌-◌}
 use lib.ListN.{length-take, length-drop}
 use Rattle.start_references.specs.Reference.{based_made, based_formless, based_long, answers}
 use native.Mathlib.Omega.{arith}
-use borrow.Author.Rules.{rules}
 use Rattle.start_references.proofs.reference.on_base.Goals as goal
 
 pub returns-in-Length : goal.returns-in-Length

@@ -1,8 +1,6 @@
 -- `start_references::reference::resolved` meets its contract.
 use mathlib.Core.Path.{sym, ◌∙◌}
-use borrow.Author.Tests.{not-true, not-false}
 use Rattle.start_references.specs.Reference.{no_reference, without-base, on_base}
-use borrow.Author.Rules.{rules}
 use Rattle.start_references.proofs.reference.resolved.Goals as goal
 
 pub returns-then-not-based : goal.returns-then-not-based

@@ -1,5 +1,4 @@
 -- `start_references::reference::resolved_id` meets its contract, by the value's length.
-use borrow.Author.Rules.{rules}
 use Rattle.start_references.proofs.reference.resolved_id.Goals as goal
 
 pub returns-then-value-lt-FEW : goal.returns-then-value-lt-FEW

@@ -1,7 +1,5 @@
 -- `giving::made` meets its contract.
 use Rattle.start_tag.specs.Giving.{made_there_at}
-use native.Mathlib.Omega.{arith}
-use borrow.Author.Rules.{rules}
 use Rattle.start_tag.proofs.giving.made.Goals as goal
 
 pub returns-in-Made : goal.returns-in-Made

@@ -1,8 +1,6 @@
 -- `giving::value` meets its contract.
 use Rattle.start_tag.specs.Giving.{no_value, value_there}
 use mathlib.Core.List.{[]}
-use native.Mathlib.Omega.{arith}
-use borrow.Author.Rules.{rules}
 use Rattle.start_tag.proofs.giving.value.Goals as goal
 
 pub returns-then-k-j : goal.returns-then-k-j

@@ -1,7 +1,6 @@
 -- `judging::draft` meets its contract.
 use mathlib.Core.Path.{refl}
 use Rattle.start_tag.specs.Places.{as_rdf, as_node, as_property}
-use borrow.Author.Rules.{rules}
 use Rattle.start_tag.proofs.judging.draft.Goals as goal
 
 pub judge_root-requires : goal.judge_root-requires

@@ -1,8 +1,6 @@
 -- `judging::fits` meets its contract.
 use Rattle.start_tag.specs.Limits.{id_full, held_full, held_fits}
-use borrow.Author.Tests.{not-true, not-false}
 use native.Mathlib.Omega.{arith}
-use borrow.Author.Rules.{rules}
 use Rattle.start_tag.proofs.judging.fits.Goals as goal
 
 pub returns-then-not-id_fits : goal.returns-then-not-id_fits

@@ -1,7 +1,5 @@
 -- `judging::id_fits` meets its contract.
 use Rattle.start_tag.specs.Limits.{no_id, own_id, made_id}
-use native.Mathlib.Omega.{arith}
-use borrow.Author.Rules.{rules}
 use Rattle.start_tag.proofs.judging.id_fits.Goals as goal
 
 pub returns-in-Missing : goal.returns-in-Missing

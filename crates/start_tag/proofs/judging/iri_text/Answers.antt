@@ -1,7 +1,5 @@
 -- `judging::iri_text` meets its contract.
 use Rattle.start_tag.specs.Names.{text-made}
-use native.Mathlib.Omega.{arith}
-use borrow.Author.Rules.{rules}
 use Rattle.start_tag.proofs.judging.iri_text.Goals as goal
 
 pub returns-in-Made : goal.returns-in-Made

@@ -1,6 +1,5 @@
 -- `judging::is_wrapped` meets its contract. By the place that the arm knows.
 use Rattle.start_tag.specs.Places.{is_wrapped}
-use borrow.Author.Rules.{rules}
 use Rattle.start_tag.proofs.judging.is_wrapped.Goals as goal
 
 pub returns-in-Outside : goal.returns-in-Outside

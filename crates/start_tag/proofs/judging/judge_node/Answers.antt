@@ -3,7 +3,6 @@ use mathlib.Core.Path.{refl}
 use Rattle.spec.specs.Limits.{most_labels}
 use Rattle.start_tag.specs.Nodes.{node_reserved_here, node_broken, node-left, node-refused, node-long, node_judged}
 use borrow.Author.Tests.{not-true, not-false}
-use borrow.Author.Rules.{rules}
 use Rattle.start_tag.proofs.judging.judge_node.Goals as goal
 
 pub shape_of-area-then-reserved : goal.shape_of-area-then-reserved

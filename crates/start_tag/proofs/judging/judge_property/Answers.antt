@@ -3,7 +3,6 @@ use mathlib.Core.Path.{refl, ap}
 use Rattle.state.specs.Meaning.{count}
 use Rattle.start_tag.specs.Properties.{property_reserved_here, property_broken, property-refused, property-long, property_judged, both_left, parse_read}
 use borrow.Author.Tests.{not-true, not-false}
-use borrow.Author.Rules.{rules}
 use Rattle.start_tag.proofs.judging.judge_property.Goals as goal
 
 pub shape_of-area-then-reserved : goal.shape_of-area-then-reserved

@@ -1,7 +1,6 @@
 -- `judging::judge_root` meets its contract: 19, 7, or what is planned.
 use Rattle.start_tag.specs.Places.{root_broken, root-long, root_judged}
 use borrow.Author.Tests.{not-true, not-false}
-use borrow.Author.Rules.{rules}
 use Rattle.start_tag.proofs.judging.judge_root.Goals as goal
 
 pub returns-then-not-kept : goal.returns-then-not-kept

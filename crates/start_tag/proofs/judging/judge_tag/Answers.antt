@@ -1,7 +1,5 @@
 -- `judging::judge_tag` meets its contract.
 use Rattle.start_tag.specs.Places.{fits_asks, tag-refused, tag_full, tag_goes}
-use borrow.Author.Tests.{not-true, not-false}
-use borrow.Author.Rules.{rules}
 use Rattle.start_tag.proofs.judging.judge_tag.Goals as goal
 
 pub fits-requires : goal.fits-requires

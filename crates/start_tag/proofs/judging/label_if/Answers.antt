@@ -1,9 +1,7 @@
 -- `judging::label_if` meets its contract.
 use Rattle.spec.specs.Limits.{most_held_bytes}
 use Rattle.start_tag.specs.Properties.{no_label, one_label}
-use borrow.Author.Tests.{not-true, not-false}
 use native.Mathlib.Omega.{arith}
-use borrow.Author.Rules.{rules}
 use Rattle.start_tag.proofs.judging.label_if.Goals as goal
 
 pub returns-then-not-takes : goal.returns-then-not-takes

@@ -1,7 +1,5 @@
 -- `judging::make_node` meets its contract.
 use Rattle.start_tag.specs.Nodes.{label_asks, node_made}
-use native.Mathlib.Omega.{arith}
-use borrow.Author.Rules.{rules}
 use Rattle.start_tag.proofs.judging.make_node.Goals as goal
 
 pub make_label-behind-requires : goal.make_label-behind-requires

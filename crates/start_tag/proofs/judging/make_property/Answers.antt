@@ -1,8 +1,6 @@
 -- `judging::make_property` meets its contract.
-use mathlib.Core.Path.{refl, ◌∙◌}
+use mathlib.Core.Path.{◌∙◌}
 use Rattle.start_tag.specs.Properties.{labels_asks, numbers_asks, property-made}
-use native.Mathlib.Omega.{arith}
-use borrow.Author.Rules.{rules}
 use Rattle.start_tag.proofs.judging.make_property.Goals as goal
 
 pub label_if-behind-requires : goal.label_if-behind-requires

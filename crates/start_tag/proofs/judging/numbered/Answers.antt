@@ -1,9 +1,7 @@
 -- `judging::numbered` meets its contract.
 use Rattle.spec.specs.Limits.{most_held_bytes}
 use Rattle.start_tag.specs.Properties.{not_numbered, is_numbered}
-use borrow.Author.Tests.{not-true, not-false}
 use native.Mathlib.Omega.{arith}
-use borrow.Author.Rules.{rules}
 use Rattle.start_tag.proofs.judging.numbered.Goals as goal
 
 pub returns-then-not-li : goal.returns-then-not-li

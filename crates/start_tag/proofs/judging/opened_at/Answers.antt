@@ -1,7 +1,6 @@
 -- `judging::opened_at` meets its contract, arm by arm.
 use mathlib.Core.Path.{sym, ◌∙◌}
 use Rattle.start_tag.specs.Places.{opens_at}
-use borrow.Author.Rules.{rules}
 use Rattle.start_tag.proofs.judging.opened_at.Goals as goal
 
 pub returns-then-is_rdf : goal.returns-then-is_rdf

@@ -1,7 +1,5 @@
 -- `judging::property_plan` meets its contract.
 use Rattle.start_tag.specs.Properties.{plan_absent, plan_collection, plan_resource, plan_literal, plan_other}
-use native.Mathlib.Omega.{arith}
-use borrow.Author.Rules.{rules}
 use Rattle.start_tag.proofs.judging.property_plan.Goals as goal
 
 pub returns-in-Absent : goal.returns-in-Absent

@@ -1,6 +1,5 @@
 -- `packets::awaits_rdf` meets its contract.
 use Rattle.start_tag.specs.Packets.{awaits-root, awaits_first}
-use borrow.Author.Rules.{rules}
 use Rattle.start_tag.proofs.packets.awaits_rdf.Goals as goal
 
 pub returns-then-depth-eq0 : goal.returns-then-depth-eq0

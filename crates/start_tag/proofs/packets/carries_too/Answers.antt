@@ -1,6 +1,5 @@
 -- `packets::carries_too` meets its contract.
 use Rattle.start_tag.specs.Packets.{carries_none, carries-tag, carries_no_tag}
-use borrow.Author.Rules.{rules}
 use Rattle.start_tag.proofs.packets.carries_too.Goals as goal
 
 pub returns-then-has-ne-CARRIED : goal.returns-then-has-ne-CARRIED

@@ -2,8 +2,6 @@
 use Rattle.start_tag.specs.Packets.{id_out, node_out, datatype_out, none_out, parse_out}
 use Rattle.spec.specs.Bytes.{ascii}
 use mathlib.Core.Path.{sym, ◌∙◌}
-use borrow.Author.Tests.{not-true, not-false}
-use borrow.Author.Rules.{rules}
 use Rattle.start_tag.proofs.packets.has_one_out.Goals as goal
 
 pub returns-then-not-is_missing : goal.returns-then-not-is_missing

@@ -1,8 +1,6 @@
 -- `packets::is_top_level` meets its contract.
 use Rattle.start_tag.specs.Packets.{top_ordinary, top_other, top_described}
 use mathlib.Core.Path.{sym, ◌∙◌}
-use borrow.Author.Tests.{not-true, not-false}
-use borrow.Author.Rules.{rules}
 use Rattle.start_tag.proofs.packets.is_top_level.Goals as goal
 
 pub returns-then-has-eq-ORDINARY : goal.returns-then-has-eq-ORDINARY

@@ -1,7 +1,6 @@
 -- `packets::keeps` meets its contract.
 use Rattle.start_tag.specs.Packets.{keeps_not, keeps-base, keeps_so}
 use borrow.Author.Tests.{not-true, not-false}
-use borrow.Author.Rules.{rules}
 use Rattle.start_tag.proofs.packets.keeps.Goals as goal
 
 pub returns-then-not-r : goal.returns-then-not-r

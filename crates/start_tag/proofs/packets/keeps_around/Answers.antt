@@ -2,7 +2,6 @@
 use mathlib.Core.Path.{sym, ◌∙◌}
 use native.Mathlib.Omega.{arith}
 use Rattle.start_tag.specs.Packets.{inside, taken-frame, around_awaited, around-frame}
-use borrow.Author.Rules.{rules}
 use Rattle.start_tag.proofs.packets.keeps_around.Goals as goal
 
 pub returns-then-awaits_rdf : goal.returns-then-awaits_rdf

@@ -1,6 +1,5 @@
 -- `packets::keeps_kind` meets its contract.
 use Rattle.start_tag.specs.Packets.{by_rdf, by_node, by_property, by_collection, by_literal, by_other, by_wrapper, is_taken}
-use borrow.Author.Rules.{rules}
 use Rattle.start_tag.proofs.packets.keeps_kind.Goals as goal
 
 pub returns-in-Rdf : goal.returns-in-Rdf

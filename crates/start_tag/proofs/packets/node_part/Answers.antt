@@ -2,7 +2,6 @@
 use mathlib.Core.Path.{sym, ◌∙◌}
 use borrow.Author.Tests.{not-true, not-false}
 use Rattle.start_tag.specs.Packets.{node_ordinary, node-other, node-awaits}
-use borrow.Author.Rules.{rules}
 use Rattle.start_tag.proofs.packets.node_part.Goals as goal
 
 pub returns-then-not-mode : goal.returns-then-not-mode

@@ -1,6 +1,5 @@
 -- `start_tag::packets::rdf_part` meets its contract, by the mode.
 use Rattle.start_tag.specs.Packets.{rdf_ordinary, rdf-awaits}
-use borrow.Author.Rules.{rules}
 use Rattle.start_tag.proofs.packets.rdf_part.Goals as goal
 
 pub returns-then-mode : goal.returns-then-mode

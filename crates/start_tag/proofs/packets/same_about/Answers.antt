@@ -1,7 +1,6 @@
 -- `packets::same_about` meets its contract.
 use Rattle.start_tag.specs.Packets.{about_first, about_missing, about_bad, about-long, about-other}
 use Rattle.std.proofs.Common.{eq-eqb, ne_eqb}
-use borrow.Author.Rules.{rules}
 use Rattle.start_tag.proofs.packets.same_about.Goals as goal
 
 pub returns-then-first : goal.returns-then-first

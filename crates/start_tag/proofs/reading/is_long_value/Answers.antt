@@ -1,6 +1,5 @@
 -- `start_tag::reading::is_long_value` meets its contract.
 use Rattle.start_tag.specs.Made.{no_value, value-length}
-use borrow.Author.Rules.{rules}
 use Rattle.start_tag.proofs.reading.is_long_value.Goals as goal
 
 pub returns-then-k-j : goal.returns-then-k-j

@@ -6,7 +6,6 @@ use Rattle.start_tag.specs.Made.{iri_long, name-long, base-long, id_long, others
 use Rattle.start_attributes.specs.Short.{short_at}
 use Rattle.start_attributes.specs.Places.{places}
 use Rattle.start_references.specs.Values.{value_if}
-use borrow.Author.Rules.{rules}
 use Rattle.start_tag.proofs.reading.is_short.Goals as goal
 
 pub returns-then-is_long : goal.returns-then-is_long

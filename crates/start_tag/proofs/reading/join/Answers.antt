@@ -1,7 +1,6 @@
 -- `start_tag::reading::join` meets its contract: two stores in a row.
 use mathlib.Core.Path.{◌∙◌}
 use Rattle.start_tag.specs.Made.{space-long, both_long, joined}
-use borrow.Author.Rules.{rules}
 use Rattle.start_tag.proofs.reading.join.Goals as goal
 
 pub returns-then-n-gt-MOST_BYTES : goal.returns-then-n-gt-MOST_BYTES

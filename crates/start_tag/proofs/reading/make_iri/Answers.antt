@@ -4,7 +4,6 @@ use Rattle.spec.specs.Namespaces.{xml_name}
 use Rattle.spec.specs.Bytes.{ascii}
 use Rattle.start_names.specs.Tag.{back_of}
 use Rattle.start_tag.specs.Made.{made_none, made-joined}
-use borrow.Author.Rules.{rules}
 use Rattle.start_tag.proofs.reading.make_iri.Goals as goal
 
 pub returns-then-is_unknown : goal.returns-then-is_unknown

@@ -1,6 +1,5 @@
 -- `start_tag::reading::make_language` meets its contract: nothing is said, none is in force, or a tag is made.
 use Rattle.start_tag.specs.Made.{language-unsaid, language_cleared, language_lowered}
-use borrow.Author.Rules.{rules}
 use Rattle.start_tag.proofs.reading.make_language.Goals as goal
 
 pub returns-then-k-j : goal.returns-then-k-j

@@ -4,7 +4,6 @@ use Rattle.spec.specs.Limits.{most_held_bytes}
 use Rattle.start_tag.specs.Tag.{unknown_name, wrong_attribute, wrong_reference, tag_read}
 use Rattle.start_tag.specs.Wrapper.{unknown_none, known_so}
 use native.Mathlib.Omega.{arith}
-use borrow.Author.Rules.{rules}
 use Rattle.start_tag.proofs.reading.read_tag.Goals as goal
 
 pub returns-then-is_unknown : goal.returns-then-is_unknown

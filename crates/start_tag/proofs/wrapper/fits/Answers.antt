@@ -6,7 +6,6 @@ use Rattle.start_element.specs.Sizes.{few-declared}
 use Rattle.copy.specs.Copy.{part_short}
 use Rattle.start_tag.specs.Wrapper.{held_much, held-left}
 use native.Mathlib.Omega.{arith}
-use borrow.Author.Rules.{rules}
 use Rattle.start_tag.proofs.wrapper.fits.Goals as goal
 
 pub returns-then-held-gt-MOST_HELD : goal.returns-then-held-gt-MOST_HELD

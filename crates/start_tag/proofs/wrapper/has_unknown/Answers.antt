@@ -1,12 +1,10 @@
 -- `start_tag::wrapper::has_unknown` meets its contract.
 use mathlib.Core.Path.{ap}
 use mathlib.Core.Bool.{not}
-use Prim.Native.Nat.{◌-◌}
-use Rattle.copy.specs.Scan.{Passed, passed-begins}
-use Rattle.start_attributes.specs.Places.{places, place_stops, place_passes, places_pass}
-use Rattle.start_tag.specs.Wrapper.{known_at, unknown_here, known_here}
+use Rattle.copy.specs.Scan.{passed-begins}
+use Rattle.start_attributes.specs.Places.{place_stops, place_passes, places_pass}
+use Rattle.start_tag.specs.Wrapper.{unknown_here, known_here}
 use native.Mathlib.Omega.{arith}
-use borrow.Author.Rules.{rules}
 use Rattle.start_tag.proofs.wrapper.has_unknown.Goals as goal
 
 pub loop-j-init : goal.loop-j-init

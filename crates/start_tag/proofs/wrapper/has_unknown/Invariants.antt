@@ -1,12 +1,8 @@
 -- `start_tag::wrapper::has_unknown` meets its contract. The loop's invariant: the prefixes of the first `j` attributes are known.
-use mathlib.Core.Path.{ap}
-use mathlib.Core.Bool.{not}
 use Prim.Native.Nat.{◌-◌}
-use Rattle.copy.specs.Scan.{Passed, passed-begins}
-use Rattle.start_attributes.specs.Places.{places, place_stops, place_passes, places_pass}
-use Rattle.start_tag.specs.Wrapper.{known_at, unknown_here, known_here}
-use native.Mathlib.Omega.{arith}
-use borrow.Author.Rules.{rules}
+use Rattle.copy.specs.Scan.{Passed}
+use Rattle.start_attributes.specs.Places.{places}
+use Rattle.start_tag.specs.Wrapper.{known_at}
 use Rattle.start_tag.proofs.wrapper.has_unknown.Given as goal
 
 abbrev pub invariant-loop-j : goal.invariant-loop-j

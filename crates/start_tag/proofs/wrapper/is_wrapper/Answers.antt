@@ -1,7 +1,6 @@
 -- `start_tag::wrapper::is_wrapper` meets its contract: not in the profile, not the root, or by its name.
 use Rattle.start_tag.specs.Wrapper.{no_profile, inside, by_name}
 use borrow.Author.Tests.{not-true, not-false}
-use borrow.Author.Rules.{rules}
 use Rattle.start_tag.proofs.wrapper.is_wrapper.Goals as goal
 
 pub returns-then-not-mode : goal.returns-then-not-mode

@@ -2,7 +2,6 @@
 use mathlib.Core.Path.{sym, ◌∙◌}
 use borrow.Author.Tests.{not-true, not-false}
 use Rattle.start_tag.specs.Wrapper.{unknown_prefix, long-name, wrapper_full, wrapper_judged}
-use borrow.Author.Rules.{rules}
 use Rattle.start_tag.proofs.wrapper.judge_wrapper.Goals as goal
 
 pub returns-then-has_unknown : goal.returns-then-has_unknown

@@ -3,7 +3,6 @@ use Rattle.spec.specs.Bytes.{ascii}
 use Rattle.spec.specs.Namespaces.{xml_name}
 use Rattle.spec.specs.Xmp.{wrapper_name}
 use Rattle.start_tag.specs.Wrapper.{joined_so}
-use borrow.Author.Rules.{rules}
 use Rattle.start_tag.proofs.wrapper.names_wrapper.Goals as goal
 
 pub returns : goal.returns
