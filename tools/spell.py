@@ -137,7 +137,12 @@ def table():
     return turned, names, lib
 
 
+# Document 01's choice by a test is `when .. then .. else`: `if` is the library's own.
+CHOICE = {"if": "when", "if◌then◌else◌": "when◌then◌else◌"}
+
+
 def antt(text, turned):
+    turned = turned | CHOICE
     text = KEPT.sub(lambda m: LEMMAS[m[0]], text)
     out = []
     for line in text.split("\n"):

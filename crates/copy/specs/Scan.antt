@@ -1,7 +1,7 @@
 -- The loops that read: what a test of a whole text says from the position that a loop has come to.
 use Rattle.std.specs.Prelude.{◌≡◌, refl, Bool, true, false, ◌||◌, List, ℕ, suc, ◌+◌, ◌<◌, ◌≤◌, eqb, length, take, drop, get_or}
 use Rattle.std.proofs.Common.{sym, ap, ◌∙◌, arith, add-one, eq-eqb, ne_eqb, length-take, length-drop, take-append-drop, drop_of_length-le, drop-cons, drop-drop}
-use Rattle.spec.specs.Bytes.{if◌then◌else◌, same, begins, up_to, among, every}
+use Rattle.spec.specs.Bytes.{when◌then◌else◌, same, begins, up_to, among, every}
 use Rattle.copy.specs.Texts.{same-lengths, begins_short, up_to_past}
 
 -- ---- laws of `||`
@@ -24,13 +24,13 @@ pub sought_begins : {p : ℕ → Bool} {s : List ℕ} → Sought p s 0
 sought_begins = record { upto = omega arith; rest = omega arith }
 
 pub sought_stop : {p : ℕ → Bool} {s : List ℕ} {i : ℕ} → Sought p s i → i < length s → p (get_or s i 0) ≡ true → i ≡ length (up_to p s)
-unfolding up_to if◌then◌else◌
+unfolding up_to when◌then◌else◌
 sought_stop {p} {s} {i} h b e =
     let z : length (up_to p (drop i s)) ≡ 0 = rw (drop-cons s i 0 b, e) in
     omega arith
 
 pub sought_more : {p : ℕ → Bool} {s : List ℕ} {i : ℕ} → Sought p s i → i < length s → p (get_or s i 0) ≡ false → Sought p s (i + 1)
-unfolding up_to if◌then◌else◌
+unfolding up_to when◌then◌else◌
 sought_more {p} {s} {i} h b e =
     let n : length (up_to p (drop i s)) ≡ suc (length (up_to p (drop (suc i) s))) = rw (drop-cons s i 0 b, e) in
     record { upto = omega arith; rest = rw add-one (omega arith) }

@@ -8,7 +8,7 @@ use mathlib.Core.List.{[], ◌∷◌, ◌++◌}
 use Prim.Native.Nat.{ℕ, suc, ◌+◌, ◌<◌, ◌≤◌}
 use native.Mathlib.Omega.{arith}
 use Rattle.std.proofs.Math.ListN.{length, take, drop}
-use Rattle.spec.specs.Bytes.{Bytes, if◌then◌else◌, is_empty, begins, after, up_to, from, among}
+use Rattle.spec.specs.Bytes.{Bytes, when◌then◌else◌, is_empty, begins, after, up_to, from, among}
 use Rattle.spec.proofs.Booleans.{and_left, and_right, and_both, no_true}
 pub use Rattle.spec.proofs.Bytes.{same_true, same_refl, same_false, same-lengths}
 
@@ -60,52 +60,52 @@ after_drop (a ∷ p) (b ∷ s) = after_drop p s
 
 module _ (p : ℕ → Bool) where
   pub length_up_to : (s : Bytes) → length (up_to p s) ≤ length s
-  unfolding up_to if◌then◌else◌
+  unfolding up_to when◌then◌else◌
   length_up_to [] = omega arith
   length_up_to (a ∷ s) = go (p a) (length_up_to s)
     where
-      go : (t : Bool) → length (up_to p s) ≤ length s → length (if t then [] else (a ∷ up_to p s)) ≤ suc (length s)
+      go : (t : Bool) → length (up_to p s) ≤ length s → length (when t then [] else (a ∷ up_to p s)) ≤ suc (length s)
       go true h = omega arith
       go false h = omega arith
 
   pub up_to_take : (s : Bytes) → up_to p s ≡ take (length (up_to p s)) s
-  unfolding up_to if◌then◌else◌
+  unfolding up_to when◌then◌else◌
   up_to_take [] = refl
   up_to_take (a ∷ s) = go (p a) (up_to_take s)
     where
       go : (t : Bool) → up_to p s ≡ take (length (up_to p s)) s
-          → (if t then [] else (a ∷ up_to p s)) ≡ take (length (if t then [] else (a ∷ up_to p s))) (a ∷ s)
+          → (when t then [] else (a ∷ up_to p s)) ≡ take (length (when t then [] else (a ∷ up_to p s))) (a ∷ s)
       go true h = refl
       go false h = ap (a ∷◌) h
 
   pub from-drop : (s : Bytes) → from p s ≡ drop (length (up_to p s)) s
-  unfolding up_to from if◌then◌else◌
+  unfolding up_to from when◌then◌else◌
   from-drop [] = refl
   from-drop (a ∷ s) = go (p a) (from-drop s)
     where
       go : (t : Bool) → from p s ≡ drop (length (up_to p s)) s
-          → (if t then (a ∷ s) else from p s) ≡ drop (length (if t then [] else (a ∷ up_to p s))) (a ∷ s)
+          → (when t then (a ∷ s) else from p s) ≡ drop (length (when t then [] else (a ∷ up_to p s))) (a ∷ s)
       go true h = refl
       go false h = h
 
   -- the byte that it is cut at is of the set
   pub up_to_stop : (s : Bytes) → length (up_to p s) < length s → p (get_or s (length (up_to p s)) 0) ≡ true
-  unfolding up_to if◌then◌else◌
+  unfolding up_to when◌then◌else◌
   up_to_stop [] h = absurd (omega arith)
   up_to_stop (a ∷ s) h = go (p a) refl (up_to_stop s) h
     where
-      go : (t : Bool) → p a ≡ t → (length (up_to p s) < length s → p (get_or s (length (up_to p s)) 0) ≡ true) → length (if t then [] else (a ∷ up_to p s)) < suc (length s)
-          → p (get_or (a ∷ s) (length (if t then [] else (a ∷ up_to p s))) 0) ≡ true
+      go : (t : Bool) → p a ≡ t → (length (up_to p s) < length s → p (get_or s (length (up_to p s)) 0) ≡ true) → length (when t then [] else (a ∷ up_to p s)) < suc (length s)
+          → p (get_or (a ∷ s) (length (when t then [] else (a ∷ up_to p s))) 0) ≡ true
       go true e f h = e
       go false e f h = f (omega arith)
 
 -- a text that does not have the byte is passed over
 pub up_to_past : (b : ℕ) (s t : Bytes) → among s b ≡ false → length (up_to (λ c. eqb c b) (s ++ t)) ≡ length s + length (up_to (λ c. eqb c b) t)
-unfolding up_to among if◌then◌else◌
+unfolding up_to among when◌then◌else◌
 up_to_past b [] t h = omega arith
 up_to_past b (a ∷ s) t h = go (eqb a b) h (up_to_past b s t)
   where
     go : (x : Bool) → (x || among s b) ≡ false → (among s b ≡ false → length (up_to (λ c. eqb c b) (s ++ t)) ≡ length s + length (up_to (λ c. eqb c b) t))
-        → length (if x then [] else (a ∷ up_to (λ c. eqb c b) (s ++ t))) ≡ suc (length s) + length (up_to (λ c. eqb c b) t)
+        → length (when x then [] else (a ∷ up_to (λ c. eqb c b) (s ++ t))) ≡ suc (length s) + length (up_to (λ c. eqb c b) t)
     go true h f = absurd (false≢true (sym h))
     go false h f = omega (arith, f h)

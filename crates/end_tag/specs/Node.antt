@@ -9,7 +9,7 @@ use Rattle.std.proofs.Math.ListN.{length}
 use borrow.Author.Tests.{eqb-true, eqb-false, eq-eqb, le-leb, lt-leb, lt-ltb}
 use Rattle.spec.specs.Limits as L
 use Rattle.spec.specs.Limits.{most_held_bytes}
-use Rattle.spec.specs.Bytes.{Bytes, if◌then◌else◌, total}
+use Rattle.spec.specs.Bytes.{Bytes, when◌then◌else◌, total}
 use Rattle.spec.specs.Numbers.{good}
 use Rattle.spec.specs.declared.Refusal.TheVariants.{OverLimit}
 use Rattle.spec.specs.NTriples.{Subject, named, blank, write}
@@ -81,7 +81,7 @@ kind_bytes_lem k e = omega arith
 -- another value of the first element
 held_changed : (g : Value → Value) (e : Element) (es : List Element) (d : Doc) → is_xml_element e.kind ≡ false
     → held_bytes (with_frames (change_value g (e ∷ es)) d) + kind_bytes e.kind ≡ held_bytes (with_frames (e ∷ es) d) + kind_bytes (on_value g e.kind)
-unfolding held_bytes with_frames total change_value if◌then◌else◌
+unfolding held_bytes with_frames total change_value when◌then◌else◌
 held_changed g e es d x = rw x (omega (arith, kind_bytes_lem (on_value g e.kind) e))
 
 -- what is neither a default property nor a Collection takes nothing

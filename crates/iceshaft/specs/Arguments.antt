@@ -4,7 +4,7 @@ use Rattle.std.proofs.Math.Path.{sym, ap}
 use Rattle.std.proofs.Common.{◌∙◌, arith, lt-ltb, le-ltb, eq-eqb, ne_eqb}
 use Rattle.spec.specs.declared.Mode.{Mode}
 use Rattle.spec.specs.Modes.{base_mode, xmp_mode}
-use Rattle.spec.specs.Bytes.{Bytes, ascii, if◌then◌else◌, same, begins}
+use Rattle.spec.specs.Bytes.{Bytes, ascii, when◌then◌else◌, same, begins}
 use Rattle.iceshaft.specs.declared.arguments.Chosen.{Chosen}
 use Rattle.iceshaft.specs.declared.arguments.Looked.{Looked}
 use Rattle.iceshaft.specs.declared.arguments.Looked.TheVariants.{On, Wrong}
@@ -20,7 +20,7 @@ with_xmp c = record { pyx = c.pyx; xmp = true; base = c.base; file = c.file; wai
 
 -- the mode of every document
 unfoldable pub chosen_mode : Chosen → Mode
-chosen_mode c = if c.xmp then xmp_mode else base_mode
+chosen_mode c = when c.xmp then xmp_mode else base_mode
 
 abbrev pub with_base : Chosen → ℕ → Chosen
 with_base c i = record { pyx = c.pyx; xmp = c.xmp; base = i; file = c.file; waits = false }
@@ -28,28 +28,28 @@ with_base c i = record { pyx = c.pyx; xmp = c.xmp; base = i; file = c.file; wait
 -- the first file stays
 abbrev pub with_file : Chosen → ℕ → Chosen
 with_file c i =
-    record { pyx = c.pyx; xmp = c.xmp; base = c.base; file = if eqb c.file 0 then i else c.file; waits = c.waits }
+    record { pyx = c.pyx; xmp = c.xmp; base = c.base; file = when eqb c.file 0 then i else c.file; waits = c.waits }
 
 -- a base is said once
 abbrev pub awaiting : Chosen → Looked
-awaiting c = if ltb 0 c.base then Wrong else On (record { pyx = c.pyx; xmp = c.xmp; base = c.base; file = c.file; waits = true })
+awaiting c = when ltb 0 c.base then Wrong else On (record { pyx = c.pyx; xmp = c.xmp; base = c.base; file = c.file; waits = true })
 
 -- a word that begins with `-`
 unfoldable pub switched : Chosen → Bytes → Looked
 switched c s =
-    if same s (ascii "--pyx")
+    when same s (ascii "--pyx")
     then On (with_pyx c)
-    else if same s (ascii "--xmp")
+    else when same s (ascii "--xmp")
     then On (with_xmp c)
-    else if same s (ascii "--base") then awaiting c else Wrong
+    else when same s (ascii "--base") then awaiting c else Wrong
 
 -- argument i: the base that `--base` waits for, a file, or a switch; none stands behind a file
 unfoldable pub looked : Chosen → ℕ → Bytes → Looked
 looked c i s =
-    if c.waits
+    when c.waits
     then On (with_base c i)
-    else if begins (ascii "-") s
-    then if ltb 0 c.file then Wrong else switched c s
+    else when begins (ascii "-") s
+    then when ltb 0 c.file then Wrong else switched c s
     else On (with_file c i)
 
 -- behind the last argument: no base is waited for, and PYX was said
@@ -72,40 +72,40 @@ all l = all_from l 1 (On unsaid)
 
 -- `iceshaft --pyx --base http://e/ a.pyx b.pyx`, and in another order
 said : all (ascii "--pyx" ∷ ascii "--base" ∷ ascii "http://e/" ∷ ascii "a.pyx" ∷ ascii "b.pyx" ∷ []) ≡ On (record { pyx = true; xmp = false; base = 3; file = 4; waits = false })
-unfolding all_from looked_on looked switched if◌then◌else◌ same begins ascii
+unfolding all_from looked_on looked switched when◌then◌else◌ same begins ascii
 said = refl
 
 other_order : all (ascii "--base" ∷ ascii "--pyx" ∷ ascii "--pyx" ∷ []) ≡ On (record { pyx = true; xmp = false; base = 2; file = 0; waits = false })
-unfolding all_from looked_on looked switched if◌then◌else◌ same begins ascii
+unfolding all_from looked_on looked switched when◌then◌else◌ same begins ascii
 other_order = refl
 
 -- `iceshaft --pyx --xmp a.pyx`: packets
 packets : all (ascii "--pyx" ∷ ascii "--xmp" ∷ ascii "a.pyx" ∷ [])
     ≡ On (record { pyx = true; xmp = true; base = 0; file = 3; waits = false })
-unfolding all_from looked_on looked switched if◌then◌else◌ same begins ascii
+unfolding all_from looked_on looked switched when◌then◌else◌ same begins ascii
 packets = refl
 
 -- a switch behind a file, two bases, and one that is unknown
 late : all (ascii "--pyx" ∷ ascii "a.pyx" ∷ ascii "--base" ∷ ascii "http://e/" ∷ []) ≡ Wrong
-unfolding all_from looked_on looked switched if◌then◌else◌ same begins ascii
+unfolding all_from looked_on looked switched when◌then◌else◌ same begins ascii
 late = refl
 
 two_bases : all (ascii "--base" ∷ ascii "http://e/" ∷ ascii "--base" ∷ ascii "http://f/" ∷ []) ≡ Wrong
-unfolding all_from looked_on looked switched if◌then◌else◌ same begins ascii
+unfolding all_from looked_on looked switched when◌then◌else◌ same begins ascii
 two_bases = refl
 
 unknown : all (ascii "--pyx" ∷ ascii "-" ∷ []) ≡ Wrong
-unfolding all_from looked_on looked switched if◌then◌else◌ same begins ascii
+unfolding all_from looked_on looked switched when◌then◌else◌ same begins ascii
 unknown = refl
 
 -- ---- laws
 
-on_true : {A : Type 0} (x y : A) {b : Bool} → b ≡ true → (if b then x else y) ≡ x
-unfolding if◌then◌else◌
+on_true : {A : Type 0} (x y : A) {b : Bool} → b ≡ true → (when b then x else y) ≡ x
+unfolding when◌then◌else◌
 on_true x y e = rw e
 
-on_false : {A : Type 0} (x y : A) {b : Bool} → b ≡ false → (if b then x else y) ≡ y
-unfolding if◌then◌else◌
+on_false : {A : Type 0} (x y : A) {b : Bool} → b ≡ false → (when b then x else y) ≡ y
+unfolding when◌then◌else◌
 on_false x y e = rw e
 
 -- Behind the first file every argument is a file, and says nothing more: the files are those from the first to the last argument.
@@ -120,7 +120,7 @@ files_last c d i s w f e = go (begins (ascii "-") s) refl
     go false q =
         let h : On (with_file c i) ≡ On d = sym (on_false _ _ w ∙ on_false _ _ q) ∙ e in
         let same : with_file c i ≡ d = cc in
-        let kept : (if eqb c.file 0 then i else c.file) ≡ c.file = on_false _ _ (ne_eqb c.file 0 (λ z. omega (arith, z, f))) in
+        let kept : (when eqb c.file 0 then i else c.file) ≡ c.file = on_false _ _ (ne_eqb c.file 0 (λ z. omega (arith, z, f))) in
         (q, sym same ∙ ap (λ n. record { pyx = c.pyx; xmp = c.xmp; base = c.base; file = n; waits = c.waits }) kept)
 
 -- ---- how the code comes to it

@@ -8,7 +8,7 @@ use native.Mathlib.Omega.{arith}
 use lib.Dec.{eqb, leb}
 use lib.ListN.{length}
 use borrow.Author.Tests.{eq-eqb, ne_eqb, eqb-true, eqb-false, le-leb, leb-true, not-true}
-use Rattle.spec.specs.Bytes.{Bytes, ascii, begins, if◌then◌else◌, up_to, from, every}
+use Rattle.spec.specs.Bytes.{Bytes, ascii, begins, when◌then◌else◌, up_to, from, every}
 use Rattle.spec.specs.Bytes as B
 use Rattle.spec.specs.Grammar.{Grammar, empty, ◌then◌, null}
 use Rattle.spec.specs.Abnf.{optional, word, times, at_most}
@@ -233,19 +233,19 @@ calm_begins c u r h = elim (or_cases (other 58 c) (starts_other u) h) [ inl x �
 
 module _ (w : Bytes) where
   calm_up_to : (u : Bytes) → calm u ≡ true → up_to_gap (u ++ (58 ∷ 58 ∷ w)) ≡ u
-  unfolding calm up_to_gap begins ascii if◌then◌else◌
+  unfolding calm up_to_gap begins ascii when◌then◌else◌
   calm_up_to [] h = refl
   calm_up_to (c ∷ u) h =
       rw (calm_begins c u (58 ∷ 58 ∷ w) (and_left (other 58 c || starts_other u) (calm u) h), calm_up_to u (and_right (other 58 c || starts_other u) (calm u) h))
 
   calm_from : (u : Bytes) → calm u ≡ true → from_gap (u ++ (58 ∷ 58 ∷ w)) ≡ 58 ∷ 58 ∷ w
-  unfolding calm from_gap begins ascii if◌then◌else◌
+  unfolding calm from_gap begins ascii when◌then◌else◌
   calm_from [] h = refl
   calm_from (c ∷ u) h =
       rw (calm_begins c u (58 ∷ 58 ∷ w) (and_left (other 58 c || starts_other u) (calm u) h)) (calm_from u (and_right (other 58 c || starts_other u) (calm u) h))
 
 calm_none : (u : Bytes) → calm u ≡ true → from_gap u ≡ []
-unfolding calm from_gap if◌then◌else◌
+unfolding calm from_gap when◌then◌else◌
 calm_none [] h = refl
 calm_none (c ∷ u) h =
     let b : begins (ascii "::") (c ∷ u) ≡ false = rw append-nil at (calm_begins c u [] (and_left (other 58 c || starts_other u) (calm u) h)) in
@@ -308,21 +308,21 @@ address_whole s e = of_same {g = IPv6address} {h = groups true 8} {s = s} {t = s
     torn g = nil≢cons (sym e ∙ ap from_gap g.whole ∙ calm_from g.right g.left (calm_groups false g.before g.left g.in_left))
 
 pub up_to_from_gap : (s : Bytes) → up_to_gap s ++ from_gap s ≡ s
-unfolding up_to_gap from_gap if◌then◌else◌
+unfolding up_to_gap from_gap when◌then◌else◌
 up_to_from_gap [] = refl
 up_to_from_gap (c ∷ s) = by (begins (ascii "::") (c ∷ s)) (up_to_from_gap s)
   where
-    by : (t : Bool) → up_to_gap s ++ from_gap s ≡ s → (if t then [] else (c ∷ up_to_gap s)) ++ (if t then (c ∷ s) else from_gap s) ≡ c ∷ s
+    by : (t : Bool) → up_to_gap s ++ from_gap s ≡ s → (when t then [] else (c ∷ up_to_gap s)) ++ (when t then (c ∷ s) else from_gap s) ≡ c ∷ s
     by true h = refl
     by false h = ap (◌∷◌ c) h
 
 pub from_gap-shape : (s : Bytes) → (from_gap s ≡ []) ⊎ ((t : Bytes) × (from_gap s ≡ 58 ∷ 58 ∷ t))
-unfolding from_gap ascii if◌then◌else◌
+unfolding from_gap ascii when◌then◌else◌
 from_gap-shape [] = inl refl
 from_gap-shape (c ∷ s) = by (begins (58 ∷ 58 ∷ []) (c ∷ s)) refl (from_gap-shape s)
   where
     by : (t : Bool) → begins (58 ∷ 58 ∷ []) (c ∷ s) ≡ t → (from_gap s ≡ []) ⊎ ((t : Bytes) × (from_gap s ≡ 58 ∷ 58 ∷ t))
-        → ((if t then (c ∷ s) else from_gap s) ≡ []) ⊎ ((u : Bytes) × ((if t then (c ∷ s) else from_gap s) ≡ 58 ∷ 58 ∷ u))
+        → ((when t then (c ∷ s) else from_gap s) ≡ []) ⊎ ((u : Bytes) × ((when t then (c ∷ s) else from_gap s) ≡ 58 ∷ 58 ∷ u))
     by true e h = inr (B.after (58 ∷ 58 ∷ []) (c ∷ s), begins_true (58 ∷ 58 ∷ []) (c ∷ s) e)
     by false e h = h
 

@@ -10,7 +10,7 @@ use lib.ListN.{length, length-append}
 use lib.Seq.{take-append_seam, drop-append_seam}
 use borrow.Author.Tests.{ltb-true, ltb-false}
 use Rattle.spec.proofs.Booleans.{and_left, and_right}
-use Rattle.spec.specs.Bytes.{Bytes, if◌then◌else◌, up_to, from, every}
+use Rattle.spec.specs.Bytes.{Bytes, when◌then◌else◌, up_to, from, every}
 use Rattle.spec.specs.Utf8.{character, in_front, characters}
 use Rattle.utils.specs.Decoding.{Front}
 use Rattle.utils.proofs.Utf8.{ends, up_to_on, character_good, characters_cons, sequence_alone, alone_sequence, low_byte, high_byte, no_bytes, then_others}
@@ -29,11 +29,11 @@ reads-characters done = no_bytes
 reads-characters (next t {s = s} e r) = then_others t s e ∙ rw (reads-characters r)
 
 pub up_to_from_lem : (p : ℕ → Bool) (s : Bytes) → up_to p s ++ from p s ≡ s
-unfolding up_to from if◌then◌else◌
+unfolding up_to from when◌then◌else◌
 up_to_from_lem p [] = refl
 up_to_from_lem p (a ∷ s) = by (p a) (up_to_from_lem p s)
   where
-    by : (t : Bool) → up_to p s ++ from p s ≡ s → (if t then [] else (a ∷ up_to p s)) ++ (if t then (a ∷ s) else from p s) ≡ a ∷ s
+    by : (t : Bool) → up_to p s ++ from p s ≡ s → (when t then [] else (a ∷ up_to p s)) ++ (when t then (a ∷ s) else from p s) ≡ a ∷ s
     by true h = refl
     by false h = ap (◌∷◌ a) h
 

@@ -10,7 +10,7 @@ use lib.Dec.{eqb, leb}
 use lib.ListN.{length, take, drop, get_or, length-append, drop_of_length-le}
 use lib.Seq.{take-append_seam, drop-append_seam, drop-drop}
 use borrow.Author.Tests.{eq-eqb, ne_eqb, eqb-true, eqb-false}
-use Rattle.spec.specs.Bytes.{Bytes, ascii, begins, up_to, from, every, is_empty, if◌then◌else◌}
+use Rattle.spec.specs.Bytes.{Bytes, ascii, begins, up_to, from, every, is_empty, when◌then◌else◌}
 use Rattle.spec.specs.Bytes as B
 use Rattle.spec.specs.Grammar.{◌then◌, many, null}
 use Rattle.spec.specs.Abnf.{lower, word, some, HEXDIG}
@@ -235,11 +235,11 @@ module _ (s : Bytes) {n : ℕ} (e : n ≡ length (up_to (is 64) s)) where
   authority_good l h q = q ∙ sym (user_law l ∙ rw h)
 
 from-marked : (d : ℕ) (s : Bytes) → Marked d (from (is d) s)
-unfolding from if◌then◌else◌
+unfolding from when◌then◌else◌
 from-marked d [] = end
 from-marked d (a ∷ s) = by (eqb a d) refl (from-marked d s)
   where
-    by : (t : Bool) → eqb a d ≡ t → Marked d (from (is d) s) → Marked d (if t then (a ∷ s) else from (is d) s)
+    by : (t : Bool) → eqb a d ≡ t → Marked d (from (is d) s) → Marked d (when t then (a ∷ s) else from (is d) s)
     by true e m = rw (eqb-true a d e) (mark s)
     by false e m = m
 
@@ -277,7 +277,7 @@ hier_path (c ∷ s) h = rw row_path (by (eqb c 47) refl)
     by false e = hier_plain c s (eqb-false c 47 e)
 
 relative_path : (s : Bytes) → begins (ascii "//") s ≡ false → of irelative_part s ≡ (of (row Path) s && colonless s)
-unfolding colonless up_to every if◌then◌else◌ B.byte
+unfolding colonless up_to every when◌then◌else◌ B.byte
 relative_path [] h = rw row_path (relative_nil ∙ sym (and-true (of (many pathchar) [])))
 relative_path (c ∷ s) h = rw row_path (by (eqb c 47) refl)
   where

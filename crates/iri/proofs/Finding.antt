@@ -8,7 +8,7 @@ use lib.Dec.{eqb}
 use lib.ListN.{length, take, drop, length-drop}
 use lib.Seq.{drop-drop}
 use borrow.Author.Tests.{eq-eqb, ne_eqb, eqb-true}
-use Rattle.spec.specs.Bytes.{Bytes, up_to, every, byte, if◌then◌else◌}
+use Rattle.spec.specs.Bytes.{Bytes, up_to, every, byte, when◌then◌else◌}
 use Rattle.copy.specs.Texts.{length_up_to}
 use Rattle.iri.specs.Forms.{other, colonless}
 use Rattle.iri.proofs.Languages.{is, same_test, cut-take}
@@ -35,7 +35,7 @@ eqb_suc : (m n : ℕ) → eqb (suc m) (suc n) ≡ eqb m n
 eqb_suc m n = same_test (eqb (suc m) (suc n)) (eqb m n) (λ e. eq-eqb m n (omega (arith, eqb-true (suc m) (suc n) e))) (λ e. eq-eqb (suc m) (suc n) (omega (arith, eqb-true m n e)))
 
 all_up_to : (d : ℕ) (u : Bytes) → eqb (length (up_to (is d) u)) (length u) ≡ every (other d) u
-unfolding up_to every if◌then◌else◌
+unfolding up_to every when◌then◌else◌
 all_up_to d [] = refl
 all_up_to d (a ∷ u) = by (eqb a d) refl (all_up_to d u)
   where

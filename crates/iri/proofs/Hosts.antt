@@ -118,10 +118,10 @@ portal-other c s n = same_test (of portal (c ∷ s)) false (λ e. absurd (n (mar
 -- ---- "v" 1*HEXDIG "." 1*( unreserved / sub-delims / ":" )
 
 lower_low : (d : ℕ) → d < 128 → (c : ℕ) → eqb (lower c) d ≡ true → c < 128
-unfolding lower B.if◌then◌else◌
+unfolding lower B.when◌then◌else◌
 lower_low d l c e = by (between (byte "A") (byte "Z") c) e
   where
-    by : (t : Bool) → eqb (B.if◌then◌else◌ t (32 + c) c) d ≡ true → c < 128
+    by : (t : Bool) → eqb (B.when◌then◌else◌ t (32 + c) c) d ≡ true → c < 128
     by true e = omega (arith, eqb-true (32 + c) d e)
     by false e = omega (arith, eqb-true c d e)
 

@@ -11,7 +11,7 @@ use lib.ListN.{length, take, drop, get_or, drop_of_length-le}
 use lib.Seq.{drop-cons}
 use Rattle.copy.specs.Texts.{up_to_take, from-drop, up_to_stop}
 use borrow.Author.Tests.{ne_eqb, eq-eqb, eqb-true, ltb-true, leb-true, le-leb, lt-ltb, not-true}
-use Rattle.spec.specs.Bytes.{Bytes, if◌then◌else◌, up_to, from, every, between, byte, is_empty}
+use Rattle.spec.specs.Bytes.{Bytes, when◌then◌else◌, up_to, from, every, between, byte, is_empty}
 use Rattle.spec.specs.Grammar.{Grammar, nothing, empty, one, ◌or◌, ◌then◌, many, Many, stop, more, Describes, accepts, null, after}
 use Rattle.spec.specs.Abnf.{lower, letters, optional, some}
 use Rattle.spec.specs.Utf8.{characters, in_front, holds_of, as_characters}
@@ -291,13 +291,13 @@ is d c = eqb c d
 module _ (d : ℕ) where
   -- a text is cut at its first mark
   pub up_to_cut : (u v : Bytes) → every (other d) u ≡ true → Marked d v → up_to (is d) (u ++ v) ≡ u
-  unfolding up_to if◌then◌else◌ every
+  unfolding up_to when◌then◌else◌ every
   up_to_cut [] [] h m = refl
   up_to_cut [] (a ∷ v) h (mark t) = rw (eq-eqb d d refl)
   up_to_cut (a ∷ u) v h m = rw (not-true (eqb a d) (and_left (other d a) (every (other d) u) h), up_to_cut u v (and_right (other d a) (every (other d) u) h) m)
 
   pub from_cut : (u v : Bytes) → every (other d) u ≡ true → Marked d v → from (is d) (u ++ v) ≡ v
-  unfolding from if◌then◌else◌ every
+  unfolding from when◌then◌else◌ every
   from_cut [] [] h m = refl
   from_cut [] (a ∷ v) h (mark t) = rw (eq-eqb d d refl)
   from_cut (a ∷ u) v h m = rw (not-true (eqb a d) (and_left (other d a) (every (other d) u) h)) (from_cut u v (and_right (other d a) (every (other d) u) h) m)
@@ -318,7 +318,7 @@ module _ (d : ℕ) where
 
   -- no mark in it: it is not cut
   pub from_none : (s : Bytes) → every (other d) s ≡ true → from (is d) s ≡ []
-  unfolding from if◌then◌else◌ every
+  unfolding from when◌then◌else◌ every
   from_none [] h = refl
   from_none (a ∷ s) h = rw (not-true (eqb a d) (and_left (other d a) (every (other d) s) h)) (from_none s (and_right (other d a) (every (other d) s) h))
 
@@ -346,14 +346,14 @@ module _ (d : ℕ) (ok : is_mark d ≡ true) where
   mark_low = ltb-true d 128 (and_left (ltb d 128) _ ok)
 
   pub mark-lower : eqb (lower d) d ≡ true
-  unfolding is_mark lower if◌then◌else◌ between byte
+  unfolding is_mark lower when◌then◌else◌ between byte
   mark-lower = rw (not-true (between 65 90 d) (and_left _ _ (and_right (ltb d 128) _ ok))) (eq-eqb d d refl)
 
   pub lower-mark : (c : ℕ) → eqb (lower c) d ≡ true → c ≡ d
-  unfolding is_mark lower if◌then◌else◌ between byte
+  unfolding is_mark lower when◌then◌else◌ between byte
   lower-mark c h = by (between 65 90 c) refl h
     where
-      by : (t : Bool) → between 65 90 c ≡ t → eqb (if t then 32 + c else c) d ≡ true → c ≡ d
+      by : (t : Bool) → between 65 90 c ≡ t → eqb (when t then 32 + c else c) d ≡ true → c ≡ d
       by false e h = eqb-true c d h
       by true e h = absurd (
           let k : 32 + c ≡ d = eqb-true (32 + c) d h in

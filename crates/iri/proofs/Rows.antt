@@ -9,7 +9,7 @@ use native.Mathlib.Omega.{arith}
 use lib.Dec.{eqb, leb}
 use lib.ListN.{length, drop, get_or}
 use borrow.Author.Tests.{eqb-true, leb-true}
-use Rattle.spec.specs.Bytes.{Bytes, ascii, between, byte, among, if◌then◌else◌}
+use Rattle.spec.specs.Bytes.{Bytes, ascii, between, byte, among, when◌then◌else◌}
 use Rattle.spec.specs.Bytes as B
 use Rattle.spec.specs.Grammar.{◌then◌, many, Many, stop, more, Describes, accepts}
 use Rattle.spec.specs.Abnf.{lower, HEXDIG}
@@ -64,10 +64,10 @@ piece_described (k either l) u (triple h a b p q e) = elim (or_cases (escapes k)
 -- ---- a row, by its first character
 
 pub hex_low : (c : ℕ) → is_hex c ≡ true → c < 128
-unfolding is_hex is_digit lower between byte if◌then◌else◌
+unfolding is_hex is_digit lower between byte when◌then◌else◌
 hex_low c h = elim (or_cases (between 48 57 c) (between 97 102 (lower c)) h) [ inl x ↦ omega (arith, leb-true c 57 (and_right (leb 48 c) (leb c 57) x)) | inr y ↦ by (leb 65 c && leb c 90) y ]
   where
-    by : (t : Bool) → between 97 102 (if t then 32 + c else c) ≡ true → c < 128
+    by : (t : Bool) → between 97 102 (when t then 32 + c else c) ≡ true → c < 128
     by true y = omega (arith, leb-true (32 + c) 102 (and_right (leb 97 (32 + c)) (leb (32 + c) 102) y))
     by false y = omega (arith, leb-true c 102 (and_right (leb 97 c) (leb c 102) y))
 
@@ -227,7 +227,7 @@ alpha_low : (c : ℕ) → is_alpha c ≡ true → c < 128
 unfolding P.all
 alpha_low c h = by (leb 65 c && leb c 90) h
   where
-    by : (t : Bool) → between 97 122 (if t then 32 + c else c) ≡ true → c < 128
+    by : (t : Bool) → between 97 122 (when t then 32 + c else c) ≡ true → c < 128
     by true y = omega (arith, leb-true (32 + c) 122 (and_right (leb 97 (32 + c)) (leb (32 + c) 122) y))
     by false y = omega (arith, leb-true c 122 (and_right (leb 97 c) (leb c 122) y))
 

@@ -8,7 +8,7 @@ use native.Mathlib.Numerals.{add-one}
 use lib.ListN.{length, drop, get_or, drop_of_length-le}
 use lib.Seq.{drop-cons}
 use borrow.Author.Tests.{eq-eqb, ne_eqb}
-use Rattle.spec.specs.Bytes.{Bytes, ascii, begins, among, if◌then◌else◌}
+use Rattle.spec.specs.Bytes.{Bytes, ascii, begins, among, when◌then◌else◌}
 use Rattle.iri.specs.Addresses.{up_to_gap}
 
 -- ---- a set of characters
@@ -44,14 +44,14 @@ gapless_begins s = record { upto = omega arith; rest = omega arith }
 
 module _ {s : Bytes} {i : ℕ} (h : Gapless s i) where
   pub gapless_stop : i < length s → begins (ascii "::") (drop i s) ≡ true → i ≡ length (up_to_gap s)
-  unfolding up_to_gap if◌then◌else◌
+  unfolding up_to_gap when◌then◌else◌
   gapless_stop l e =
       let b : begins (ascii "::") (get_or s i 0 ∷ drop (suc i) s) ≡ true = rw (drop-cons s i 0 l) at e in
       let z : length (up_to_gap (drop i s)) ≡ 0 = rw (drop-cons s i 0 l, b) in
       omega (arith, h.rest)
 
   pub gapless_more : i < length s → begins (ascii "::") (drop i s) ≡ false → Gapless s (i + 1)
-  unfolding up_to_gap if◌then◌else◌
+  unfolding up_to_gap when◌then◌else◌
   gapless_more l e =
       let b : begins (ascii "::") (get_or s i 0 ∷ drop (suc i) s) ≡ false = rw (drop-cons s i 0 l) at e in
       let z : length (up_to_gap (drop i s)) ≡ suc (length (up_to_gap (drop (suc i) s))) = rw (drop-cons s i 0 l, b) in

@@ -1,6 +1,6 @@
 -- The groups of an IPv6 address.
 use Rattle.std.specs.Prelude.{◌≡◌, Bool, true, false, ◌&&◌, ◌||◌, [], ◌∷◌, ℕ, zero, suc, ◌≤◌, eqb}
-use Rattle.spec.specs.Bytes.{Bytes, ascii, begins, between, if◌then◌else◌}
+use Rattle.spec.specs.Bytes.{Bytes, ascii, begins, between, when◌then◌else◌}
 use Rattle.spec.specs.Grammar.{Grammar, empty, ◌or◌, ◌then◌}
 use Rattle.spec.specs.Abnf.{word}
 use Rattle.spec.specs.Rfc3987.{h16, IPv4address}
@@ -22,11 +22,11 @@ pub record Counted (v : Bool) (s : Bytes) (r : ℕ) : Type 0 where
 -- a text up to, and from, its first "::"
 unfoldable pub up_to_gap : Bytes → Bytes
 up_to_gap [] = []
-up_to_gap (c ∷ s) = if begins (ascii "::") (c ∷ s) then [] else (c ∷ up_to_gap s)
+up_to_gap (c ∷ s) = when begins (ascii "::") (c ∷ s) then [] else (c ∷ up_to_gap s)
 
 unfoldable pub from_gap : Bytes → Bytes
 from_gap [] = []
-from_gap (c ∷ s) = if begins (ascii "::") (c ∷ s) then (c ∷ s) else from_gap s
+from_gap (c ∷ s) = when begins (ascii "::") (c ∷ s) then (c ∷ s) else from_gap s
 
 -- dec-octet, by its length
 unfoldable pub octet : Bytes → Bool

@@ -4,7 +4,7 @@ use mathlib.Core.Logic.{◌⊎◌, inl, inr}
 use mathlib.Core.Bool.{Bool, true, false, ◌&&◌, false≢true}
 use mathlib.Core.List.{List, [], ◌∷◌, map}
 use Prim.Native.Nat.{ℕ}
-use Rattle.spec.specs.Bytes.{Bytes, ascii, byte, if◌then◌else◌, same, member, between, onto}
+use Rattle.spec.specs.Bytes.{Bytes, ascii, byte, when◌then◌else◌, same, member, between, onto}
 use Rattle.spec.specs.Grammar.{Grammar, ◌or◌, Describes}
 use Rattle.spec.specs.Abnf.{lower, letters, word}
 use Rattle.spec.specs.Rfc5646 as R
@@ -43,7 +43,7 @@ among_complete (next {w = w} {l = l} a) s h =
 -- ---- the irregular ones
 
 listed : Among R.irregular irregulars
-unfolding R.irregular irregulars words spaced onto ascii byte if◌then◌else◌ word
+unfolding R.irregular irregulars words spaced onto ascii byte when◌then◌else◌ word
 listed = next (next (next (next (next (next (next (next (next (next (next (next (next (next (next (next last)))))))))))))))
 
 pub irregular_sound : (s : Bytes) → irregular s ≡ true → Describes R.irregular s
@@ -67,7 +67,7 @@ every_one p (w ∷ l) = p w && every_one p l
 
 -- each follows the rules
 all_composed : every_one composed regulars ≡ true
-unfolding every_one regulars ascii composed start fresh reads step ended grown longer first kind sized letter digit is_x lower byte between if◌then◌else◌
+unfolding every_one regulars ascii composed start fresh reads step ended grown longer first kind sized letter digit is_x lower byte between when◌then◌else◌
 all_composed = refl
 
 member-every : (p : Bytes → Bool) (l : List Bytes) (s : Bytes) → every_one p l ≡ true → member s l ≡ true → p s ≡ true

@@ -6,7 +6,7 @@ use mathlib.Core.List.{List, [], ◌∷◌, ◌++◌, map, append_assoc, append-
 use Prim.Native.Nat.{ℕ}
 use native.Mathlib.Omega.{arith}
 use lib.Dec.{eqb}
-use Rattle.spec.specs.Bytes.{Bytes, byte, ascii, every, if◌then◌else◌, between}
+use Rattle.spec.specs.Bytes.{Bytes, byte, ascii, every, when◌then◌else◌, between}
 use Rattle.spec.specs.Grammar.{Grammar, empty, one, ◌or◌, ◌then◌, many, Many, stop, more, Describes}
 use Rattle.spec.specs.Abnf.{word, lower}
 use Rattle.langtag.proofs.Letters.{letters_sound, letters_complete, lower-plain}
@@ -49,7 +49,7 @@ hyphen_only (c ∷ []) d = ap (◌∷ []) (lower-plain c 45 (head-eq_of_cons-eq 
 hyphen_only (c ∷ e ∷ u) d = absurd (cons≢nil (tail-eq_of_cons-eq (letters_sound (45 ∷ []) (c ∷ e ∷ u) d)))
 
 the_hyphen : Describes (word "-") (45 ∷ [])
-unfolding word ascii lower if◌then◌else◌ between byte
+unfolding word ascii lower when◌then◌else◌ between byte
 the_hyphen = letters_complete (45 ∷ []) (45 ∷ []) refl
 
 module _ {K : Type 0} (kind : Bytes → K) where

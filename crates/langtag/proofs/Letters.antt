@@ -7,7 +7,7 @@ use native.Mathlib.Omega.{arith}
 use lib.Dec.{eqb, leb}
 use lib.ListN.{get_or, get_or-map}
 use borrow.Author.Tests.{leb-true, le-leb, lt-leb, eqb-true, eq-eqb, ne_eqb}
-use Rattle.spec.specs.Bytes.{Bytes, byte, if◌then◌else◌, between}
+use Rattle.spec.specs.Bytes.{Bytes, byte, when◌then◌else◌, between}
 use Rattle.spec.specs.Grammar.{Describes}
 use Rattle.spec.specs.Abnf.{lower, letters}
 use Rattle.spec.proofs.Booleans.{and_left, and_right, and_both}
@@ -41,7 +41,7 @@ data Cased (c : ℕ) : Type 0 where
   other : lower c ≡ c → Cased c
 
 cased : (c : ℕ) → Cased c
-unfolding lower byte if◌then◌else◌
+unfolding lower byte when◌then◌else◌
 cased c = go (between 65 90 c) refl
   where
     go : (t : Bool) → between 65 90 c ≡ t → Cased c
@@ -72,12 +72,12 @@ lower_high c h = go (cased c)
     go (other r) = r
 
 pub lower_capital : (c : ℕ) → 65 ≤ c → c ≤ 90 → lower c ≡ 32 + c
-unfolding lower byte if◌then◌else◌
+unfolding lower byte when◌then◌else◌
 lower_capital c a b = rw (within 65 90 c a b)
 
 -- a byte of a text in lower case
 pub get_d_lower : (s : Bytes) (i : ℕ) → get_or (map lower s) i 0 ≡ lower (get_or s i 0)
-unfolding lower byte between if◌then◌else◌
+unfolding lower byte between when◌then◌else◌
 get_d_lower s i = get_or-map lower s i 0
 
 pub lower_twice : (c : ℕ) → lower (lower c) ≡ lower c

@@ -9,7 +9,7 @@ use native.Mathlib.Numerals.{add-one}
 use lib.ListN.{length, drop, get_or, length-append, drop_of_length-le}
 use lib.Seq.{drop-cons}
 use borrow.Author.Tests.{eqb-true, leb-true, leb-false, ne_eqb, not-true}
-use Rattle.spec.specs.Bytes.{Bytes, byte, if◌then◌else◌, every}
+use Rattle.spec.specs.Bytes.{Bytes, byte, when◌then◌else◌, every}
 use Rattle.spec.specs.Grammar.{◌or◌, Describes, accepts}
 use Rattle.spec.specs.Abnf.{optional, at_most}
 use Rattle.spec.specs.Rfc5646 as R
@@ -65,13 +65,13 @@ module _ (w : Bytes) (c : ℕ) where
   unfolding every
   more_of p = ap (every p w &&◌) (sym (and-true (p c))) ∙ sym (every_append p w (c ∷ []))
 
-  longer_by : (t : Bool) → leb (min 9 (length w)) 8 ≡ t → (if t then min 9 (length w) + 1 else 9) ≡ min 9 (length (w ++ (c ∷ [])))
-  unfolding if◌then◌else◌
+  longer_by : (t : Bool) → leb (min 9 (length w)) 8 ≡ t → (when t then min 9 (length w) + 1 else 9) ≡ min 9 (length (w ++ (c ∷ [])))
+  unfolding when◌then◌else◌
   longer_by true e = omega (arith, leb-true (min 9 (length w)) 8 e, length-append w (c ∷ []))
   longer_by false e = omega (arith, leb-false (min 9 (length w)) 8 e, length-append w (c ∷ []))
 
-first_of : (w : Bytes) (c : ℕ) → (if eqb (min 9 (length w)) 0 then digit c else numbered w) ≡ numbered (w ++ (c ∷ []))
-unfolding numbered if◌then◌else◌
+first_of : (w : Bytes) (c : ℕ) → (when eqb (min 9 (length w)) 0 then digit c else numbered w) ≡ numbered (w ++ (c ∷ []))
+unfolding numbered when◌then◌else◌
 first_of [] c = refl
 first_of (b ∷ w) c = rw (ne_eqb (min 9 (suc (length w))) 0 (omega arith))
 
@@ -98,7 +98,7 @@ reads-append r [] v = refl
 reads-append r (c ∷ u) v = reads-append (step r c) u v
 
 reads_plain : (q : Place) (w t : Bytes) → plain t ≡ true → reads (at q w) t ≡ at q (w ++ t)
-unfolding reads step plain every byte if◌then◌else◌
+unfolding reads step plain every byte when◌then◌else◌
 reads_plain q w [] h = rw append-nil
 reads_plain q w (c ∷ t) h =
     let e : eqb c 45 ≡ false = not-true (eqb c 45) (and_left (not (eqb c 45)) (plain t) h) in
@@ -107,7 +107,7 @@ reads_plain q w (c ∷ t) h =
 
 -- the kinds of subtags with hyphens between them lead where the text does
 reads_kinds : (q : Place) (t : Bytes) (ts : List Bytes) → Plain (t ∷ ts) → ended (reads (at q []) (t ++ hyphened ts)) ≡ follows q (map kind_of (t ∷ ts))
-unfolding hyphened follows ended kind_of reads step byte if◌then◌else◌ fresh summary every numbered
+unfolding hyphened follows ended kind_of reads step byte when◌then◌else◌ fresh summary every numbered
 reads_kinds q t [] h = ap ended (ap (reads (at q [])) (append-nil t) ∙ reads_plain q [] t h.0)
 reads_kinds q t (u ∷ ts) h =
     ap ended (reads-append (at q []) t (45 ∷ (u ++ hyphened ts)) ∙ ap (λ (r : Reader). reads r (45 ∷ (u ++ hyphened ts))) (reads_plain q [] t h.0))

@@ -2,7 +2,7 @@
 use mathlib.Core.Path.{◌≡◌, refl, ap, ◌∙◌}
 use mathlib.Core.List.{List, [], ◌∷◌}
 use Prim.Native.Nat.{ℕ, zero, suc}
-use Rattle.spec.specs.Bytes.{if◌then◌else◌}
+use Rattle.spec.specs.Bytes.{when◌then◌else◌}
 use Rattle.spec.specs.Grammar.{Grammar, nothing, empty, one, ◌or◌, ◌then◌, many, after, null, accepts}
 use Rattle.langtag.specs.declared.Kind.{Kind}
 use Rattle.langtag.specs.declared.Kind.TheVariants.{X, Singleton, Letters2, Letters3, Letters4, Letters5, Digits3, Variant, Other, Bad}
@@ -86,7 +86,7 @@ abbrev Leads : Place → Kind → Type 0
 Leads q k = after k (rest q) ≡ rest (follow q k)
 
 leads : (q : Place) (k : Kind) → Leads q k
-unfolding extlang language region extension privateuse from_extensions from_variants from_region from_script tag rest if◌then◌else◌
+unfolding extlang language region extension privateuse from_extensions from_variants from_region from_script tag rest when◌then◌else◌
 leads P.Start k = each (Leads P.Start) refl refl refl refl refl refl refl refl refl refl k
 leads P.Language3 k = each (Leads P.Language3) refl refl refl refl refl refl refl refl refl refl k
 leads P.Language2 k = each (Leads P.Language2) refl refl refl refl refl refl refl refl refl refl k

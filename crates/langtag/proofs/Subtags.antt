@@ -8,7 +8,7 @@ use native.Mathlib.Omega.{arith}
 use lib.Dec.{eqb, leb}
 use lib.ListN.{length}
 use borrow.Author.Tests.{not-false, leb-true, leb-false, eq-eqb, eqb-true, eqb-false, ne_eqb}
-use Rattle.spec.specs.Bytes.{Bytes, ascii, byte, if◌then◌else◌, between, every}
+use Rattle.spec.specs.Bytes.{Bytes, ascii, byte, when◌then◌else◌, between, every}
 use Rattle.spec.specs.Grammar.{one, ◌then◌, Describes}
 use Rattle.spec.specs.Abnf.{lower, ALPHA, DIGIT, alphanum, word, times, ◌to◌}
 use Rattle.spec.specs.Rfc5646.{variant, singleton}
@@ -53,7 +53,7 @@ digit_no_letter c h =
     rw (lower_low c (omega arith)) (below 97 122 c (omega arith))
 
 alnum-plain : (c : ℕ) → alnum c ≡ true → not (eqb c 45) ≡ true
-unfolding digit letter byte lower between if◌then◌else◌
+unfolding digit letter byte lower between when◌then◌else◌
 alnum-plain c h = go (eqb c 45) refl
   where
     go : (t : Bool) → eqb c 45 ≡ t → not t ≡ true
@@ -90,8 +90,8 @@ Facts Variant t = Counted alnum 5 8 t ⊎ (Counted alnum 4 4 t × (numbered t �
 Facts Other t = Counted alnum 2 8 t
 Facts Bad t = Unit {0}
 
-branch : {A : Type 0} (P : A → Type 0) (t : Bool) {a b : A} → (t ≡ true → P a) → (t ≡ false → P b) → P (if t then a else b)
-unfolding if◌then◌else◌
+branch : {A : Type 0} (P : A → Type 0) (t : Bool) {a b : A} → (t ≡ true → P a) → (t ≡ false → P b) → P (when t then a else b)
+unfolding when◌then◌else◌
 branch P true f g = f refl
 branch P false f g = g refl
 
@@ -186,45 +186,45 @@ module _ (u : Subtag) (h : not u.alphanum ≡ false) where
   m = not-false u.alphanum h
 
   pub kind_none : u.length ≡ 0 → kind u ≡ Bad
-  unfolding kind sized between if◌then◌else◌
+  unfolding kind sized between when◌then◌else◌
   kind_none l = rw (m, l)
 
-  pub kind-one : u.length ≡ 1 → kind u ≡ (if u.x then X else Singleton)
-  unfolding kind sized if◌then◌else◌
+  pub kind-one : u.length ≡ 1 → kind u ≡ (when u.x then X else Singleton)
+  unfolding kind sized when◌then◌else◌
   kind-one l = rw (m, l)
 
-  pub kind-two : u.length ≡ 2 → kind u ≡ (if u.letters then Letters2 else Other)
-  unfolding kind sized if◌then◌else◌
+  pub kind-two : u.length ≡ 2 → kind u ≡ (when u.letters then Letters2 else Other)
+  unfolding kind sized when◌then◌else◌
   kind-two l = rw (m, l)
 
-  pub kind_three : u.length ≡ 3 → kind u ≡ (if u.letters then Letters3 else if u.digits then Digits3 else Other)
-  unfolding kind sized if◌then◌else◌
+  pub kind_three : u.length ≡ 3 → kind u ≡ (when u.letters then Letters3 else when u.digits then Digits3 else Other)
+  unfolding kind sized when◌then◌else◌
   kind_three l = rw (m, l)
 
-  pub kind_four : u.length ≡ 4 → kind u ≡ (if u.letters then Letters4 else if u.numbered then Variant else Other)
-  unfolding kind sized if◌then◌else◌
+  pub kind_four : u.length ≡ 4 → kind u ≡ (when u.letters then Letters4 else when u.numbered then Variant else Other)
+  unfolding kind sized when◌then◌else◌
   kind_four l = rw (m, l)
 
-  kind-above : (t : Bool) → 4 < u.length → between 5 8 u.length ≡ t → kind u ≡ (if t then (if u.letters then Letters5 else Variant) else Bad)
-  unfolding kind sized if◌then◌else◌
+  kind-above : (t : Bool) → 4 < u.length → between 5 8 u.length ≡ t → kind u ≡ (when t then (when u.letters then Letters5 else Variant) else Bad)
+  unfolding kind sized when◌then◌else◌
   kind-above t a e =
       let n : ℕ = u.length in
       rw (m, ne_eqb n 1 (omega arith), ne_eqb n 2 (omega arith), ne_eqb n 3 (omega arith), ne_eqb n 4 (omega arith), e)
 
-  pub kind_wide : 5 ≤ u.length → u.length ≤ 8 → kind u ≡ (if u.letters then Letters5 else Variant)
-  unfolding if◌then◌else◌
+  pub kind_wide : 5 ≤ u.length → u.length ≤ 8 → kind u ≡ (when u.letters then Letters5 else Variant)
+  unfolding when◌then◌else◌
   kind_wide a b = kind-above true a (within 5 8 u.length a b)
 
   pub kind_over : 8 < u.length → kind u ≡ Bad
-  unfolding if◌then◌else◌
+  unfolding when◌then◌else◌
   kind_over a = kind-above false (omega arith) (above 5 8 u.length a)
 
 kind_at : (t : Bytes) (n : ℕ) → length t ≡ n → n ≤ 9 → every alnum t ≡ true → kind_of t ≡ sized n (summary t)
-unfolding kind_of kind summary if◌then◌else◌
+unfolding kind_of kind summary when◌then◌else◌
 kind_at t n l b m = let e : min 9 (length t) ≡ n = omega arith in rw (m, e)
 
 -- of 5 to 8 bytes
-wide_at : (t : Bytes) → 5 ≤ length t → length t ≤ 8 → every alnum t ≡ true → kind_of t ≡ (if every letter t then Letters5 else Variant)
+wide_at : (t : Bytes) → 5 ≤ length t → length t ≤ 8 → every alnum t ≡ true → kind_of t ≡ (when every letter t then Letters5 else Variant)
 unfolding kind_of summary
 wide_at t a b m = kind_wide (summary t) (ap not m) (omega arith) (omega arith)
 
@@ -305,19 +305,19 @@ digit_no_x c h =
     rw (lower_low c (omega arith)) (ne_eqb c 120 (λ q. omega arith))
 
 pub letters2 : Piece kind_of (times 2 ALPHA) (one_of (Letters2 ∷ []))
-unfolding sized if◌then◌else◌
+unfolding sized when◌then◌else◌
 letters2 = of_letters 2 Letters2 (omega arith) (λ u a. rw a) (λ t c. c)
 
 pub letters3 : Piece kind_of (times 3 ALPHA) (one_of (Letters3 ∷ []))
-unfolding sized if◌then◌else◌
+unfolding sized when◌then◌else◌
 letters3 = of_letters 3 Letters3 (omega arith) (λ u a. rw a) (λ t c. c)
 
 pub letters4 : Piece kind_of (times 4 ALPHA) (one_of (Letters4 ∷ []))
-unfolding sized if◌then◌else◌
+unfolding sized when◌then◌else◌
 letters4 = of_letters 4 Letters4 (omega arith) (λ u a. rw a) (λ t c. c)
 
 pub letters23 : Piece kind_of (◌to◌ 2 3 ALPHA) (one_of (Letters2 ∷ Letters3 ∷ []))
-unfolding ALPHA letter ◌to◌ sized summary if◌then◌else◌
+unfolding ALPHA letter ◌to◌ sized summary when◌then◌else◌
 letters23 =
     record {
       sound = λ t d.
@@ -336,7 +336,7 @@ letters23 =
     joined t (inr c) = record { least = omega arith; most = omega arith; all = c.all }
 
 pub letters58 : Piece kind_of (◌to◌ 5 8 ALPHA) (one_of (Letters5 ∷ []))
-unfolding ALPHA letter ◌to◌ if◌then◌else◌
+unfolding ALPHA letter ◌to◌ when◌then◌else◌
 letters58 =
     record {
       sound = λ t d.
@@ -347,7 +347,7 @@ letters58 =
     }
 
 pub digits3 : Piece kind_of (times 3 DIGIT) (one_of (Digits3 ∷ []))
-unfolding DIGIT digit sized summary if◌then◌else◌
+unfolding DIGIT digit sized summary when◌then◌else◌
 digits3 =
     record {
       sound = λ t d.
@@ -362,14 +362,14 @@ and-true true = refl
 and-true false = refl
 
 pub variants : Piece kind_of variant (one_of (Letters5 ∷ Variant ∷ []))
-unfolding variant DIGIT alphanum digit letter ◌to◌ sized summary if◌then◌else◌
+unfolding variant DIGIT alphanum digit letter ◌to◌ sized summary when◌then◌else◌
 variants =
     record {
       sound = sound;
       complete = λ t h. complete t (told-two Letters5 Variant t h);
     }
   where
-    either : (b : Bool) → one_of (Letters5 ∷ Variant ∷ []) (if b then Letters5 else Variant) ≡ true
+    either : (b : Bool) → one_of (Letters5 ∷ Variant ∷ []) (when b then Letters5 else Variant) ≡ true
     either true = refl
     either false = refl
 
@@ -388,7 +388,7 @@ variants =
     complete t (inr (inr c)) = inr (row-numbered t c.0 c.1)
 
 pub singletons : Piece kind_of singleton (one_of (Singleton ∷ []))
-unfolding singleton DIGIT digit byte sized summary every if◌then◌else◌
+unfolding singleton DIGIT digit byte sized summary every when◌then◌else◌
 singletons =
     record {
       sound = sound;
@@ -414,7 +414,7 @@ singletons =
     complete (c ∷ e ∷ t) f = absurd (omega arith)
 
 pub the_x : Piece kind_of (word "x") (one_of (X ∷ []))
-unfolding word ascii letter is_x byte between sized summary every if◌then◌else◌
+unfolding word ascii letter is_x byte between sized summary every when◌then◌else◌
 the_x =
     record {
       sound = λ t d. sound t (letters_sound (120 ∷ []) t d);

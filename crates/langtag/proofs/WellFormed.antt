@@ -2,7 +2,7 @@
 use mathlib.Core.Path.{◌≡◌, refl, sym, ◌∙◌}
 use mathlib.Core.Logic.{◌⊎◌, inl, inr}
 use mathlib.Core.Bool.{Bool, true, false, ◌||◌}
-use Rattle.spec.specs.Bytes.{Bytes, if◌then◌else◌}
+use Rattle.spec.specs.Bytes.{Bytes, when◌then◌else◌}
 use lib.ListN.{length}
 use Rattle.spec.specs.Grammar.{◌or◌, Describes}
 use Rattle.spec.specs.Rfc5646 as R
@@ -46,7 +46,7 @@ well_formed_lem s =
 
 module _ (s : Bytes) where
   pub none_clears : length s ≡ 0 → Clears ≡ verdict s
-  unfolding verdict if◌then◌else◌
+  unfolding verdict when◌then◌else◌
   none_clears h = rw (empty_is s h)
 
   pub composed_good : composed s ≡ true → Good ≡ verdict s
@@ -56,5 +56,5 @@ module _ (s : Bytes) where
   irregular_good h = sym (tags_good s (well_formed_lem s ∙ or_right_lem (composed s) (irregular s) h))
 
   pub neither_bad : (length s ≡ 0 → ⊥) → composed s ≡ false → irregular s ≡ false → Bad ≡ verdict s
-  unfolding verdict if◌then◌else◌
+  unfolding verdict when◌then◌else◌
   neither_bad e h k = rw (empty_not s e, well_formed_lem s, h, k)

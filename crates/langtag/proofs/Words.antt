@@ -7,7 +7,7 @@ use native.Mathlib.Omega.{arith}
 use lib.Dec.{eqb}
 use lib.ListN.{length, take, drop, length-drop, drop_of_length-le}
 use lib.Seq.{drop-drop}
-use Rattle.spec.specs.Bytes.{Bytes, byte, if◌then◌else◌, same, member, up_to, onto}
+use Rattle.spec.specs.Bytes.{Bytes, byte, when◌then◌else◌, same, member, up_to, onto}
 use Rattle.spec.specs.Abnf.{lower}
 use Rattle.copy.specs.Copy.{part, part_of, rest_of}
 use Rattle.copy.specs.Texts.{length_up_to, up_to_take}
@@ -19,7 +19,7 @@ space c = eqb c 32
 -- the first word, and what is behind it
 cut_at : (c : ℕ) (t : Bytes) (b : Bool) → eqb c 32 ≡ b → (0 < length t → words t ≡ up_to space t ∷ words (drop (suc (length (up_to space t))) t))
     → spaced c (words t) ≡ up_to space (c ∷ t) ∷ words (drop (suc (length (up_to space (c ∷ t)))) (c ∷ t))
-unfolding words spaced byte onto up_to if◌then◌else◌
+unfolding words spaced byte onto up_to when◌then◌else◌
 cut_at c t true e f = rw e
 cut_at c [] false e f = rw e
 cut_at c (d ∷ t) false e f = rw (e, f (omega arith))

@@ -1,6 +1,6 @@
 -- A machine for the grammar of RFC 5646: subtags are read byte by byte and told apart by length and bytes, and each moves the place in the grammar.
 use Rattle.std.specs.Prelude.{Bool, true, false, ◌&&◌, ◌||◌, not, List, [], ◌∷◌, map, ℕ, ◌+◌, eqb, leb}
-use Rattle.spec.specs.Bytes.{Bytes, ascii, byte, if◌then◌else◌, between, member, onto}
+use Rattle.spec.specs.Bytes.{Bytes, ascii, byte, when◌then◌else◌, between, member, onto}
 use Rattle.spec.specs.Abnf.{lower}
 use Rattle.langtag.specs.declared.Kind.{Kind}
 use Rattle.langtag.specs.declared.Kind.TheVariants.{X, Singleton, Letters2, Letters3, Letters4, Letters5, Digits3, Variant, Other, Bad}
@@ -28,11 +28,11 @@ fresh = record { length = 0; letters = true; digits = true; alphanum = true; num
 
 -- 9 stands for every length above 8
 unfoldable pub longer : ℕ → ℕ
-longer n = if leb n 8 then n + 1 else 9
+longer n = when leb n 8 then n + 1 else 9
 
 -- the first byte decides
 unfoldable pub first : ℕ → Bool → Bool → Bool
-first n new old = if eqb n 0 then new else old
+first n new old = when eqb n 0 then new else old
 
 unfoldable pub grown : Subtag → ℕ → Subtag
 grown u c =
@@ -48,13 +48,13 @@ grown u c =
 -- what an alphanumeric subtag of a length can serve as
 unfoldable pub sized : ℕ → Subtag → Kind
 sized n u =
-    if eqb n 1 then (if u.x then X else Singleton) else if eqb n 2 then (if u.letters then Letters2 else Other) else
-    if eqb n 3 then (if u.letters then Letters3 else if u.digits then Digits3 else Other) else
-    if eqb n 4 then (if u.letters then Letters4 else if u.numbered then Variant else Other) else
-    if between 5 8 n then (if u.letters then Letters5 else Variant) else Bad
+    when eqb n 1 then (when u.x then X else Singleton) else when eqb n 2 then (when u.letters then Letters2 else Other) else
+    when eqb n 3 then (when u.letters then Letters3 else when u.digits then Digits3 else Other) else
+    when eqb n 4 then (when u.letters then Letters4 else when u.numbered then Variant else Other) else
+    when between 5 8 n then (when u.letters then Letters5 else Variant) else Bad
 
 unfoldable pub kind : Subtag → Kind
-kind u = if u.alphanum then sized u.length u else Bad
+kind u = when u.alphanum then sized u.length u else Bad
 
 -- ---- places
 
@@ -221,7 +221,7 @@ ended r = follow r.place (kind r.subtag)
 
 unfoldable pub step : Reader → ℕ → Reader
 step r c =
-    if eqb c (byte "-") then record { place = ended r; subtag = fresh } else record { place = r.place; subtag = grown r.subtag c }
+    when eqb c (byte "-") then record { place = ended r; subtag = fresh } else record { place = r.place; subtag = grown r.subtag c }
 
 unfoldable pub reads : Reader → Bytes → Reader
 reads r [] = r
@@ -235,7 +235,7 @@ composed s = final (ended (reads start s))
 
 -- the words of a text, each ended by a space or the end
 unfoldable pub spaced : ℕ → List Bytes → List Bytes
-spaced c l = if eqb c (byte " ") then [] ∷ l else onto c l
+spaced c l = when eqb c (byte " ") then [] ∷ l else onto c l
 
 unfoldable pub words : Bytes → List Bytes
 words [] = []

@@ -2,7 +2,7 @@
 #![tactic(auto)]
 
 ghost use Rattle.std.specs.Prelude.{◌≡◌, map};
-ghost use Rattle.spec.specs.Bytes.{if◌then◌else◌, same, member};
+ghost use Rattle.spec.specs.Bytes.{when◌then◌else◌, same, member};
 ghost use Rattle.spec.specs.Abnf.{lower};
 ghost use Rattle.spec.specs.XmlLang.{verdict};
 ghost use Rattle.copy.specs.Copy.{Put};
@@ -261,7 +261,7 @@ fn kind_of(u: Subtag) -> Kind
 }
 
 fn choose(t: bool, a: Kind, b: Kind) -> Kind
-    ensures { result ≡ (if t then a else b) }
+    ensures { result ≡ (when t then a else b) }
 {
     if t { a } else { b }
 }

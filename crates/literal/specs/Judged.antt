@@ -5,7 +5,7 @@ use Rattle.std.proofs.lemmas.Bool.{false≢true}
 use Rattle.std.proofs.Math.Option.{none}
 use Rattle.spec.specs.Limits as L
 use Rattle.spec.specs.Limits.{most_open_elements, most_attributes, most_bindings}
-use Rattle.spec.specs.Bytes.{Bytes, is_empty, if◌then◌else◌, ◌>>=◌, ◌>>◌, require◌or◌, each}
+use Rattle.spec.specs.Bytes.{Bytes, is_empty, when◌then◌else◌, ◌>>=◌, ◌>>◌, require◌or◌, each}
 use Rattle.spec.specs.Numbers.{Answer, refuse, good}
 use Rattle.spec.specs.declared.Refusal.{Refusal}
 use Rattle.spec.specs.declared.Refusal.TheVariants.{NotWellFormed, OverLimit, NoNamespace}
@@ -83,7 +83,7 @@ not_second d p = go d.rooted d.frames p
 
 pub opening_judged : (n : Bytes) (as' : List Attribute) (d : Doc) → place_in d.frames ≡ xml
     → on_opening n as' d ≡ (judgement n as' (length d.frames) (in_scope d.frames) >> good ([], with_frames (copied n as' ∷ change_value (takes_xml (start_tag_xml n as')) d.frames) d))
-unfolding on_opening judgement counts repeated counts_fit open_in is_xml copy_element add_xml with_frames if◌then◌else◌
+unfolding on_opening judgement counts repeated counts_fit open_in is_xml copy_element add_xml with_frames when◌then◌else◌
 opening_judged n as' d p = rw (not_second d p, p) (in_order _ _ _ _ _)
 
 -- ---- of a state

@@ -8,7 +8,7 @@ use Rattle.std.proofs.lemmas.Bool.{false≢true}
 use mathlib.Core.List.{List, [], ◌∷◌, ◌++◌}
 use native.Mathlib.Omega.{arith}
 use Rattle.std.proofs.Math.ListN.{length, length-append}
-use Rattle.spec.specs.Bytes.{Bytes, if◌then◌else◌, total}
+use Rattle.spec.specs.Bytes.{Bytes, when◌then◌else◌, total}
 use Rattle.spec.specs.NTriples.{Subject}
 use Rattle.spec.specs.Document.{default, collection, literal, other, Kind as What, rdf_rdf, wrapper, node_element, property_element, xml_element, Frame as Element, with_kind, on_value, is_xml_element, change_value, value_bytes, kind_bytes, frame_bytes}
 use Rattle.spec.specs.XmlLiteral.{takes_xml}
@@ -39,17 +39,17 @@ is_literal xml_element = false
 -- is the innermost open element outside Literal content a Literal property?
 unfoldable pub keeps_xml : List Element → Bool
 keeps_xml [] = false
-keeps_xml (e ∷ es) = if is_xml_element e.kind then keeps_xml es else is_literal e.kind
+keeps_xml (e ∷ es) = when is_xml_element e.kind then keeps_xml es else is_literal e.kind
 
 module _ (x : Bytes) where
   -- if not, there is nothing to add
   pub adds_nothing : (es : List Element) → keeps_xml es ≡ false → change_value (takes_xml x) es ≡ es
-  unfolding keeps_xml change_value is_xml_element is_literal on_value takes_xml with_kind if◌then◌else◌
+  unfolding keeps_xml change_value is_xml_element is_literal on_value takes_xml with_kind when◌then◌else◌
   adds_nothing [] h = refl
   adds_nothing (e ∷ es) h = go e.kind refl (adds_nothing es) h
     where
-      go : (k : What) → e.kind ≡ k → (keeps_xml es ≡ false → change_value (takes_xml x) es ≡ es) → (if is_xml_element k then keeps_xml es else is_literal k) ≡ false
-          → (if is_xml_element k then e ∷ change_value (takes_xml x) es else with_kind (on_value (takes_xml x) k) e ∷ es) ≡ e ∷ es
+      go : (k : What) → e.kind ≡ k → (keeps_xml es ≡ false → change_value (takes_xml x) es ≡ es) → (when is_xml_element k then keeps_xml es else is_literal k) ≡ false
+          → (when is_xml_element k then e ∷ change_value (takes_xml x) es else with_kind (on_value (takes_xml x) k) e ∷ es) ≡ e ∷ es
       go rdf_rdf p i q = rw (← p)
       go (wrapper b) p i q = rw (← p)
       go (node_element s li) p i q = rw (← p)
@@ -61,13 +61,13 @@ module _ (x : Bytes) where
 
   -- if so, all of it is held
   pub adds_bytes : (es : List Element) → keeps_xml es ≡ true → total frame_bytes (change_value (takes_xml x) es) ≡ total frame_bytes es + length x
-  unfolding keeps_xml change_value is_xml_element is_literal on_value takes_xml with_kind if◌then◌else◌ total frame_bytes kind_bytes value_bytes
+  unfolding keeps_xml change_value is_xml_element is_literal on_value takes_xml with_kind when◌then◌else◌ total frame_bytes kind_bytes value_bytes
   adds_bytes [] h = absurd (false≢true h)
   adds_bytes (e ∷ es) h = go e.kind refl (adds_bytes es) h
     where
       go : (k : What) → e.kind ≡ k → (keeps_xml es ≡ true → total frame_bytes (change_value (takes_xml x) es) ≡ total frame_bytes es + length x)
-          → (if is_xml_element k then keeps_xml es else is_literal k) ≡ true
-          → total frame_bytes (if is_xml_element k then e ∷ change_value (takes_xml x) es else with_kind (on_value (takes_xml x) k) e ∷ es) ≡ total frame_bytes (e ∷ es) + length x
+          → (when is_xml_element k then keeps_xml es else is_literal k) ≡ true
+          → total frame_bytes (when is_xml_element k then e ∷ change_value (takes_xml x) es else with_kind (on_value (takes_xml x) k) e ∷ es) ≡ total frame_bytes (e ∷ es) + length x
       go rdf_rdf p i q = absurd (false≢true q)
       go (wrapper b) p i q = absurd (false≢true q)
       go (node_element s li) p i q = absurd (false≢true q)
@@ -90,7 +90,7 @@ literal-kind ParseTypeOtherPropertyElt f w s = refl
 literal-kind Wrapper f w s = refl
 
 past_inners : (is bs w : List ℕ) (n b : ℕ) (es : List Element) → keeps_xml (inners_of is bs w n b ++ es) ≡ keeps_xml es
-unfolding keeps_xml inners_of inner_of is_xml_element if◌then◌else◌
+unfolding keeps_xml inners_of inner_of is_xml_element when◌then◌else◌
 past_inners is bs w zero b es = refl
 past_inners is bs w (suc n) b es = past_inners is bs w n (row_at is n).more es
 
@@ -101,7 +101,7 @@ module _ {r : Registers} {fs bs is w : List ℕ} (v : Valid r fs bs is w) where
   keeps_none p = rw (eq-eqb r.counts.depth 0 p, p)
 
   keeps_top : (n : ℕ) → r.counts.depth ≡ suc n → keeps_xml (frames_of fs bs w r.counts.depth r.counts.outer) ≡ same_kind (top_frame r fs).kind ParseTypeLiteralPropertyElt
-  unfolding keeps_xml element_of if◌then◌else◌
+  unfolding keeps_xml element_of when◌then◌else◌
   keeps_top n p =
       let e : r.counts.depth - 1 ≡ n = omega arith in
       let t = topmost v (omega arith) in

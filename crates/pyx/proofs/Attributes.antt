@@ -11,7 +11,7 @@ use lib.ListN.{length, take, drop, get_or, set, length-append, length-drop, leng
 use mathlib.Core.Option.{some}
 use lib.Seq.{drop-cons, drop-drop, take-take, take_at, drop_at, take_all, get_or-take, get_or-drop}
 use borrow.Author.Tests.{le-leb, eqb-true, ltb-true, ltb-false}
-use Rattle.spec.specs.Bytes.{Bytes, ascii, if◌then◌else◌, begins, after, up_to, from, among, each, ◌>>=◌, ◌>>◌, require◌or◌}
+use Rattle.spec.specs.Bytes.{Bytes, ascii, when◌then◌else◌, begins, after, up_to, from, among, each, ◌>>=◌, ◌>>◌, require◌or◌}
 use Rattle.spec.specs.Numbers.{Answer, refuse, good}
 use Rattle.spec.specs.declared.Refusal.TheVariants.{NotPyx}
 use Rattle.spec.specs.XmlNames.{is_q_name, prefix_of, local_of}
@@ -54,7 +54,7 @@ read_empty [] h = refl
 read_empty (a ∷ l) h = absurd (omega arith)
 
 skip : (l : Bytes) → 0 < length l → eqb (get_or l 0 0) 32 ≡ false → from is_space l ≡ from is_space (drop 1 l)
-unfolding from if◌then◌else◌
+unfolding from when◌then◌else◌
 skip [] h e = absurd (omega arith)
 skip (a ∷ l) h e = rw e
 

@@ -9,7 +9,7 @@ use lib.Dec.{eqb}
 use lib.ListN.{length, take, drop, get_or, set, length-drop, drop_of_length-le}
 use lib.Seq.{drop-cons, drop-drop}
 use borrow.Author.Tests.{ne_eqb, eqb-false}
-use Rattle.spec.specs.Bytes.{Bytes, ascii, byte, if◌then◌else◌, after, up_to, concat, each, ◌>>=◌}
+use Rattle.spec.specs.Bytes.{Bytes, ascii, byte, when◌then◌else◌, after, up_to, concat, each, ◌>>=◌}
 use Rattle.spec.specs.Numbers.{Answer, refuse, good}
 use Rattle.spec.specs.declared.Refusal.TheVariants.{NotPyx}
 use Rattle.spec.specs.Pyx.{escaped, unescape}
@@ -33,7 +33,7 @@ module _ (s : Bytes) (i : ℕ) where
       one_ahead (omega arith) ∙ rw (drop-cons s (i + 1) 0 h, z)
 
 plain : (b : ℕ) (s : Bytes) → (b ≡ 92 → ⊥) → unescape (b ∷ s) ≡ front (b ∷ []) (unescape s)
-unfolding unescape front ◌>>=◌ if◌then◌else◌ byte
+unfolding unescape front ◌>>=◌ when◌then◌else◌ byte
 plain b [] n = rw (ne_eqb b 92 n) refl
 plain b (c ∷ s) n = go (eqb b 92) (ne_eqb b 92 n)
   where
@@ -47,12 +47,12 @@ plain b (c ∷ s) n = go (eqb b 92) (ne_eqb b 92 n)
 
 -- a text without a backslash stands for itself
 as_it_is : (s : Bytes) → length s ≤ length (up_to (λ c. eqb c 92) s) → unescape s ≡ good s
-unfolding unescape up_to if◌then◌else◌
+unfolding unescape up_to when◌then◌else◌
 as_it_is [] h = refl
 as_it_is (b ∷ s) h = go (eqb b 92) refl (as_it_is s) h
   where
     go : (x : Bool) → eqb b 92 ≡ x → (length s ≤ length (up_to (λ c. eqb c 92) s) → unescape s ≡ good s)
-        → suc (length s) ≤ length (if x then [] else (b ∷ up_to (λ c. eqb c 92) s)) → unescape (b ∷ s) ≡ good (b ∷ s)
+        → suc (length s) ≤ length (when x then [] else (b ∷ up_to (λ c. eqb c 92) s)) → unescape (b ∷ s) ≡ good (b ∷ s)
     go true e f h = absurd (omega arith)
     go false e f h = plain b s (eqb-false b 92 e) ∙ (ap (front (b ∷ [])) (f (omega arith)) ∙ front_good (b ∷ []) s)
 
@@ -69,7 +69,7 @@ stands_plain s i b h e n =
     stands = ap unescape (one_ahead s i h ∙ rw (← e)) ∙ (plain b (drop (i + 1) s) n ∙ rw (drop-drop 1 i s))
 
 pub wrong_last : (s : Bytes) (i : ℕ) → i < length s → get_or s i 0 ≡ 92 → length s - i < 2 → unescape (drop i s) ≡ refuse NotPyx
-unfolding unescape if◌then◌else◌ byte
+unfolding unescape when◌then◌else◌ byte
 wrong_last s i h e l = rw (one_ahead s i h, drop_of_length-le s {i = i + 1} (omega arith), e) refl
 
 escape : (c e : ℕ) (s : Bytes) → escaped c ≡ good e → unescape (92 ∷ c ∷ s) ≡ front (e ∷ []) (unescape s)
@@ -90,19 +90,19 @@ module _ (s : Bytes) (i : ℕ) (h : i + 1 < length s) (b : get_or s i 0 ≡ 92) 
       }
 
   pub stands-line_feed : get_or s (i + 1) 0 ≡ 110 → Stands 10 2 (drop i s)
-  unfolding escaped if◌then◌else◌ byte
+  unfolding escaped when◌then◌else◌ byte
   stands-line_feed e = escaped_as 10 (rw e refl)
 
   pub stands_tab : get_or s (i + 1) 0 ≡ 116 → Stands 9 2 (drop i s)
-  unfolding escaped if◌then◌else◌ byte
+  unfolding escaped when◌then◌else◌ byte
   stands_tab e = escaped_as 9 (rw e refl)
 
   pub stands_backslash : get_or s (i + 1) 0 ≡ 92 → Stands 92 2 (drop i s)
-  unfolding escaped if◌then◌else◌ byte
+  unfolding escaped when◌then◌else◌ byte
   stands_backslash e = escaped_as 92 (rw e refl)
 
   pub wrong_escape : (get_or s (i + 1) 0 ≡ 110 → ⊥) → (get_or s (i + 1) 0 ≡ 116 → ⊥) → (get_or s (i + 1) 0 ≡ 92 → ⊥) → unescape (drop i s) ≡ refuse NotPyx
-  unfolding escaped if◌then◌else◌ byte
+  unfolding escaped when◌then◌else◌ byte
   wrong_escape n t k = rw (two_ahead s i h, b) (no_escape (get_or s (i + 1) 0) (drop (i + 2) s) (rw (ne_eqb _ _ n, ne_eqb _ _ t, ne_eqb _ _ k) refl))
 
 -- ---- the loops: a text in the scratch, in front of what is left of an answer

@@ -8,7 +8,7 @@ use lib.Dec.{eqb, leb, ltb}
 use lib.ListN.{length, take, drop, get_or, length-drop}
 use lib.Seq.{length-take-le, take-nil}
 use borrow.Author.Tests.{lt-ltb, le-ltb, leb-true, eqb-true, eq-eqb, ne_eqb}
-use Rattle.spec.specs.Bytes.{Bytes, ascii, byte, among, if◌then◌else◌, begins, after, up_to, every, concat, each, ◌>>=◌, ◌>>◌, require◌or◌}
+use Rattle.spec.specs.Bytes.{Bytes, ascii, byte, among, when◌then◌else◌, begins, after, up_to, every, concat, each, ◌>>=◌, ◌>>◌, require◌or◌}
 use Rattle.spec.specs.Limits.{most_event_bytes}
 use Rattle.spec.specs.Numbers.{Answer, refuse, good}
 use Rattle.spec.specs.declared.Refusal.TheVariants.{NotPyx}
@@ -53,7 +53,7 @@ not_first a b h = ne_eqb a b λ e. h (sym e)
 
 -- lines of data
 dashed : (l : Bytes) (ls : List Bytes) (c : ℕ) → c ≡ 45 → read_lines ((c ∷ l) ∷ ls) ≡ read_text ((c ∷ l) ∷ ls)
-unfolding read_lines if◌then◌else◌ begins ascii
+unfolding read_lines when◌then◌else◌ begins ascii
 dashed l ls c e = rw e
 
 text-joined : (r : Answer (List Bytes)) → (r >>= λ ts. good (text (concat ts))) ≡ ((r >>= λ ts. good (concat ts)) >>= λ t. good (text t))
@@ -178,7 +178,7 @@ module _ {s d : Bytes} {n : ℕ} (f : Fits s d n) where
   lines = first_line s f.line f.ended
 
   pub nothing_first : (w : List ℕ) → n ≡ 0 → Says Malformed (read_lines (lines_of s)) false (length s) d d w w
-  unfolding read_lines if◌then◌else◌ begins ascii
+  unfolding read_lines when◌then◌else◌ begins ascii
   nothing_first w z = decoded refl (rw (lines, z)) kept_all refl
 
   module _ (h : 0 < n) where
@@ -186,11 +186,11 @@ module _ {s d : Bytes} {n : ℕ} (f : Fits s d n) where
     by_first = rw (lines, first_byte s n h f.ended)
 
     pub lines-opening : get_or s 0 0 ≡ 40 → read_lines (lines_of s) ≡ read_opening (take n s) (lines_of (drop (n + 1) s))
-    unfolding read_lines if◌then◌else◌ begins ascii
+    unfolding read_lines when◌then◌else◌ begins ascii
     lines-opening e = by_first ∙ rw (first_byte s n h f.ended, e)
 
     lines_closing : get_or s 0 0 ≡ 41 → read_lines (lines_of s) ≡ (name (take (n - 1) (drop 1 s)) >>= λ m. good (closing m))
-    unfolding read_lines read_closing if◌then◌else◌ begins after ascii
+    unfolding read_lines read_closing when◌then◌else◌ begins after ascii
     lines_closing e = by_first ∙ rw e
 
     pub closing_nameless : {e : List ℕ} (w : List ℕ) → get_or s 0 0 ≡ 41 → (is_q_name (take (n - 1) (drop 1 s)) ≡ false) × Kept d e (0 + length (take (n - 1) (drop 1 s)))
@@ -221,12 +221,12 @@ module _ {s d : Bytes} {n : ℕ} (f : Fits s d n) where
         decoded refl (lines-text e ∙ rw (p.is, wrote_front p.wrote), omega (arith, p.short)) (kept_wrote p.wrote (omega (arith, p.short))) refl
 
     pub instruction_good : (w : List ℕ) → get_or s 0 0 ≡ 63 → Says Instruction (read_lines (lines_of s)) false (length s) d d w w
-    unfolding read_lines if◌then◌else◌ begins ascii
+    unfolding read_lines when◌then◌else◌ begins ascii
     instruction_good w e = decoded refl (by_first ∙ rw e) kept_all refl
 
     pub other_first : (w : List ℕ) → (get_or s 0 0 ≡ 40 → ⊥) → (get_or s 0 0 ≡ 41 → ⊥) → (get_or s 0 0 ≡ 45 → ⊥) → (get_or s 0 0 ≡ 63 → ⊥)
         → Says Malformed (read_lines (lines_of s)) false (length s) d d w w
-    unfolding read_lines if◌then◌else◌ begins ascii
+    unfolding read_lines when◌then◌else◌ begins ascii
     other_first w a b c e = decoded refl (by_first ∙ rw (not_first 40 (get_or s 0 0) a, not_first 41 (get_or s 0 0) b, not_first 45 (get_or s 0 0) c, not_first 63 (get_or s 0 0) e)) kept_all refl
 
 -- ---- `first_line`

@@ -8,7 +8,7 @@ use lib.Dec.{eqb, ltb}
 use lib.ListN.{length, take, drop, get_or, length-drop}
 use lib.Seq.{drop-drop, get_or-drop, length-take-le}
 use borrow.Author.Tests.{eqb-true, ltb-true, ltb-false}
-use Rattle.spec.specs.Bytes.{Bytes, ascii, if◌then◌else◌, begins, after, up_to, every, concat, each, ◌>>=◌, ◌>>◌, require◌or◌}
+use Rattle.spec.specs.Bytes.{Bytes, ascii, when◌then◌else◌, begins, after, up_to, every, concat, each, ◌>>=◌, ◌>>◌, require◌or◌}
 use Rattle.spec.specs.Numbers.{Answer, refuse, good}
 use Rattle.spec.specs.declared.Refusal.TheVariants.{NotPyx}
 use Rattle.spec.specs.Utf8.{as_characters}
@@ -128,10 +128,10 @@ text-few ls n = go (each (λ l. unescape (after (ascii "-") l)) ls)
     go (good ts) = tt
 
 by_line : (l : Bytes) (ls : List Bytes) (n : ℕ) → Few n (each read_attribute ls) → FewIn n (read_lines (l ∷ ls))
-unfolding read_lines if◌then◌else◌
+unfolding read_lines when◌then◌else◌
 by_line l ls n f = go (begins (ascii "(") l) (begins (ascii ")") l) (begins (ascii "-") l) (begins (ascii "?") l)
   where
-    go : (t u v w : Bool) → FewIn n (if t then read_opening l ls else if u then read_closing l else if v then read_text (l ∷ ls) else if w then good instruction else refuse NotPyx)
+    go : (t u v w : Bool) → FewIn n (when t then read_opening l ls else when u then read_closing l else when v then read_text (l ∷ ls) else when w then good instruction else refuse NotPyx)
     go true u v w = opening-few l ls n f
     go false true v w = closing_few l n
     go false false true w = text-few (l ∷ ls) n

@@ -9,7 +9,7 @@ use lib.Dec.{eqb}
 use lib.ListN.{length, take, drop, get_or, length-drop}
 use lib.Seq.{drop-cons, drop-drop, get_or-drop, get_or-take}
 use borrow.Author.Tests.{eqb-true, eqb-false, eq-eqb, ne_eqb}
-use Rattle.spec.specs.Bytes.{Bytes, ascii, byte, if◌then◌else◌, begins, up_to, onto, split, each, ◌>>=◌}
+use Rattle.spec.specs.Bytes.{Bytes, ascii, byte, when◌then◌else◌, begins, up_to, onto, split, each, ◌>>=◌}
 use Rattle.spec.specs.Numbers.{Answer, refuse, good}
 use Rattle.spec.specs.declared.Refusal.{Refusal}
 use Rattle.copy.specs.Copy.{Wrote, wrote_same, wrote_behind}
@@ -20,34 +20,34 @@ use Rattle.pyx.proofs.Reach.{is_end}
 -- ---- the first line
 
 split-some : (s : Bytes) → 0 < length (split 10 s)
-unfolding split onto if◌then◌else◌
+unfolding split onto when◌then◌else◌
 split-some [] = omega arith
 split-some (c ∷ s) = go (eqb c 10) (split 10 s) (split-some s)
   where
-    go : (x : Bool) (ls : List Bytes) → 0 < length ls → 0 < length (if x then [] ∷ ls else onto c ls)
+    go : (x : Bool) (ls : List Bytes) → 0 < length ls → 0 < length (when x then [] ∷ ls else onto c ls)
     go true ls h = omega arith
     go false [] h = omega arith
     go false (l ∷ ls) h = omega arith
 
 split-line : (s : Bytes) → length (up_to is_end s) < length s → split 10 s ≡ take (length (up_to is_end s)) s ∷ split 10 (drop (suc (length (up_to is_end s))) s)
-unfolding split onto up_to if◌then◌else◌
+unfolding split onto up_to when◌then◌else◌
 split-line [] h = absurd (omega arith)
 split-line (c ∷ s) h = go (eqb c 10) (split-line s) h
   where
     go : (x : Bool) → (length (up_to is_end s) < length s → split 10 s ≡ take (length (up_to is_end s)) s ∷ split 10 (drop (suc (length (up_to is_end s))) s))
-        → length (if x then [] else (c ∷ up_to is_end s)) < suc (length s)
-        → (if x then [] ∷ split 10 s else onto c (split 10 s))
-        ≡ take (length (if x then [] else (c ∷ up_to is_end s))) (c ∷ s) ∷ split 10 (drop (suc (length (if x then [] else (c ∷ up_to is_end s)))) (c ∷ s))
+        → length (when x then [] else (c ∷ up_to is_end s)) < suc (length s)
+        → (when x then [] ∷ split 10 s else onto c (split 10 s))
+        ≡ take (length (when x then [] else (c ∷ up_to is_end s))) (c ∷ s) ∷ split 10 (drop (suc (length (when x then [] else (c ∷ up_to is_end s)))) (c ∷ s))
     go true f h = refl
     go false f h = rw (f (omega arith)) refl
 
 split_none : (s : Bytes) → length s ≤ length (up_to is_end s) → split 10 s ≡ s ∷ []
-unfolding split onto up_to if◌then◌else◌
+unfolding split onto up_to when◌then◌else◌
 split_none [] h = refl
 split_none (c ∷ s) h = go (eqb c 10) (split_none s) h
   where
-    go : (x : Bool) → (length s ≤ length (up_to is_end s) → split 10 s ≡ s ∷ []) → suc (length s) ≤ length (if x then [] else (c ∷ up_to is_end s))
-        → (if x then [] ∷ split 10 s else onto c (split 10 s)) ≡ (c ∷ s) ∷ []
+    go : (x : Bool) → (length s ≤ length (up_to is_end s) → split 10 s ≡ s ∷ []) → suc (length s) ≤ length (when x then [] else (c ∷ up_to is_end s))
+        → (when x then [] ∷ split 10 s else onto c (split 10 s)) ≡ (c ∷ s) ∷ []
     go true f h = absurd (omega arith)
     go false f h = rw (f (omega arith)) refl
 
@@ -210,11 +210,11 @@ alone (a ∷ s) h = absurd (omega arith)
 
 -- one line alone has none behind it
 pub spaced-one : (s : Bytes) → length s ≤ suc (length (up_to is_end s)) → spaced s ≡ false
-unfolding spaced byte up_to if◌then◌else◌
+unfolding spaced byte up_to when◌then◌else◌
 spaced-one [] h = refl
 spaced-one (a ∷ s) h = go (eqb a 10) (spaced-one s) h
   where
-    go : (x : Bool) → (length s ≤ suc (length (up_to is_end s)) → spaced s ≡ false) → suc (length s) ≤ suc (length (if x then [] else (a ∷ up_to is_end s)))
+    go : (x : Bool) → (length s ≤ suc (length (up_to is_end s)) → spaced s ≡ false) → suc (length s) ≤ suc (length (when x then [] else (a ∷ up_to is_end s)))
         → ((x && begins (ascii " ") s) || spaced s) ≡ false
     go true f h = alone s (omega arith)
     go false f h = f (omega arith)

@@ -9,7 +9,7 @@ use lib.Dec.{ltb}
 use lib.ListN.{length, take, drop, get_or, set, length-take, length-drop}
 use lib.Seq.{take-take, take_all, take-length, take-suc, get_or-drop, length-take-le}
 use borrow.Author.Tests.{ltb-true, ltb-false}
-use Rattle.spec.specs.Bytes.{Bytes, if◌then◌else◌}
+use Rattle.spec.specs.Bytes.{Bytes, when◌then◌else◌}
 use Rattle.spec.specs.XmlNames.{no_colon, is_nc_name, prefix_of, local_of, is_q_name}
 use Rattle.utils.specs.declared.Name.TheVariants.{Local, Prefixed}
 use Rattle.utils.specs.Names.{name_of, starts_nc, goes_on_nc}
@@ -28,7 +28,7 @@ data Colon (s : Bytes) : Type 0 where
   with_one : no_colon s ≡ false → before s < length s → colon_of s ≡ suc (before s) → Colon s
 
 colon : (s : Bytes) → Colon s
-unfolding colon_of if◌then◌else◌
+unfolding colon_of when◌then◌else◌
 colon s = go (ltb (before s) (length s)) refl
   where
     go : (t : Bool) → ltb (before s) (length s) ≡ t → Colon s
@@ -43,7 +43,7 @@ colon_within s = go (colon s)
     go (with_one n b e) = omega arith
 
 pub prefix_of_lem : (s : Bytes) → prefix_of s ≡ take (colon_of s - 1) s
-unfolding prefix_of if◌then◌else◌
+unfolding prefix_of when◌then◌else◌
 prefix_of_lem s = go (colon s)
   where
     go : Colon s → prefix_of s ≡ take (colon_of s - 1) s
@@ -51,7 +51,7 @@ prefix_of_lem s = go (colon s)
     go (with_one n b e) = let z : suc (before s) - 1 ≡ before s = omega arith in prefix_is s refl b ∙ rw (e, z)
 
 pub local_of_lem : (s : Bytes) → local_of s ≡ drop (colon_of s) s
-unfolding local_of if◌then◌else◌
+unfolding local_of when◌then◌else◌
 local_of_lem s = go (colon s)
   where
     go : Colon s → local_of s ≡ drop (colon_of s) s
@@ -79,11 +79,11 @@ module _ (w : List ℕ) (at n : ℕ) where
 -- ---- what `qname` says
 
 pub local_name : (s : Bytes) → Local ≡ name_of s → (is_q_name s ≡ true) × (0 ≡ colon_of s)
-unfolding colon_of if◌then◌else◌
+unfolding colon_of when◌then◌else◌
 local_name s h = let p = no_prefix s h in (p.name, rw p.colon)
 
 pub prefixed_name : (s : Bytes) {k : ℕ} → Prefixed k ≡ name_of s → (is_q_name s ≡ true) × (k + 1 ≡ colon_of s)
-unfolding colon_of prefix_of if◌then◌else◌
+unfolding colon_of prefix_of when◌then◌else◌
 prefixed_name s {k} h =
     let p = has_prefix s h in
     let q : before s ≡ k = ap length (rw p.colon at p.prefix) ∙ length-take-le k s (omega (arith, p.within)) in

@@ -8,7 +8,7 @@ use lib.Dec.{eqb, ltb}
 use lib.ListN.{length, take, drop, get_or, length-append, length-drop, drop_of_length-le}
 use lib.Seq.{drop-cons, drop-drop, take-add, length-take-le}
 use borrow.Author.Tests.{ltb-true, ltb-false, lt-ltb, le-ltb, ne_eqb}
-use Rattle.spec.specs.Bytes.{Bytes, byte, if◌then◌else◌, up_to}
+use Rattle.spec.specs.Bytes.{Bytes, byte, when◌then◌else◌, up_to}
 use Rattle.spec.specs.Limits.{most_event_bytes}
 use Rattle.spec.specs.PyxCut.{goes_on, may_go_on, Ending, sure, line_end, mid_line, in_front, reach, too_long, ended, in_length, cut}
 use Rattle.pyx.specs.First.{Sized, Cuts, in_line, at_line_end}
@@ -28,40 +28,40 @@ fronts_fronts u v r = rw (append_assoc u v r.0)
 
 -- within a line, as far as it goes
 within-line : (c : ℕ) (t : Bytes) (k : ℕ) → k ≤ length (up_to is_end t) → reach c false t ≡ fronts (take k t) (reach c false (drop k t))
-unfolding up_to reach fronts in_front if◌then◌else◌ byte
+unfolding up_to reach fronts in_front when◌then◌else◌ byte
 within-line c t zero h = refl
 within-line c [] (suc k) h = absurd (omega arith)
 within-line c (b ∷ t) (suc k) h = go (eqb b 10) refl (within-line c t k) h
   where
     go : (x : Bool) → eqb b 10 ≡ x → (k ≤ length (up_to is_end t) → reach c false t ≡ fronts (take k t) (reach c false (drop k t)))
-        → suc k ≤ length (if x then [] else (b ∷ up_to is_end t)) → in_front b (reach c (eqb b 10) t) ≡ fronts (b ∷ take k t) (reach c false (drop k t))
+        → suc k ≤ length (when x then [] else (b ∷ up_to is_end t)) → in_front b (reach c (eqb b 10) t) ≡ fronts (b ∷ take k t) (reach c false (drop k t))
     go true e f h = absurd (omega arith)
     go false e f h = rw e (ap (in_front b) (f (omega arith)))
 
 -- a line to its end
 whole-line : (c : ℕ) (t : Bytes) → length (up_to is_end t) < length t
     → reach c false t ≡ fronts (take (suc (length (up_to is_end t))) t) (reach c true (drop (suc (length (up_to is_end t))) t))
-unfolding up_to reach fronts in_front if◌then◌else◌ byte
+unfolding up_to reach fronts in_front when◌then◌else◌ byte
 whole-line c [] h = absurd (omega arith)
 whole-line c (b ∷ t) h = go (eqb b 10) refl (whole-line c t) h
   where
     go : (x : Bool) → eqb b 10 ≡ x
         → (length (up_to is_end t) < length t → reach c false t ≡ fronts (take (suc (length (up_to is_end t))) t) (reach c true (drop (suc (length (up_to is_end t))) t)))
-        → length (if x then [] else (b ∷ up_to is_end t)) < suc (length t)
+        → length (when x then [] else (b ∷ up_to is_end t)) < suc (length t)
         → in_front b (reach c (eqb b 10) t)
-        ≡ fronts (take (suc (length (if x then [] else (b ∷ up_to is_end t)))) (b ∷ t)) (reach c true (drop (suc (length (if x then [] else (b ∷ up_to is_end t)))) (b ∷ t)))
+        ≡ fronts (take (suc (length (when x then [] else (b ∷ up_to is_end t)))) (b ∷ t)) (reach c true (drop (suc (length (when x then [] else (b ∷ up_to is_end t)))) (b ∷ t)))
     go true e f h = rw e refl
     go false e f h = rw e (ap (in_front b) (f (omega arith)))
 
 -- the bytes before the first of a set, in the first n
 pub up_to_first : (p : ℕ → Bool) (n : ℕ) (t : Bytes) → length (up_to p (take n t)) ≡ min n (length (up_to p t))
-unfolding up_to if◌then◌else◌
+unfolding up_to when◌then◌else◌
 up_to_first p zero t = omega arith
 up_to_first p (suc n) [] = omega arith
 up_to_first p (suc n) (b ∷ t) = go (p b) (up_to_first p n t)
   where
     go : (x : Bool) → length (up_to p (take n t)) ≡ min n (length (up_to p t))
-        → length (if x then [] else (b ∷ up_to p (take n t))) ≡ min (suc n) (length (if x then [] else (b ∷ up_to p t)))
+        → length (when x then [] else (b ∷ up_to p (take n t))) ≡ min (suc n) (length (when x then [] else (b ∷ up_to p t)))
     go true h = omega arith
     go false h = omega arith
 
@@ -106,11 +106,11 @@ cut-some last c (a ∷ s) e h = rw e refl
 
 -- event length is judged first
 too_long_lem : (last : Bool) (u : Bytes) (r : Bytes × Ending) → 32_768 < length u → in_length last (fronts u r) ≡ too_long
-unfolding in_length fronts if◌then◌else◌ most_event_bytes
+unfolding in_length fronts when◌then◌else◌ most_event_bytes
 too_long_lem last u r h = rw (lt-ltb 32_768 (length (u ++ r.0)) (rw (length-append u r.0) (omega arith)))
 
 in_limit_lem : (last : Bool) (u : Bytes) (x : Ending) → length u ≤ 32_768 → in_length last (fronts u ([], x)) ≡ ended last (u, x)
-unfolding in_length fronts if◌then◌else◌ most_event_bytes
+unfolding in_length fronts when◌then◌else◌ most_event_bytes
 in_limit_lem last u x h = rw (append-nil u, le-ltb 32_768 (length u) h)
 
 -- a front in two parts
@@ -159,22 +159,22 @@ module _ {c : ℕ} {s : Bytes} {seen at : ℕ} (r : Reaching c s seen at) {line 
 
   -- what `first_event` answers
   pub reaching_in_line : (last : Bool) → line ≡ seen - at → Cuts (in_line seen last) last s
-  unfolding in_line most_event_bytes if◌then◌else◌ reach ended
+  unfolding in_line most_event_bytes when◌then◌else◌ reach ended
   reaching_in_line last h = go (ltb 32_768 seen) last refl
     where
-      go : (t l : Bool) → ltb 32_768 seen ≡ t → Cuts (if t then TooLong else if l then Unended else Wait) l s
+      go : (t l : Bool) → ltb 32_768 seen ≡ t → Cuts (when t then TooLong else when l then Unended else Wait) l s
       go true l q = record { means = passed false (in_line_lem h) l (ltb-true 32_768 seen q); sizes = tt }
       go false true q = record { means = stopped false (in_line_lem h) true mid_line refl (ltb-false 32_768 seen q); sizes = tt }
       go false false q = record { means = stopped false (in_line_lem h) false mid_line refl (ltb-false 32_768 seen q); sizes = tt }
 
   pub reaching_line_end : (last : Bool) → (line ≡ seen - at → ⊥) → at + line + 1 ≡ seen → Cuts (at_line_end seen last (may_go_on c)) last s
-  unfolding at_line_end most_event_bytes if◌then◌else◌ reach ended
+  unfolding at_line_end most_event_bytes when◌then◌else◌ reach ended
   reaching_line_end last h q = go (ltb 32_768 seen) last (may_go_on c) refl refl
     where
       all : reach c false s ≡ fronts (take seen s) (reach c true (drop seen s))
       all = rw q at (line-ends h).1
 
-      go : (t l m : Bool) → ltb 32_768 seen ≡ t → may_go_on c ≡ m → Cuts (if t then TooLong else if l then Whole seen else if m then Wait else Whole seen) l s
+      go : (t l m : Bool) → ltb 32_768 seen ≡ t → may_go_on c ≡ m → Cuts (when t then TooLong else when l then Whole seen else when m then Wait else Whole seen) l s
       go true l m e g = record { means = passed true all l (ltb-true 32_768 seen e); sizes = tt }
       go false true true e g = record { means = stopped true all true line_end (rw g) (ltb-false 32_768 seen e); sizes = sized (ltb-false 32_768 seen e) }
       go false true false e g = record { means = stopped true all true sure (rw g) (ltb-false 32_768 seen e); sizes = sized (ltb-false 32_768 seen e) }

@@ -1,6 +1,6 @@
 -- What an answer of `first_event` stands for.
 use Rattle.std.specs.Prelude.{◌≡◌, Bool, ℕ, ◌<◌, ◌≤◌, ltb, length, take}
-use Rattle.spec.specs.Bytes.{Bytes, if◌then◌else◌}
+use Rattle.spec.specs.Bytes.{Bytes, when◌then◌else◌}
 use Rattle.spec.specs.Limits.{most_event_bytes}
 use Rattle.spec.specs.PyxCut.{Cut, wait, unended, too_long, whole, cut}
 use Rattle.pyx.specs.declared.First.{First}
@@ -33,8 +33,8 @@ pub record Cuts (r : First) (last : Bool) (s : Bytes) : Type 0 where
 
 -- within a line
 unfoldable pub in_line : ℕ → Bool → First
-in_line seen last = if ltb most_event_bytes seen then TooLong else if last then Unended else Wait
+in_line seen last = when ltb most_event_bytes seen then TooLong else when last then Unended else Wait
 
 -- where a line has ended: may another line go on with the event?
 unfoldable pub at_line_end : ℕ → Bool → Bool → First
-at_line_end seen last more = if ltb most_event_bytes seen then TooLong else if last then Whole seen else if more then Wait else Whole seen
+at_line_end seen last more = when ltb most_event_bytes seen then TooLong else when last then Whole seen else when more then Wait else Whole seen

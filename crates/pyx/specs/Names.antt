@@ -1,6 +1,6 @@
 -- A name, and the place of its colon.
 use Rattle.std.specs.Prelude.{◌≡◌, true, false, List, ℕ, suc, ◌+◌, ◌-◌, ◌<◌, ◌≤◌, length, take, drop, get_or}
-use Rattle.spec.specs.Bytes.{Bytes, ascii, if◌then◌else◌, among, up_to}
+use Rattle.spec.specs.Bytes.{Bytes, ascii, when◌then◌else◌, among, up_to}
 use Rattle.spec.specs.XmlNames.{no_colon, is_nc_name, is_q_name}
 use Rattle.utils.specs.Names.{PlainPart}
 use Rattle.copy.specs.Copy.{Wrote}
@@ -10,7 +10,7 @@ use Rattle.pyx.specs.declared.Colon.TheVariants.{NotName, At}
 
 -- the place of the first colon plus 1, or 0
 unfoldable pub colon_of : Bytes → ℕ
-colon_of s = if no_colon s then 0 else suc (length (up_to (among (ascii ":")) s))
+colon_of s = when no_colon s then 0 else suc (length (up_to (among (ascii ":")) s))
 
 -- `colon_of`
 abbrev pub Colons : Colon → Bytes → Type 0

@@ -4,7 +4,7 @@ use Rattle.std.proofs.Common.{sym, ap, ◌∙◌, inl, inr, append_assoc, add-ze
 use Rattle.std.proofs.Math.Option as option
 use Rattle.std.proofs.lemmas.Bool.{eqb-false}
 use Rattle.spec.specs.Limits.{program_room}
-use Rattle.spec.specs.Bytes.{Bytes, if◌then◌else◌, is_empty, concat}
+use Rattle.spec.specs.Bytes.{Bytes, when◌then◌else◌, is_empty, concat}
 use Rattle.spec.specs.Numbers.{number, Answer, refuse, good}
 use Rattle.spec.specs.declared.Refusal.{Refusal}
 use Rattle.spec.specs.declared.Refusal.TheVariants.{Incomplete}
@@ -88,7 +88,7 @@ does_runs {k} {rest} {ps} {w = w} (one {k = j} {n = n} {o = o} {d' = e} h a q) r
 
 refused_runs : {k : ℕ} {rest : Bytes} {ps : List Bytes} {d : Doc} {n : Refusal} → first_accepted (is_empty ps) rest program_room d ≡ refuse n → (n ≡ Incomplete → ⊥)
     → Runs k rest ps d (last_line (number n) k)
-unfolding calls.refused refused_in printed ending if◌then◌else◌
+unfolding calls.refused refused_in printed ending when◌then◌else◌
 refused_runs {k} {rest} {ps} {d} {n} e h =
     let q : host_step ps rest program_room (is_open d) ≡ refused_in (is_open d) n = step-refused (is_empty ps) rest d e in
     let no : number n ≡ 1 → ⊥ = λ z. h (number_injective n Incomplete z) in
@@ -100,7 +100,7 @@ refused_runs {k} {rest} {ps} {d} {n} e h =
     }
 
 over_runs : {k : ℕ} {rest : Bytes} {d : Doc} → first_accepted true rest program_room d ≡ refuse Incomplete → Runs k rest [] d (last_line (call_finish (is_open d)).answer k)
-unfolding calls.refused refused_in calls.marked_by printed ending if◌then◌else◌ is_empty
+unfolding calls.refused refused_in calls.marked_by printed ending when◌then◌else◌ is_empty
 over_runs {k} {rest} {d} e =
     let q : call_step true rest program_room (is_open d) ≡ refused_in (is_open d) Incomplete = step-refused true rest d e in
     let z : k + 0 ≡ k = omega arith in

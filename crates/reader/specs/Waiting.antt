@@ -1,7 +1,7 @@
 -- Where no event is complete yet, all that is at hand belongs to one event, so it is no longer than an event may be.
 use Rattle.std.specs.Prelude.{ℕ, ◌≤◌, ◌≡◌, refl, Bool, true, false, [], ◌∷◌, eqb, ltb, length}
 use Rattle.std.proofs.Common.{ap, arith, ltb-false}
-use Rattle.spec.specs.Bytes.{Bytes, byte, if◌then◌else◌}
+use Rattle.spec.specs.Bytes.{Bytes, byte, when◌then◌else◌}
 use Rattle.spec.specs.Limits.{most_event_bytes}
 use Rattle.spec.specs.Numbers.{refuse}
 use Rattle.spec.specs.declared.Refusal.TheVariants.{Incomplete}
@@ -24,10 +24,10 @@ reach_all c true (b ∷ s) h = go (goes_on c b) refl (reach_all c false s)
 reach_all c false (b ∷ s) h = ap (λ (x : Bytes). b ∷ x) (reach_all c (eqb b (byte "\n")) s h)
 
 waiting : (last : Bool) (r : Bytes × Ending) → in_length last r ≡ wait → (length r.0 ≤ most_event_bytes) × (r.1 ≡ sure → ⊥)
-unfolding in_length ended if◌then◌else◌
+unfolding in_length ended when◌then◌else◌
 waiting last (e, k) = go (ltb most_event_bytes (length e)) refl k
   where
-    go : (b : Bool) → ltb most_event_bytes (length e) ≡ b → (k : Ending) → (if b then too_long else ended last (e, k)) ≡ wait → (length e ≤ most_event_bytes) × (k ≡ sure → ⊥)
+    go : (b : Bool) → ltb most_event_bytes (length e) ≡ b → (k : Ending) → (when b then too_long else ended last (e, k)) ≡ wait → (length e ≤ most_event_bytes) × (k ≡ sure → ⊥)
     go true p k h = let z : ◌≡◌ {A = ℕ} 0 1 = cc in absurd (omega arith)
     go false p sure h = let z : ◌≡◌ {A = ℕ} 0 1 = cc in absurd (omega arith)
     go false p line_end h = (ltb-false _ _ p, λ q. let z : ◌≡◌ {A = ℕ} 0 1 = cc in omega arith)

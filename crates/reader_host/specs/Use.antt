@@ -3,7 +3,7 @@ use Rattle.std.specs.Prelude.{ℕ, suc, ◌≤◌, ◌<◌, ◌≡◌, refl, Boo
 use Rattle.std.proofs.Common.{sym, ap, ◌∙◌, arith, eqb-true, leb-true, leb-false, ltb-false}
 use Rattle.std.proofs.Math.Option.{Option, none, some}
 use Rattle.std.proofs.lemmas.Bool.{eqb-false}
-use Rattle.spec.specs.Bytes.{Bytes, byte, if◌then◌else◌}
+use Rattle.spec.specs.Bytes.{Bytes, byte, when◌then◌else◌}
 use Rattle.spec.specs.Limits.{most_event_bytes}
 use Rattle.spec.specs.Numbers.{number, closes}
 use Rattle.spec.specs.declared.Refusal.{Refusal}
@@ -164,11 +164,11 @@ ended_wait last (e, line_end) h q = let z : ◌≡◌ {A = ℕ} 0 1 = cc in omeg
 ended_wait last (e, mid_line) h q = let z : ◌≡◌ {A = ℕ} 0 1 = cc in omega arith
 
 wait_short : (last : Bool) (s : Bytes) → cut last s ≡ wait → length s ≤ 32_768
-unfolding cut in_length most_event_bytes if◌then◌else◌
+unfolding cut in_length most_event_bytes when◌then◌else◌
 wait_short last [] h = omega arith
 wait_short last (c ∷ s) h = go (ltb 32_768 (length (reach c false (c ∷ s)).0)) refl h
   where
-    go : (t : Bool) → ltb 32_768 (length (reach c false (c ∷ s)).0) ≡ t → (if t then too_long else ended last (reach c false (c ∷ s))) ≡ wait → length (c ∷ s) ≤ 32_768
+    go : (t : Bool) → ltb 32_768 (length (reach c false (c ∷ s)).0) ≡ t → (when t then too_long else ended last (reach c false (c ∷ s))) ≡ wait → length (c ∷ s) ≤ 32_768
     go true e h = let z : ◌≡◌ {A = ℕ} 0 1 = cc in absurd (omega arith)
     go false e h = let l : length (reach c false (c ∷ s)).0 ≡ length (c ∷ s) = reach_all c false (c ∷ s) (ended_wait last _ h) in omega (arith, ltb-false 32_768 (length (reach c false (c ∷ s)).0) e)
 

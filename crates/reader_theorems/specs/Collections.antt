@@ -3,7 +3,7 @@ use Rattle.std.specs.Prelude.{ℕ, suc, ◌≤◌, ◌≡◌, refl, Bool, true, 
 use Rattle.std.proofs.Common.{sym, ap, ◌∙◌, arith, length-append}
 use Rattle.std.proofs.Math.Option.{Option, none, some, some-injective}
 use mathlib.Core.List.{List, [], ◌∷◌, ◌++◌, head-eq_of_cons-eq, tail-eq_of_cons-eq}
-use Rattle.spec.specs.Bytes.{Bytes, if◌then◌else◌}
+use Rattle.spec.specs.Bytes.{Bytes, when◌then◌else◌}
 use Rattle.spec.specs.Numbers.{good}
 use Rattle.spec.specs.Pyx.{Event, opening, closing, text, instruction}
 use Rattle.spec.specs.NTriples.{Subject, Triple}
@@ -76,11 +76,11 @@ kind_kept h c (property_element p v) = c p v
 kind_kept h c xml_element = refl
 
 value_kept : (h : Value → Value) → Keeps h → (fs : List Frame) → lists (change_value h fs) ≡ lists fs
-unfolding lists change_value with_kind if◌then◌else◌
+unfolding lists change_value with_kind when◌then◌else◌
 value_kept h c [] = refl
 value_kept h c (f ∷ fs) = go (is_xml_element f.kind) (value_kept h c fs)
   where
-    go : (b : Bool) → lists (change_value h fs) ≡ lists fs → lists (if b then f ∷ change_value h fs else with_kind (on_value h f.kind) f ∷ fs) ≡ lists (f ∷ fs)
+    go : (b : Bool) → lists (change_value h fs) ≡ lists fs → lists (when b then f ∷ change_value h fs else with_kind (on_value h f.kind) f ∷ fs) ≡ lists (f ∷ fs)
     go true e = ap (list_of f.kind ∷◌) e
     go false e = ap (◌∷ lists fs) (kind_kept h c f.kind)
 

@@ -4,7 +4,7 @@ use Rattle.std.proofs.Common.{sym, ap, ◌∙◌, arith, length-append, take-app
 use mathlib.Core.List.{[], ◌∷◌, ◌++◌, reverse, reverse-append, reverse-reverse, reverse-cons, append-nil, append_assoc}
 use Rattle.std.proofs.lemmas.List.{length-reverse}
 use Rattle.std.proofs.Math.Seq.{take-length, append_snoc}
-use Rattle.spec.specs.Bytes.{Bytes, ascii, if◌then◌else◌, after, up_to, from, among}
+use Rattle.spec.specs.Bytes.{Bytes, ascii, when◌then◌else◌, after, up_to, from, among}
 use Rattle.spec.specs.Rfc3986.{without_last}
 use Rattle.copy.specs.Texts.{after_drop}
 use Rattle.resolve.specs.Texts.{Front, Headed, from_headed, or-false, cut, Plain, plain_reverse, from-plain, from_none}
@@ -16,11 +16,11 @@ unfoldable pub through_last : Bytes → Bytes
 through_last s = reverse (from (among (ascii "/")) (reverse s))
 
 through_slash : (s : Bytes) → through_last (s ++ (47 ∷ [])) ≡ s ++ (47 ∷ [])
-unfolding through_last from among ascii if◌then◌else◌
+unfolding through_last from among ascii when◌then◌else◌
 through_slash s = rw (reverse-append s (47 ∷ []), reverse-cons 47 (reverse s), reverse-reverse s)
 
 through_other : (s : Bytes) (b : ℕ) → (b ≡ 47 → ⊥) → through_last (s ++ (b ∷ [])) ≡ through_last s
-unfolding through_last from among ascii if◌then◌else◌
+unfolding through_last from among ascii when◌then◌else◌
 through_other s b f = rw (reverse-append s (b ∷ []), ne_eqb 47 b (λ e. f (sym e)))
 
 -- the search from the end: there is no "/" from `n` on

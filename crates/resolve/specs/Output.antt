@@ -9,7 +9,7 @@ use Prim.Native.Nat.{ℕ, zero, suc, ◌+◌, ◌-◌, ◌^◌, ◌<◌, ◌≤�
 use native.Mathlib.Omega.{arith}
 use Rattle.std.proofs.Math.Numerals.{add-one}
 use Rattle.std.proofs.Math.ListN.{length, drop}
-use Rattle.spec.specs.Bytes.{Bytes, ascii, if◌then◌else◌, same, up_to, split}
+use Rattle.spec.specs.Bytes.{Bytes, ascii, when◌then◌else◌, same, up_to, split}
 use Rattle.spec.specs.Rfc3986.{without_last}
 use Rattle.copy.specs.Copy.{part, length_part, part_add, rest_of, Put, Wrote, put-fits, then as row, wrote_none, wrote_one, wrote_part, wrote_apart, wrote_same, wrote_before}
 use Rattle.copy.specs.Texts.{length_up_to, up_to_take, up_to_stop, from-drop}
@@ -301,34 +301,34 @@ grown_as {b = b} {from = from} {r = r} h n e q =
 
 module _ {area : Bytes} {from : ℕ} {out : Output} (last : Bool) where
   pub closed-inside : Within area from out → last ≡ false → Grown area area from out out 1 out.begun (closed out.begun last)
-  unfolding closed if◌then◌else◌
+  unfolding closed when◌then◌else◌
   closed-inside w e = grown_as (grown_none w) (omega arith) refl (λ t. rw e)
 
   pub closed_first : Within area from out → out.begun ≡ false → Grown area area from out out 1 out.begun (closed out.begun last)
-  unfolding closed if◌then◌else◌
+  unfolding closed when◌then◌else◌
   closed_first w e = grown_as (grown_none w) (omega arith) refl (λ t. rw (e, and-false last))
 
   pub closed_end : {after : Bytes} {r : Output} → last ≡ true → out.begun ≡ true → Grown area after from out r 1 true (appended out.begun [])
       → Grown area after from out r 1 out.begun (closed out.begun last)
-  unfolding closed if◌then◌else◌
+  unfolding closed when◌then◌else◌
   closed_end e b g = grown_as g (omega arith) (sym b) (λ t. rw (e, b))
 
 module _ {area after : Bytes} {from : ℕ} {out r : Output} (last : Bool) (s : Bytes) where
   pub output_here : same (ascii ".") s ≡ true → Grown area after from out r 1 out.begun (closed out.begun last)
       → Grown area after from out r 1 (begun_by out.begun s) (output out.begun last s)
-  unfolding output begun_by if◌then◌else◌
+  unfolding output begun_by when◌then◌else◌
   output_here e g = grown_as g (omega arith) (rw e (sym (or-false out.begun))) (λ t. rw e)
 
   pub output-parent : {o : Output} → same (ascii ".") s ≡ false → same (ascii "..") s ≡ true → Grown area area from out o 0 out.begun without_last
       → Grown area after from o r 1 o.begun (closed o.begun last)
       → Grown area after from out r 1 (begun_by out.begun s) (output out.begun last s)
-  unfolding output begun_by if◌then◌else◌
+  unfolding output begun_by when◌then◌else◌
   output-parent {o} n e g h =
       grown_as (grown_then g h) (omega arith) (g.begun ∙ rw (n, e) (sym (or-false out.begun))) (λ t. rw (n, e) (ap (λ (b : Bool). closed b last (without_last t)) g.begun))
 
   pub output-other : same (ascii ".") s ≡ false → same (ascii "..") s ≡ false → Grown area after from out r 1 true (appended out.begun s)
       → Grown area after from out r 1 (begun_by out.begun s) (output out.begun last s)
-  unfolding output begun_by if◌then◌else◌
+  unfolding output begun_by when◌then◌else◌
   output-other n e g = grown_as g (omega arith) (rw (n, e) (sym (or_true out.begun))) (λ t. rw (n, e))
 
 -- ---- the segments of a path, at once where none is a dot segment

@@ -13,7 +13,7 @@ use Rattle.std.proofs.Math.Dec.{eqb}
 use Rattle.std.proofs.Math.ListN.{length, length-append}
 use Rattle.std.proofs.Math.Seq.{drop-length, drop-cons}
 use borrow.Author.Tests.{eqb-true, lt-ltb, le-ltb, eq-eqb, ne_eqb}
-use Rattle.spec.specs.Bytes.{Bytes, ascii, if◌then◌else◌, begins, after, up_to, from, among, is_empty, is_some}
+use Rattle.spec.specs.Bytes.{Bytes, ascii, when◌then◌else◌, begins, after, up_to, from, among, is_empty, is_some}
 use Rattle.spec.specs.Rfc3986.{marked, past, scheme_of, after_scheme, parse, with_mark}
 use Rattle.spec.proofs.Booleans.{and_left, and_right, and_both}
 use Rattle.copy.specs.Copy.{rest_of}
@@ -33,7 +33,7 @@ unfoldable pub marked_text : Bytes → Bytes → Bytes → Bytes
 marked_text mark stop s = with_mark mark (marked mark stop s) []
 
 pub scheme_splits : (s : Bytes) → scheme_text s ++ after_scheme (scheme_of s) s ≡ s
-unfolding scheme_text scheme_of after_scheme with_mark if◌then◌else◌
+unfolding scheme_text scheme_of after_scheme with_mark when◌then◌else◌
 scheme_splits s = go (begins (ascii ":") (from (among (ascii ":/?#")) s) && not (is_empty (up_to (among (ascii ":/?#")) s))) refl
   where
     n : Bytes
@@ -46,41 +46,41 @@ scheme_splits s = go (begins (ascii ":") (from (among (ascii ":/?#")) s) && not 
     behind = after_drop n s ∙ sym (from-drop (among (ascii ":/?#")) s)
 
     go : (t : Bool) → (begins (ascii ":") rest && not (is_empty n)) ≡ t
-        → with_mark [] (if t then some n else none) (ascii ":") ++ after_scheme (if t then some n else none) s ≡ s
+        → with_mark [] (when t then some n else none) (ascii ":") ++ after_scheme (when t then some n else none) s ≡ s
     go true e =
         rw (append_assoc n (ascii ":") (after (ascii ":") (after n s)), behind, ← (begins_true (ascii ":") rest (and_left (begins (ascii ":") rest) (not (is_empty n)) e))) (cut (among (ascii ":/?#")) s)
     go false e = refl
 
 pub marked_splits : (mark stop s : Bytes) → marked_text mark stop s ++ past mark stop s ≡ s
-unfolding marked_text with_mark marked past if◌then◌else◌
+unfolding marked_text with_mark marked past when◌then◌else◌
 marked_splits mark stop s = go (begins mark s) refl
   where
-    go : (t : Bool) → begins mark s ≡ t → with_mark mark (if t then some (up_to (among stop) (after mark s)) else none) [] ++ (if t then from (among stop) (after mark s) else s) ≡ s
+    go : (t : Bool) → begins mark s ≡ t → with_mark mark (when t then some (up_to (among stop) (after mark s)) else none) [] ++ (when t then from (among stop) (after mark s) else s) ≡ s
     go true e = rw (append-nil, append_assoc, cut (among stop) (after mark s)) (sym (begins_true mark s e))
     go false e = refl
 
 up_to_none : (s : Bytes) → up_to (among []) s ≡ s
-unfolding up_to among if◌then◌else◌
+unfolding up_to among when◌then◌else◌
 up_to_none [] = refl
 up_to_none (a ∷ s) = ap (a ∷◌) (up_to_none s)
 
 -- a fragment is all that is left
 only-fragment : (s : Bytes) → Headed (among (ascii "#")) s → marked_text (ascii "#") [] s ≡ s
-unfolding marked_text with_mark marked begins among ascii after if◌then◌else◌
+unfolding marked_text with_mark marked begins among ascii after when◌then◌else◌
 only-fragment [] h = refl
 only-fragment (a ∷ s) h = go (eqb 35 a) refl h
   where
-    go : (t : Bool) → eqb 35 a ≡ t → (t || false) ≡ true → with_mark (ascii "#") (if t && true then some (up_to (among []) s) else none) [] ≡ a ∷ s
+    go : (t : Bool) → eqb 35 a ≡ t → (t || false) ≡ true → with_mark (ascii "#") (when t && true then some (up_to (among []) s) else none) [] ≡ a ∷ s
     go true e h = rw (append-nil, up_to_none s) (ap (◌∷ s) (eqb-true 35 a e))
     go false e h = absurd (false≢true h)
 
 fragment-left : (s : Bytes) → Headed (among (ascii "?#")) s → marked_text (ascii "#") [] (past (ascii "?") (ascii "#") s) ≡ past (ascii "?") (ascii "#") s
-unfolding past begins among ascii after if◌then◌else◌
+unfolding past begins among ascii after when◌then◌else◌
 fragment-left [] h = only-fragment [] tt
 fragment-left (a ∷ s) h = go (eqb 63 a) h
   where
     rest : Bool → Bytes
-    rest t = if t && true then from (among (ascii "#")) s else (a ∷ s)
+    rest t = when t && true then from (among (ascii "#")) s else (a ∷ s)
 
     go : (t : Bool) → (t || (eqb 35 a || false)) ≡ true → marked_text (ascii "#") [] (rest t) ≡ rest t
     go true h = only-fragment (from (among (ascii "#")) s) (from_headed (among (ascii "#")) s)
@@ -289,15 +289,15 @@ begins_more (x ∷ a) (y ∷ t) u h =
 
 module _ (s : Bytes) where
   authority_begins : is_some (parse s).authority ≡ begins (ascii "//") (behind_scheme s)
-  unfolding parse marked behind_scheme is_some if◌then◌else◌
+  unfolding parse marked behind_scheme is_some when◌then◌else◌
   authority_begins = go (begins (ascii "//") (behind_scheme s))
     where
-      go : (t : Bool) → is_some (if t then some (up_to (among (ascii "/?#")) (after (ascii "//") (behind_scheme s))) else none) ≡ t
+      go : (t : Bool) → is_some (when t then some (up_to (among (ascii "/?#")) (after (ascii "//") (behind_scheme s))) else none) ≡ t
       go true = refl
       go false = refl
 
   none_behind : is_some (parse s).authority ≡ false → behind_authority s ≡ behind_scheme s
-  unfolding behind_authority past if◌then◌else◌
+  unfolding behind_authority past when◌then◌else◌
   none_behind h = rw (sym authority_begins ∙ h)
 
   pub no_slashes : is_some (parse s).authority ≡ false → begins (ascii "//") (parse s).path ≡ false
@@ -324,40 +324,40 @@ clean_both (b ∷ s) t h k =
 
 -- a part ends before the first byte of a set that has it
 clean_up_to : (set s : Bytes) → among set 35 ≡ true → clean (up_to (among set) s) ≡ true
-unfolding clean up_to if◌then◌else◌
+unfolding clean up_to when◌then◌else◌
 clean_up_to set [] h = refl
 clean_up_to set (b ∷ s) h = go (among set b) refl (eqb b 35) refl (clean_up_to set s h)
   where
     go : (t : Bool) → among set b ≡ t → (u : Bool) → eqb b 35 ≡ u → clean (up_to (among set) s) ≡ true
-        → clean (if t then [] else (b ∷ up_to (among set) s)) ≡ true
+        → clean (when t then [] else (b ∷ up_to (among set) s)) ≡ true
     go true e u f k = refl
     go false e true f k = absurd (false≢true (sym e ∙ (ap (among set) (eqb-true b 35 f) ∙ h)))
     go false e false f k = rw f k
 
 clean_marked : (mark stop s : Bytes) → clean mark ≡ true → among stop 35 ≡ true → clean (marked_text mark stop s) ≡ true
-unfolding clean marked_text marked with_mark if◌then◌else◌
+unfolding clean marked_text marked with_mark when◌then◌else◌
 clean_marked mark stop s m h = go (begins mark s)
   where
-    go : (t : Bool) → clean (with_mark mark (if t then some (up_to (among stop) (after mark s)) else none) []) ≡ true
+    go : (t : Bool) → clean (with_mark mark (when t then some (up_to (among stop) (after mark s)) else none) []) ≡ true
     go true = rw append-nil (clean_both mark (up_to (among stop) (after mark s)) m (clean_up_to stop (after mark s) h))
     go false = refl
 
 hash_behind : (s t : Bytes) → clean s ≡ true → up_to (λ c. eqb c 35) (s ++ t) ≡ s ++ up_to (λ c. eqb c 35) t
-unfolding clean up_to if◌then◌else◌
+unfolding clean up_to when◌then◌else◌
 hash_behind [] t h = refl
 hash_behind (b ∷ s) t h = go (eqb b 35) (and_left (not (eqb b 35)) (clean s) h) (hash_behind s t (and_right (not (eqb b 35)) (clean s) h))
   where
     go : (u : Bool) → not u ≡ true → up_to (λ c. eqb c 35) (s ++ t) ≡ s ++ up_to (λ c. eqb c 35) t
-        → (if u then [] else (b ∷ up_to (λ c. eqb c 35) (s ++ t))) ≡ b ∷ (s ++ up_to (λ c. eqb c 35) t)
+        → (when u then [] else (b ∷ up_to (λ c. eqb c 35) (s ++ t))) ≡ b ∷ (s ++ up_to (λ c. eqb c 35) t)
     go true e k = absurd (false≢true e)
     go false e k = ap (b ∷◌) k
 
 module _ (s : Bytes) where
   clean_scheme : clean (scheme_text s) ≡ true
-  unfolding clean scheme_text scheme_of with_mark if◌then◌else◌ among ascii
+  unfolding clean scheme_text scheme_of with_mark when◌then◌else◌ among ascii
   clean_scheme = go (begins (ascii ":") (from (among (ascii ":/?#")) s) && not (is_empty (up_to (among (ascii ":/?#")) s)))
     where
-      go : (t : Bool) → clean (with_mark [] (if t then some (up_to (among (ascii ":/?#")) s) else none) (ascii ":")) ≡ true
+      go : (t : Bool) → clean (with_mark [] (when t then some (up_to (among (ascii ":/?#")) s) else none) (ascii ":")) ≡ true
       go true = clean_both (up_to (among (ascii ":/?#")) s) (ascii ":") (clean_up_to (ascii ":/?#") s refl) refl
       go false = refl
 
@@ -374,7 +374,7 @@ module _ (s : Bytes) where
   clean_query = clean_marked (ascii "?") (ascii "#") (behind_path s) refl refl
 
   hash_first : up_to (λ c. eqb c 35) (fragment_text s) ≡ []
-  unfolding fragment_text with_mark up_to if◌then◌else◌ ascii
+  unfolding fragment_text with_mark up_to when◌then◌else◌ ascii
   hash_first = go (parse s).fragment
     where
       go : (o : Option Bytes) → up_to (λ c. eqb c 35) (with_mark (ascii "#") o []) ≡ []
@@ -402,12 +402,12 @@ module _ (s : Bytes) where
 
 -- a byte is of a set if a search for it ends before the set's end
 among-found : (set : Bytes) (b : ℕ) → ltb (length (up_to (λ c. eqb c b) set)) (length set) ≡ among set b
-unfolding up_to among if◌then◌else◌
+unfolding up_to among when◌then◌else◌
 among-found [] b = refl
 among-found (a ∷ set) b = go (eqb a b) (among-found set b)
   where
     go : (t : Bool) → ltb (length (up_to (λ c. eqb c b) set)) (length set) ≡ among set b
-        → ltb (length (if t then [] else (a ∷ up_to (λ c. eqb c b) set))) (length (a ∷ set)) ≡ (t || among set b)
+        → ltb (length (when t then [] else (a ∷ up_to (λ c. eqb c b) set))) (length (a ∷ set)) ≡ (t || among set b)
     go true h = lt-ltb 0 (length (a ∷ set)) (omega arith)
     go false h = simp compare.suc-suc h
 
@@ -435,41 +435,41 @@ empty-size (a ∷ p) = sym (ne_eqb 0 (length (a ∷ p)) (λ e. omega arith))
 scheme_test : Bytes → Bool
 scheme_test s = begins (ascii ":") (drop (name_size s) s) && not (eqb 0 (name_size s))
 
-scheme_tested : (s : Bytes) → length (scheme_text s) ≡ (if scheme_test s then name_size s + 1 else 0)
-unfolding scheme_text scheme_of scheme_test name_size with_mark if◌then◌else◌ ascii
+scheme_tested : (s : Bytes) → length (scheme_text s) ≡ (when scheme_test s then name_size s + 1 else 0)
+unfolding scheme_text scheme_of scheme_test name_size with_mark when◌then◌else◌ ascii
 scheme_tested s =
     rw (from-drop (among (ascii ":/?#")) s, empty-size (up_to (among (ascii ":/?#")) s)) (go (begins (ascii ":") (drop (name_size s) s) && not (eqb 0 (name_size s))))
   where
-    go : (t : Bool) → length (with_mark [] (if t then some (up_to (among (ascii ":/?#")) s) else none) (ascii ":")) ≡ (if t then name_size s + 1 else 0)
+    go : (t : Bool) → length (with_mark [] (when t then some (up_to (among (ascii ":/?#")) s) else none) (ascii ":")) ≡ (when t then name_size s + 1 else 0)
     go true = length-append (up_to (among (ascii ":/?#")) s) (ascii ":")
     go false = refl
 
 module _ (s : Bytes) where
   pub scheme_unnamed : 0 ≡ name_size s → 0 ≡ length (scheme_text s)
-  unfolding scheme_test if◌then◌else◌
+  unfolding scheme_test when◌then◌else◌
   scheme_unnamed h = sym (scheme_tested s ∙ rw (← h, and-false (begins (ascii ":") (drop 0 s))))
 
   pub scheme_unended : length s ≡ name_size s → 0 ≡ length (scheme_text s)
-  unfolding scheme_test if◌then◌else◌ begins ascii
+  unfolding scheme_test when◌then◌else◌ begins ascii
   scheme_unended h = sym (scheme_tested s ∙ rw (← h, drop-length s))
 
   pub scheme-other : (n : ℕ) → n ≡ name_size s → n < length s → (get_or s n 0 ≡ 58 → ⊥) → 0 ≡ length (scheme_text s)
-  unfolding scheme_test if◌then◌else◌ begins ascii
+  unfolding scheme_test when◌then◌else◌ begins ascii
   scheme-other n e h f = sym (scheme_tested s ∙ rw (← e, drop-cons s n 0 h, ne_eqb 58 (get_or s n 0) (λ q. f (sym q))))
 
   pub scheme_there : (n : ℕ) → n ≡ name_size s → (n ≡ 0 → ⊥) → n < length s → get_or s n 0 ≡ 58 → n + 1 ≡ length (scheme_text s)
-  unfolding scheme_test if◌then◌else◌ begins ascii
+  unfolding scheme_test when◌then◌else◌ begins ascii
   scheme_there n e f h b = sym (scheme_tested s ∙ rw (← e, drop-cons s n 0 h, b, ne_eqb 0 n (λ z. f (sym z))))
 
 -- a part with a mark
 module _ (mark stop s : Bytes) where
   pub marked_none : begins mark s ≡ false → 0 ≡ length (marked_text mark stop s)
-  unfolding marked_text marked with_mark if◌then◌else◌
+  unfolding marked_text marked with_mark when◌then◌else◌
   marked_none e = rw e
 
   pub marked_there : (n : ℕ) → begins mark s ≡ true → n ≡ length (up_to (among stop) (take (length s - length mark) (drop (length mark) s)))
       → length mark + n ≡ length (marked_text mark stop s)
-  unfolding marked_text marked with_mark if◌then◌else◌
+  unfolding marked_text marked with_mark when◌then◌else◌
   marked_there n e f = rw (e, f, after_drop mark s, rest_of s (length mark)) (simp (append-nil, length-append))
 
   pub marked-within : length (marked_text mark stop s) ≤ length s

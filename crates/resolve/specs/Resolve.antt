@@ -9,7 +9,7 @@ use native.Mathlib.Omega.{arith}
 use Rattle.std.proofs.Math.ListN.{length, take}
 use Rattle.std.proofs.Math.Seq.{take-add, length-take-le}
 use borrow.Author.Tests.{ne_eqb, le-leb, lt-leb, leb-true, leb-false, ltb-true, ltb-false, lt-ltb}
-use Rattle.spec.specs.Bytes.{Bytes, ascii, if◌then◌else◌, same, begins, split}
+use Rattle.spec.specs.Bytes.{Bytes, ascii, when◌then◌else◌, same, begins, split}
 use Rattle.spec.specs.Limits.{most_name_bytes}
 use Rattle.spec.specs.Rfc3986.{remove_dot_segments, resolve, resolves}
 use Rattle.copy.specs.Copy.{part, length_part, Put, Wrote, put-fits, then as row, wrote_front, wrote_same}
@@ -50,7 +50,7 @@ need_is base reference = refl
 
 -- the answer on a text, where there is an area: `form` says whether the text is a form that RFC 3986 has
 unfoldable pub answered : Bool → Bytes → Resolved
-answered form text = if form then (if leb (length text) most_name_bytes then Length (length text) else TooLong) else NoForm
+answered form text = when form then (when leb (length text) most_name_bytes then Length (length text) else TooLong) else NoForm
 
 -- What `resolve` answers, `r`, and leaves in the area, `after`. Of a refusal by form or length nothing is said of what the area holds,
 -- nor of what stands there behind the resolved reference.
@@ -113,7 +113,7 @@ empty from = record { end = from; beyond = 0; begun = false }
 module _ (base reference : Bytes) (t : Target) {area after : Bytes} {from k : ℕ} {r : Output} where
   pub pathed_own : {b : Bool} → t.merged ≡ false → Grown area after from (empty from) r k b (outputs false false (split 47 (part reference t.own (t.path - t.own))))
       → Pathed area from (remove_dot_segments (merged_of base reference t)) after r
-  unfolding merged_of if◌then◌else◌
+  unfolding merged_of when◌then◌else◌
   pathed_own e g =
       record {
         same = g.same;
@@ -126,7 +126,7 @@ module _ (base reference : Bytes) (t : Target) {area after : Bytes} {from k : �
       → Grown area mid from (empty from) o l (begun_after false (split 47 (part base t.front (t.lead - t.front)))) (outputs false true (split 47 (part base t.front (t.lead - t.front))))
       → Grown mid after from o r k x (outputs o.begun false (split 47 (part reference t.own (t.path - t.own))))
       → Pathed area from (remove_dot_segments (merged_of base reference t)) after r
-  unfolding merged_of if◌then◌else◌
+  unfolding merged_of when◌then◌else◌
   pathed_merged e g h =
       record {
         same = h.same ∙ g.same;
@@ -241,12 +241,12 @@ module _ {area : Bytes} {from rest : ℕ} {out : Output} {f p : Bytes} (m : Made
     told = e ∙ form_told authority
 
     pub recomposed_formless : t ≡ false → Recomposed authority f p q area area NoForm
-    unfolding answered if◌then◌else◌
+    unfolding answered when◌then◌else◌
     recomposed_formless n =
         record { is = rw (sym told ∙ n); written = λ k x. absurd (let z : ◌≡◌ {A = ℕ} 0 1 = cc in omega arith); same = refl }
 
     long : t ≡ true → most_name_bytes < length f + length p + rest → Recomposed authority f p q area area TooLong
-    unfolding answered if◌then◌else◌
+    unfolding answered when◌then◌else◌
     long y l =
         record {
           is = rw (sym told ∙ y, lt-leb (length (f ++ (p ++ q))) most_name_bytes (omega (arith, size-whole)));
@@ -269,7 +269,7 @@ module _ {area : Bytes} {from rest : ℕ} {out : Output} {f p : Bytes} (m : Made
 
     pub recomposed_whole : {after : Bytes} {s : Bool} → t ≡ true → out.beyond ≤ 0 → out.end + rest ≤ most_name_bytes → Put area out.end q after s
         → Recomposed authority f p q area after (Length (out.end + rest))
-    unfolding answered if◌then◌else◌ most_area part
+    unfolding answered when◌then◌else◌ most_area part
     recomposed_whole {after} y z l w =
         let size : length f + length p ≡ out.end = omega (arith, m.size, m.within, size_path z) in
         let wrote : Wrote area after out.end (out.end + length q) q = put-fits w (omega (arith, m.room, r, size)) in
@@ -285,13 +285,13 @@ module _ {area : Bytes} {from rest : ℕ} {out : Output} {f p : Bytes} (m : Made
         }
 
 length_merged : (base reference : Bytes) (t : Target) → Aimed base reference t → length (merged_of base reference t) ≤ t.lead - t.front + 1 + (t.path - t.own)
-unfolding merged_of if◌then◌else◌
+unfolding merged_of when◌then◌else◌
 length_merged base reference t a = go t.merged
   where
     p : Bytes
     p = part reference t.own (t.path - t.own)
 
-    go : (m : Bool) → length (if m then part base t.front (t.lead - t.front) ++ 47 ∷ p else p) ≤ t.lead - t.front + 1 + (t.path - t.own)
+    go : (m : Bool) → length (when m then part base t.front (t.lead - t.front) ++ 47 ∷ p else p) ≤ t.lead - t.front + 1 + (t.path - t.own)
     go true =
         omega (
           arith,
@@ -364,11 +364,11 @@ Said form text TooLong = (form ≡ true) × (most_name_bytes < length text)
 Said form text NoArea = ⊥
 
 said : (form : Bool) (text : Bytes) → Said form text (answered form text)
-unfolding answered if◌then◌else◌
+unfolding answered when◌then◌else◌
 said false text = refl
 said true text = go (leb (length text) most_name_bytes) refl
   where
-    go : (t : Bool) → leb (length text) most_name_bytes ≡ t → Said true text (if t then Length (length text) else TooLong)
+    go : (t : Bool) → leb (length text) most_name_bytes ≡ t → Said true text (when t then Length (length text) else TooLong)
     go true e = (refl, refl, leb-true (length text) most_name_bytes e)
     go false e = (refl, leb-false (length text) most_name_bytes e)
 

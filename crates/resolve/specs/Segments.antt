@@ -6,7 +6,7 @@ use Rattle.std.proofs.Math.Path.{ap}
 use Rattle.std.proofs.Math.Bool.{true, false}
 use Rattle.std.proofs.lemmas.Bool.{false≢true, eqb-false}
 use mathlib.Core.List.{List, [], ◌∷◌, ◌++◌, append_assoc}
-use Rattle.spec.specs.Bytes.{Bytes, ascii, if◌then◌else◌, same, begins, up_to, from, among, All, split, onto}
+use Rattle.spec.specs.Bytes.{Bytes, ascii, when◌then◌else◌, same, begins, up_to, from, among, All, split, onto}
 use Rattle.spec.specs.Rfc3986.{without_last, first_segment, turn, turns, remove_dot_segments}
 use Rattle.copy.specs.Texts.{same_true, length_up_to, up_to_stop}
 use Rattle.resolve.specs.Texts.{Plain, from-plain, from_none, and-false, or_true}
@@ -22,13 +22,13 @@ appended false s o = o ++ s
 
 -- a dot segment at the end leaves its "/"
 unfoldable pub closed : Bool → Bool → Bytes → Bytes
-closed begun last o = if last && begun then appended true [] o else o
+closed begun last o = when last && begun then appended true [] o else o
 
 -- what a segment makes of the output, in which some stood already or none
 unfoldable pub output : Bool → Bool → Bytes → Bytes → Bytes
 output begun last s o =
-    if same (ascii ".") s then closed begun last o else
-    if same (ascii "..") s then closed begun last (without_last o) else
+    when same (ascii ".") s then closed begun last o else
+    when same (ascii "..") s then closed begun last (without_last o) else
     appended begun s o
 
 -- dot segments that come first are passed over
@@ -52,12 +52,12 @@ begun_after begun (s ∷ ss) = begun_after (begun_by begun s) ss
 -- ---- a path cut at its first "/"
 
 pub split_plain : (s : Bytes) → Plain s → split 47 s ≡ s ∷ []
-unfolding split onto if◌then◌else◌
+unfolding split onto when◌then◌else◌
 split_plain [] h = refl
 split_plain (a ∷ s) h = rw (ne_eqb a 47 h.0, split_plain s h.1)
 
 pub split_segment : (s t : Bytes) → Plain s → split 47 (s ++ 47 ∷ t) ≡ s ∷ split 47 t
-unfolding split onto if◌then◌else◌
+unfolding split onto when◌then◌else◌
 split_segment [] t h = refl
 split_segment (a ∷ s) t h = rw (ne_eqb a 47 h.0, split_segment s t h.1)
 
@@ -68,11 +68,11 @@ onto_never more c [] = refl
 onto_never more c (l ∷ ls) = refl
 
 pub split_never : (more : Bool) (s : Bytes) → is_last more (split 47 s) ≡ false
-unfolding split is_last if◌then◌else◌
+unfolding split is_last when◌then◌else◌
 split_never more [] = refl
 split_never more (c ∷ s) = go (eqb c 47)
   where
-    go : (t : Bool) → is_last more (if t then [] ∷ split 47 s else onto c (split 47 s)) ≡ false
+    go : (t : Bool) → is_last more (when t then [] ∷ split 47 s else onto c (split 47 s)) ≡ false
     go true = refl
     go false = onto_never more c (split 47 s)
 
@@ -84,12 +84,12 @@ onto-append c [] ms h = absurd (false≢true (sym h))
 onto-append c (l ∷ ls) ms h = refl
 
 pub split-append : (s t : Bytes) → split 47 (s ++ 47 ∷ t) ≡ split 47 s ++ split 47 t
-unfolding split if◌then◌else◌
+unfolding split when◌then◌else◌
 split-append [] t = refl
 split-append (c ∷ s) t = go (eqb c 47) (split-append s t)
   where
     go : (b : Bool) → split 47 (s ++ 47 ∷ t) ≡ split 47 s ++ split 47 t
-        → (if b then [] ∷ split 47 (s ++ 47 ∷ t) else onto c (split 47 (s ++ 47 ∷ t))) ≡ (if b then [] ∷ split 47 s else onto c (split 47 s)) ++ split 47 t
+        → (when b then [] ∷ split 47 (s ++ 47 ∷ t) else onto c (split 47 (s ++ 47 ∷ t))) ≡ (when b then [] ∷ split 47 s else onto c (split 47 s)) ++ split 47 t
     go true e = ap ([] ∷◌) e
     go false e = ap (onto c) e ∙ onto-append c (split 47 s) (split 47 t) (split_never false s)
 
@@ -117,12 +117,12 @@ outputs-append begun more (s ∷ ss) ts o h =
 
 -- tests of a text by its first segment
 up_to_segment : (s t : Bytes) → Plain s → up_to (among (ascii "/")) (s ++ 47 ∷ t) ≡ s
-unfolding up_to among ascii if◌then◌else◌
+unfolding up_to among ascii when◌then◌else◌
 up_to_segment [] t h = refl
 up_to_segment (a ∷ s) t h = rw (ne_eqb 47 a (λ (e : 47 ≡ a). h.0 (sym e))) (ap (a ∷◌) (up_to_segment s t h.1))
 
 up_to_plain : (s : Bytes) → Plain s → up_to (among (ascii "/")) s ≡ s
-unfolding up_to among ascii if◌then◌else◌
+unfolding up_to among ascii when◌then◌else◌
 up_to_plain [] h = refl
 up_to_plain (a ∷ s) h = rw (ne_eqb 47 a (λ (e : 47 ≡ a). h.0 (sym e))) (ap (a ∷◌) (up_to_plain s h.1))
 
@@ -155,22 +155,22 @@ dots = (eqb-false 46 47 refl, dot)
 
 -- a segment behind a "/", with another one behind it
 turn_led : (s t o : Bytes) → Plain s → ◌≡◌ {A = Bytes × Bytes} (turn (47 ∷ s ++ 47 ∷ t) o) (47 ∷ t, output true false s o)
-unfolding turn begins same ascii first_segment output closed appended if◌then◌else◌
+unfolding turn begins same ascii first_segment output closed appended when◌then◌else◌
 turn_led s t o h =
     rw (begins_segment (46 ∷ []) s t dot h, same-longer (46 ∷ []) s t dot, begins_segment (46 ∷ 46 ∷ []) s t dots h, same-longer (46 ∷ 46 ∷ []) s t dots)
     (go (same (46 ∷ []) s) (same (46 ∷ 46 ∷ []) s) refl refl)
   where
     go : (a b : Bool) → same (46 ∷ []) s ≡ a → same (46 ∷ 46 ∷ []) s ≡ b
         → ◌≡◌ {A = Bytes × Bytes}
-        (if a then (drop 2 (47 ∷ s ++ 47 ∷ t), o) else if b then (drop 3 (47 ∷ s ++ 47 ∷ t), without_last o) else (from (among (47 ∷ [])) (s ++ 47 ∷ t), o ++ (47 ∷ up_to (among (47 ∷ [])) (s ++ 47 ∷ t))))
-        (47 ∷ t, if a then o else if b then without_last o else o ++ 47 ∷ s)
+        (when a then (drop 2 (47 ∷ s ++ 47 ∷ t), o) else when b then (drop 3 (47 ∷ s ++ 47 ∷ t), without_last o) else (from (among (47 ∷ [])) (s ++ 47 ∷ t), o ++ (47 ∷ up_to (among (47 ∷ [])) (s ++ 47 ∷ t))))
+        (47 ∷ t, when a then o else when b then without_last o else o ++ 47 ∷ s)
     go true b e f = rw (← (same_true (46 ∷ []) s e))
     go false true e f = rw (← (same_true (46 ∷ 46 ∷ []) s f))
     go false false e f = rw (from-plain s t h, up_to_segment s t h)
 
 -- "/" alone
 left_slash : (o : Bytes) → left (47 ∷ []) o ≡ o ++ 47 ∷ []
-unfolding left turns turn begins same ascii first_segment from up_to among if◌then◌else◌
+unfolding left turns turn begins same ascii first_segment from up_to among when◌then◌else◌
 left_slash o = refl
 
 left-nothing : (o : Bytes) → left [] o ≡ o
@@ -182,23 +182,23 @@ none_last = without_first [] tt
 
 -- the last one behind a "/"
 led_last : (s o : Bytes) → Plain s → left (47 ∷ s) o ≡ output true true s o
-unfolding turn begins same ascii first_segment output closed appended if◌then◌else◌
+unfolding turn begins same ascii first_segment output closed appended when◌then◌else◌
 led_last s o h =
     left-turn (47 ∷ s) o (omega arith)
     ∙ rw (begins-plain (46 ∷ []) s h, begins-plain (46 ∷ 46 ∷ []) s h, from_none s h, up_to_plain s h) (go (same (46 ∷ []) s) (same (46 ∷ 46 ∷ []) s))
   where
     behind : Bool → Bool → Bytes × Bytes
-    behind a b = if a then (47 ∷ [], o) else if b then (47 ∷ [], without_last o) else ([], o ++ (47 ∷ s))
+    behind a b = when a then (47 ∷ [], o) else when b then (47 ∷ [], without_last o) else ([], o ++ (47 ∷ s))
 
-    go : (a b : Bool) → left (behind a b).0 (behind a b).1 ≡ (if a then o ++ 47 ∷ [] else if b then without_last o ++ 47 ∷ [] else o ++ 47 ∷ s)
+    go : (a b : Bool) → left (behind a b).0 (behind a b).1 ≡ (when a then o ++ 47 ∷ [] else when b then without_last o ++ 47 ∷ [] else o ++ 47 ∷ s)
     go true b = left_slash o
     go false true = left_slash (without_last o)
     go false false = left-nothing (o ++ 47 ∷ s)
 
 -- the first one, with another one behind it
 turn_first : (a : ℕ) (s t : Bytes) → Plain (a ∷ s)
-    → ◌≡◌ {A = Bytes × Bytes} (turn (a ∷ s ++ 47 ∷ t) []) (if begun_by false (a ∷ s) then (47 ∷ t, output false false (a ∷ s) []) else (t, []))
-unfolding turn begins same ascii first_segment output closed appended begun_by if◌then◌else◌
+    → ◌≡◌ {A = Bytes × Bytes} (turn (a ∷ s ++ 47 ∷ t) []) (when begun_by false (a ∷ s) then (47 ∷ t, output false false (a ∷ s) []) else (t, []))
+unfolding turn begins same ascii first_segment output closed appended begun_by when◌then◌else◌
 turn_first a s t h =
     rw (
       begins_segment (46 ∷ 46 ∷ []) (a ∷ s) t dots h,
@@ -213,8 +213,8 @@ turn_first a s t h =
     (go (same (46 ∷ []) (a ∷ s)) (same (46 ∷ 46 ∷ []) (a ∷ s)) refl refl)
   where
     go : (x y : Bool) → same (46 ∷ []) (a ∷ s) ≡ x → same (46 ∷ 46 ∷ []) (a ∷ s) ≡ y
-        → ◌≡◌ {A = Bytes × Bytes} (if y then (drop 3 (a ∷ s ++ 47 ∷ t), []) else if x then (drop 2 (a ∷ s ++ 47 ∷ t), []) else (47 ∷ t, a ∷ s))
-        (if not (x || y) then (47 ∷ t, if x then [] else if y then [] else a ∷ s) else (t, []))
+        → ◌≡◌ {A = Bytes × Bytes} (when y then (drop 3 (a ∷ s ++ 47 ∷ t), []) else when x then (drop 2 (a ∷ s ++ 47 ∷ t), []) else (47 ∷ t, a ∷ s))
+        (when not (x || y) then (47 ∷ t, when x then [] else when y then [] else a ∷ s) else (t, []))
     go true true e f = absurd (let z : ◌≡◌ {A = ℕ} 1 2 = ap length (same_true (46 ∷ []) (a ∷ s) e ∙ sym (same_true (46 ∷ 46 ∷ []) (a ∷ s) f)) in omega arith)
     go true false e f = rw (← (ap (drop 1) (same_true (46 ∷ []) (a ∷ s) e)))
     go false true e f = rw (← (ap (drop 1) (same_true (46 ∷ 46 ∷ []) (a ∷ s) f)))
@@ -222,7 +222,7 @@ turn_first a s t h =
 
 -- the first one and the last
 first_last : (s : Bytes) → Plain s → left s [] ≡ output false true s []
-unfolding left turns turn begins same ascii first_segment output closed appended if◌then◌else◌
+unfolding left turns turn begins same ascii first_segment output closed appended when◌then◌else◌
 first_last [] h = refl
 first_last (a ∷ s) h =
     left-turn (a ∷ s) [] (omega arith)
@@ -237,9 +237,9 @@ first_last (a ∷ s) h =
     (go (same (46 ∷ []) (a ∷ s)) (same (46 ∷ 46 ∷ []) (a ∷ s)))
   where
     behind : Bool → Bool → Bytes × Bytes
-    behind x y = if x || y then ([], []) else ([], a ∷ s)
+    behind x y = when x || y then ([], []) else ([], a ∷ s)
 
-    go : (x y : Bool) → left (behind x y).0 (behind x y).1 ≡ (if x then [] else if y then [] else a ∷ s)
+    go : (x y : Bool) → left (behind x y).0 (behind x y).1 ≡ (when x then [] else when y then [] else a ∷ s)
     go true y = refl
     go false true = refl
     go false false = refl
@@ -264,11 +264,11 @@ joined-onto c (s ∷ []) h = refl
 joined-onto c (s ∷ (t ∷ ss)) h = refl
 
 joined-split : (s : Bytes) → joined (split 47 s) ≡ s
-unfolding joined split if◌then◌else◌
+unfolding joined split when◌then◌else◌
 joined-split [] = refl
 joined-split (c ∷ s) = go (eqb c 47) refl (joined-split s)
   where
-    go : (t : Bool) → eqb c 47 ≡ t → joined (split 47 s) ≡ s → joined (if t then [] ∷ split 47 s else onto c (split 47 s)) ≡ c ∷ s
+    go : (t : Bool) → eqb c 47 ≡ t → joined (split 47 s) ≡ s → joined (when t then [] ∷ split 47 s else onto c (split 47 s)) ≡ c ∷ s
     go true e h = joined_cons [] (split 47 s) (split_never false s) ∙ rw (h, eqb-true c 47 e)
     go false e h = joined-onto c (split 47 s) (split_never false s) ∙ ap (c ∷◌) h
 
@@ -278,11 +278,11 @@ plain-onto c [] n h = ((n, tt), tt)
 plain-onto c (s ∷ ss) n h = ((n, h.0), h.1)
 
 plain-split : (s : Bytes) → All Plain (split 47 s)
-unfolding split if◌then◌else◌
+unfolding split when◌then◌else◌
 plain-split [] = (tt, tt)
 plain-split (c ∷ s) = go (eqb c 47) refl (plain-split s)
   where
-    go : (t : Bool) → eqb c 47 ≡ t → All Plain (split 47 s) → All Plain (if t then [] ∷ split 47 s else onto c (split 47 s))
+    go : (t : Bool) → eqb c 47 ≡ t → All Plain (split 47 s) → All Plain (when t then [] ∷ split 47 s else onto c (split 47 s))
     go true e h = (tt, h)
     go false e h = plain-onto c (split 47 s) (eqb-false c 47 e) h
 
@@ -292,7 +292,7 @@ left_from true i o = left (47 ∷ i) o
 left_from false i o = left i o
 
 one_more_lem : (begun : Bool) (s t o : Bytes) → (begun ≡ false → o ≡ []) → Plain s → left_from begun (s ++ 47 ∷ t) o ≡ left_from (begun_by begun s) t (output begun false s o)
-unfolding left_from begun_by output closed appended same ascii if◌then◌else◌
+unfolding left_from begun_by output closed appended same ascii when◌then◌else◌
 one_more_lem true s t o f h =
     left-turn (47 ∷ s ++ 47 ∷ t) o (omega arith) ∙ ap (λ (r : Bytes × Bytes). left r.0 r.1) (turn_led s t o h)
 one_more_lem false [] t o f h = rw (f refl)
@@ -301,19 +301,19 @@ one_more_lem false (a ∷ s) t o f h =
     ∙ rw (f refl) (go (same (46 ∷ []) (a ∷ s)) (same (46 ∷ 46 ∷ []) (a ∷ s)))
   where
     behind : Bool → Bool → Bytes × Bytes
-    behind x y = if not (x || y) then (47 ∷ t, if x then [] else if y then without_last [] else (a ∷ s)) else (t, [])
+    behind x y = when not (x || y) then (47 ∷ t, when x then [] else when y then without_last [] else (a ∷ s)) else (t, [])
 
-    go : (x y : Bool) → left (behind x y).0 (behind x y).1 ≡ left_from (not (x || y)) t (if x then [] else if y then without_last [] else (a ∷ s))
+    go : (x y : Bool) → left (behind x y).0 (behind x y).1 ≡ left_from (not (x || y)) t (when x then [] else when y then without_last [] else (a ∷ s))
     go true y = refl
     go false true = rw none_last
     go false false = refl
 
 none_yet : (begun : Bool) (s o : Bytes) → (begun ≡ false → o ≡ []) → begun_by begun s ≡ false → output begun false s o ≡ []
-unfolding begun_by output closed if◌then◌else◌
+unfolding begun_by output closed when◌then◌else◌
 none_yet true s o f h = absurd (false≢true (sym h))
 none_yet false s o f h = rw (f refl) (go (same (ascii ".") s) (same (ascii "..") s) h)
   where
-    go : (x y : Bool) → not (x || y) ≡ false → (if x then [] else if y then without_last [] else appended false s []) ≡ []
+    go : (x y : Bool) → not (x || y) ≡ false → (when x then [] else when y then without_last [] else appended false s []) ≡ []
     go true y h = refl
     go false true h = none_last
     go false false h = absurd (false≢true (sym h))
@@ -353,7 +353,7 @@ neither false b h = (refl, h)
 
 module _ (begun : Bool) (s : Bytes) (h : is_dots s ≡ false) where
   output-plain : (last : Bool) (o : Bytes) → output begun last s o ≡ appended begun s o
-  unfolding is_dots output if◌then◌else◌
+  unfolding is_dots output when◌then◌else◌
   output-plain last o = let n = neither (same (ascii ".") s) (same (ascii "..") s) h in rw (n.0, n.1)
 
   begun-plain : begun_by begun s ≡ true
@@ -405,13 +405,13 @@ free-onto start c [] n h = (λ e. other_dots c [] (rw e at n), tt)
 free-onto start c (s ∷ ss) n h = (λ e. other_dots c s (rw e at n), h.1)
 
 free-split : (start : Bool) (p : Bytes) → starts_dot start p ≡ false → DotFree start (split 47 p)
-unfolding starts_dot split if◌then◌else◌ DotFree
+unfolding starts_dot split when◌then◌else◌ DotFree
 free-split start [] h = (λ _. none_dots, tt)
 free-split start (c ∷ s) h =
     let n = neither (start && eqb c 46) (starts_dot (eqb c 47) s) h in
     go (eqb c 47) refl n.0 (free-split (eqb c 47) s n.1)
   where
-    go : (t : Bool) → eqb c 47 ≡ t → (start && eqb c 46) ≡ false → DotFree (eqb c 47) (split 47 s) → DotFree start (if t then [] ∷ split 47 s else onto c (split 47 s))
+    go : (t : Bool) → eqb c 47 ≡ t → (start && eqb c 46) ≡ false → DotFree (eqb c 47) (split 47 s) → DotFree start (when t then [] ∷ split 47 s else onto c (split 47 s))
     go true e n h = (λ _. none_dots, free_all (split 47 s) (rw e at h))
     go false e n h = free-onto start c (split 47 s) n (rw e at h)
 
@@ -464,12 +464,12 @@ flagged_cons start c s (suc n) = refl
 
 -- bytes that are no "." are passed over
 passed_over : (start : Bool) (s : Bytes) → (let n = length (up_to (λ (c : ℕ). eqb c 46) s) in starts_dot (flagged start s n) (drop n s) ≡ false) → starts_dot start s ≡ false
-unfolding starts_dot up_to if◌then◌else◌ flagged
+unfolding starts_dot up_to when◌then◌else◌ flagged
 passed_over start [] h = refl
 passed_over start (c ∷ s) h = go (eqb c 46) refl h (passed_over (eqb c 47) s)
   where
     go : (t : Bool) → eqb c 46 ≡ t
-        → (let n = length (if t then [] else (c ∷ up_to (λ (a : ℕ). eqb a 46) s)) in starts_dot (flagged start (c ∷ s) n) (drop n (c ∷ s)) ≡ false)
+        → (let n = length (when t then [] else (c ∷ up_to (λ (a : ℕ). eqb a 46) s)) in starts_dot (flagged start (c ∷ s) n) (drop n (c ∷ s)) ≡ false)
         → ((let n = length (up_to (λ (a : ℕ). eqb a 46) s) in starts_dot (flagged (eqb c 47) s n) (drop n s) ≡ false) → starts_dot (eqb c 47) s ≡ false)
         → ((start && eqb c 46) || starts_dot (eqb c 47) s) ≡ false
     go true e h f = h

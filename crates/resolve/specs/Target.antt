@@ -11,7 +11,7 @@ use Rattle.std.proofs.Math.Dec.{ltb}
 use Rattle.std.proofs.Math.ListN.{length, take, drop}
 use Rattle.std.proofs.Math.Seq.{append_snoc, length-take-le}
 use borrow.Author.Tests.{ltb-true, lt-ltb, le-ltb, eq-eqb, ne_eqb}
-use Rattle.spec.specs.Bytes.{Bytes, ascii, if◌then◌else◌, begins, from, is_empty, is_some, or_else}
+use Rattle.spec.specs.Bytes.{Bytes, ascii, when◌then◌else◌, begins, from, is_empty, is_some, or_else}
 use Rattle.spec.specs.Rfc3986.{Reference, parse, recompose, remove_dot_segments, turns, without_last, merge, transform, has_form, resolve, resolves}
 use Rattle.resolve.specs.Parts.{parts_of, scheme_text, authority_text, query_text, fragment_text, ordered, take-scheme, take_authority, take_path, take-query, drop_path_texts, path_between, scheme-nil, authority_nil, path_nil, query-nil, scheme-text, has-scheme, has_authority, has-query, has_path, no_slashes}
 use Rattle.copy.specs.Copy.{part, length_part}
@@ -28,7 +28,7 @@ front_of base reference t = take t.front base ++ take t.own reference
 unfoldable pub merged_of : Bytes → Bytes → Target → Bytes
 merged_of base reference t =
     let path = part reference t.own (t.path - t.own) in
-    if t.merged then part base t.front (t.lead - t.front) ++ 47 ∷ path else path
+    when t.merged then part base t.front (t.lead - t.front) ++ 47 ∷ path else path
 
 -- the whole target, and whether it has a form
 unfoldable pub whole_of : Bytes → Bytes → Target → Bytes
@@ -107,18 +107,18 @@ pub record Leads (base : Bytes) (l : Lead) : Type 0 where
   pub order : (parts_of base).authority ≤ l.end
   pub within : l.end ≤ length base
   pub few : l.merged ≡ true → l.end - (parts_of base).authority < length base
-  pub is : (p : Bytes) → (if l.merged then part base (parts_of base).authority (l.end - (parts_of base).authority) ++ 47 ∷ p else p) ≡ merge (parse base) p
+  pub is : (p : Bytes) → (when l.merged then part base (parts_of base).authority (l.end - (parts_of base).authority) ++ 47 ∷ p else p) ≡ merge (parse base) p
 
 -- a base with a path, one with an authority alone, and one with neither
 merge_path : (s a : Option Bytes) (path : Bytes) (q f : Option Bytes) (p : Bytes) → is_empty path ≡ false
     → merge (record { scheme = s; authority = a; path = path; query = q; fragment = f }) p ≡ through_last path ++ p
-unfolding merge through_last if◌then◌else◌
+unfolding merge through_last when◌then◌else◌
 merge_path s none path q f p h = refl
 merge_path s (some a) path q f p h = rw h
 
 merge_authority : (s a : Option Bytes) (path : Bytes) (q f : Option Bytes) (p : Bytes) → path ≡ [] → is_some a ≡ true
     → merge (record { scheme = s; authority = a; path = path; query = q; fragment = f }) p ≡ ascii "/" ++ p
-unfolding merge is_some is_empty if◌then◌else◌
+unfolding merge is_some is_empty when◌then◌else◌
 merge_authority s none path q f p e h = absurd (false≢true h)
 merge_authority s (some a) path q f p e h = rw e
 
@@ -141,7 +141,7 @@ module _ (base : Bytes) where
   pub leads_path : {n : ℕ} → (parts_of base).authority < (parts_of base).path
       → Front (path_at base) (through_last (path_at base)) n → (n ≡ 0 → ⊥)
       → Leads base (record { merged = true; end = (parts_of base).authority + (n - 1) })
-  unfolding if◌then◌else◌ part
+  unfolding when◌then◌else◌ part
   leads_path {n} h f z =
       let o = ordered base in
       let size : length (path_at base) ≡ (parts_of base).path - (parts_of base).authority = length_part base (parts_of base).authority ((parts_of base).path - (parts_of base).authority) (omega (arith, o)) in
@@ -162,7 +162,7 @@ module _ (base : Bytes) where
   pub leads_bare : {n : ℕ} → (parts_of base).authority < (parts_of base).path
       → Front (path_at base) (through_last (path_at base)) n → n ≡ 0
       → Leads base (record { merged = false; end = (parts_of base).authority })
-  unfolding if◌then◌else◌
+  unfolding when◌then◌else◌
   leads_bare {n} h f z =
       let none : through_last (parse base).path ≡ [] = ap through_last (sym (path_between base)) ∙ sym f.is ∙ rw z in
       record { order = omega arith; within = omega (arith, ordered base); few = unmerged; is = λ p. sym (merge_there h p ∙ ap (◌++ p) none) }
@@ -170,7 +170,7 @@ module _ (base : Bytes) where
   -- without a path, by whether there is an authority
   pub leads_none : (parts_of base).path ≤ (parts_of base).authority
       → Leads base (record { merged = ltb (parts_of base).scheme (parts_of base).authority; end = (parts_of base).authority })
-  unfolding if◌then◌else◌ ascii part
+  unfolding when◌then◌else◌ ascii part
   leads_none n = go (ltb (parts_of base).scheme (parts_of base).authority) refl
     where
       go : (t : Bool) → ltb (parts_of base).scheme (parts_of base).authority ≡ t → Leads base (record { merged = t; end = (parts_of base).authority })
@@ -214,7 +214,7 @@ module _ (base reference : Bytes) where
         path = (parts_of reference).path;
         authority = ltb (parts_of reference).scheme (parts_of reference).authority;
       })
-  unfolding transform recompose has_form front_of merged_of authority_text query_text fragment_text if◌then◌else◌ part
+  unfolding transform recompose has_form front_of merged_of authority_text query_text fragment_text when◌then◌else◌ part
   aimed_scheme h =
       aimed {r = made (parse reference).scheme (parse reference).authority (remove_dot_segments (parse reference).path) (parse reference).query reference}
       (scheme_text reference ++ authority_text reference) (parse reference).path (rw (has-scheme reference ∙ lt-ltb 0 (parts_of reference).scheme h)) (omega arith) (omega arith) unmerged
@@ -230,7 +230,7 @@ module _ (base reference : Bytes) where
         path = (parts_of reference).path;
         authority = true;
       })
-  unfolding transform recompose has_form front_of merged_of authority_text query_text fragment_text if◌then◌else◌ part
+  unfolding transform recompose has_form front_of merged_of authority_text query_text fragment_text when◌then◌else◌ part
   aimed_authority n h =
       let none : is_some (parse reference).scheme ≡ false = has-scheme reference ∙ le-ltb 0 (parts_of reference).scheme n in
       let there : is_some (parse reference).authority ≡ true = has_authority reference ∙ lt-ltb (parts_of reference).scheme (parts_of reference).authority (omega arith) in
@@ -249,7 +249,7 @@ module _ (base reference : Bytes) where
         path = 0;
         authority = ltb (parts_of base).scheme (parts_of base).authority;
       })
-  unfolding transform recompose has_form front_of merged_of authority_text query_text fragment_text if◌then◌else◌ part remove_dot_segments turns is_empty begins ascii
+  unfolding transform recompose has_form front_of merged_of authority_text query_text fragment_text when◌then◌else◌ part remove_dot_segments turns is_empty begins ascii
   aimed_query n h =
       let o = ordered reference in
       let no_scheme : is_some (parse reference).scheme ≡ false = bare-scheme reference (omega arith) in
@@ -273,7 +273,7 @@ module _ (base reference : Bytes) where
         path = 0;
         authority = true;
       })
-  unfolding transform recompose has_form front_of merged_of authority_text query_text fragment_text if◌then◌else◌ part remove_dot_segments turns is_empty begins ascii
+  unfolding transform recompose has_form front_of merged_of authority_text query_text fragment_text when◌then◌else◌ part remove_dot_segments turns is_empty begins ascii
   aimed_fragment n h =
       let o = ordered reference in
       let no_scheme : is_some (parse reference).scheme ≡ false = bare-scheme reference (omega arith) in
@@ -321,7 +321,7 @@ module _ (base reference : Bytes) where
           path = (parts_of reference).path;
           authority = ltb (parts_of base).scheme (parts_of base).authority;
         })
-    unfolding transform recompose has_form front_of merged_of authority_text query_text fragment_text if◌then◌else◌
+    unfolding transform recompose has_form front_of merged_of authority_text query_text fragment_text when◌then◌else◌
     aimed_absolute e =
         let slash : begins (ascii "/") (parse reference).path ≡ true = path_slash ∙ eq-eqb 47 (get_or reference 0 0) (sym e) in
         aimed {r = made (parse base).scheme (parse base).authority (remove_dot_segments (parse reference).path) (parse reference).query reference}
@@ -338,7 +338,7 @@ module _ (base reference : Bytes) where
           path = (parts_of reference).path;
           authority = ltb (parts_of base).scheme (parts_of base).authority;
         })
-    unfolding transform recompose has_form front_of merged_of authority_text query_text fragment_text if◌then◌else◌
+    unfolding transform recompose has_form front_of merged_of authority_text query_text fragment_text when◌then◌else◌
     aimed_merged {l} f lead =
         let none : begins (ascii "/") (parse reference).path ≡ false = path_slash ∙ ne_eqb 47 (get_or reference 0 0) (λ e. f (sym e)) in
         aimed {r = made (parse base).scheme (parse base).authority (remove_dot_segments (merge (parse base) (parse reference).path)) (parse reference).query reference}

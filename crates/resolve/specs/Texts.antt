@@ -3,7 +3,7 @@ use Rattle.std.specs.Prelude.{◌≡◌, refl, Bool, true, false, ◌&&◌, ◌|
 use Rattle.std.proofs.Common.{sym, ap₂, ◌∙◌, take-append-drop, ne_eqb}
 use mathlib.Core.List.{[], ◌∷◌, ◌++◌, reverse, reverse-cons}
 use Rattle.std.proofs.lemmas.Bool.{eqb-false}
-use Rattle.spec.specs.Bytes.{Bytes, ascii, if◌then◌else◌, up_to, from, among, All}
+use Rattle.spec.specs.Bytes.{Bytes, ascii, when◌then◌else◌, up_to, from, among, All}
 use Rattle.copy.specs.Texts.{up_to_take, from-drop}
 
 -- `t` is the first `n` bytes of `s`
@@ -21,11 +21,11 @@ Headed p [] = Unit {0}
 Headed p (a ∷ s) = p a ≡ true
 
 pub from_headed : (p : ℕ → Bool) (s : Bytes) → Headed p (from p s)
-unfolding from if◌then◌else◌
+unfolding from when◌then◌else◌
 from_headed p [] = tt
 from_headed p (a ∷ s) = go (p a) refl (from_headed p s)
   where
-    go : (t : Bool) → p a ≡ t → Headed p (from p s) → Headed p (if t then (a ∷ s) else from p s)
+    go : (t : Bool) → p a ≡ t → Headed p (from p s) → Headed p (when t then (a ∷ s) else from p s)
     go true e h = e
     go false e h = h
 
@@ -43,22 +43,22 @@ plain_reverse [] h = tt
 plain_reverse (a ∷ s) h = rw (reverse-cons a s) (plain-append (reverse s) (a ∷ []) (plain_reverse s h.1) (h.0, tt))
 
 pub plain_up_to : (s : Bytes) → Plain (up_to (λ (c : ℕ). eqb c 47) s)
-unfolding up_to if◌then◌else◌
+unfolding up_to when◌then◌else◌
 plain_up_to [] = tt
 plain_up_to (a ∷ s) = go (eqb a 47) refl (plain_up_to s)
   where
-    go : (t : Bool) → eqb a 47 ≡ t → Plain (up_to (λ (c : ℕ). eqb c 47) s) → Plain (if t then [] else (a ∷ up_to (λ (c : ℕ). eqb c 47) s))
+    go : (t : Bool) → eqb a 47 ≡ t → Plain (up_to (λ (c : ℕ). eqb c 47) s) → Plain (when t then [] else (a ∷ up_to (λ (c : ℕ). eqb c 47) s))
     go true e h = tt
     go false e h = (eqb-false a 47 e, h)
 
 -- from its first "/" on, behind such a text
 pub from-plain : (s t : Bytes) → Plain s → from (among (ascii "/")) (s ++ 47 ∷ t) ≡ 47 ∷ t
-unfolding from among ascii if◌then◌else◌
+unfolding from among ascii when◌then◌else◌
 from-plain [] t h = refl
 from-plain (a ∷ s) t h = rw (ne_eqb 47 a (λ (e : 47 ≡ a). h.0 (sym e))) (from-plain s t h.1)
 
 pub from_none : (s : Bytes) → Plain s → from (among (ascii "/")) s ≡ []
-unfolding from among ascii if◌then◌else◌
+unfolding from among ascii when◌then◌else◌
 from_none [] h = refl
 from_none (a ∷ s) h = rw (ne_eqb 47 a (λ (e : 47 ≡ a). h.0 (sym e))) (from_none s h.1)
 

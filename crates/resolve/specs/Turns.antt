@@ -1,14 +1,14 @@
 -- RFC 3986, section 5.2.4: its loop of turns, each of which shortens the input.
 use Rattle.std.specs.Prelude.{◌≡◌, refl, Bool, true, false, ◌||◌, [], ◌∷◌, ℕ, zero, suc, ◌+◌, ◌<◌, ◌≤◌, length}
 use Rattle.std.proofs.Common.{ap, arith, length-append, length-drop}
-use Rattle.spec.specs.Bytes.{Bytes, ascii, if◌then◌else◌, same, begins, up_to, from, among}
+use Rattle.spec.specs.Bytes.{Bytes, ascii, when◌then◌else◌, same, begins, up_to, from, among}
 use Rattle.spec.specs.Rfc3986.{without_last, first_segment, turn, turns, remove_dot_segments}
 use Rattle.copy.specs.Texts.{same_true, from-drop}
 use Rattle.resolve.specs.Texts.{cut}
 use Rattle.resolve.specs.Last.{without-beginning, beginning-length}
 
-either : {A : Type 0} (P : A → Type 0) (t : Bool) {a b : A} → (t ≡ true → P a) → P b → P (if t then a else b)
-unfolding if◌then◌else◌
+either : {A : Type 0} (P : A → Type 0) (t : Bool) {a b : A} → (t ≡ true → P a) → P b → P (when t then a else b)
+unfolding when◌then◌else◌
 either P true p q = p refl
 either P false p q = q
 

@@ -4,7 +4,7 @@ use Rattle.std.proofs.Common.{sym, ◌∙◌, ap, arith, pow-suc, eqb-true, ne_e
 use Rattle.std.proofs.Math.Option.{Option, none, some}
 use mathlib.Core.List.{List, [], ◌∷◌, ◌++◌, map, concat-ne-nil}
 use Rattle.std.proofs.lemmas.Bool.{eqb-false}
-use Rattle.spec.specs.Bytes.{Bytes, ascii, byte, if◌then◌else◌, between, every}
+use Rattle.spec.specs.Bytes.{Bytes, ascii, byte, when◌then◌else◌, between, every}
 use Rattle.spec.specs.Utf8.{characters, holds_of, as_characters}
 use Rattle.spec.specs.Abnf.{lower}
 use Rattle.spec.specs.XmlNames.{start_ranges, further_ranges, is_name_start, is_name_char, is_name, no_colon, is_nc_name}
@@ -33,11 +33,11 @@ chars_same [] = refl
 chars_same (c ∷ cs) = rw (char_same c, chars_same cs)
 
 name-same : (cs : List ℕ) → is_name_rust cs ≡ is_name cs
-unfolding is_name_rust is_name if◌then◌else◌
+unfolding is_name_rust is_name when◌then◌else◌
 name-same [] = refl
 name-same (c ∷ cs) = rw (start_char_same c, chars_same cs) (go (is_name_start c))
   where
-    go : (b : Bool) → (if b then every is_name_char cs else false) ≡ (b && every is_name_char cs)
+    go : (b : Bool) → (when b then every is_name_char cs else false) ≡ (b && every is_name_char cs)
     go true = refl
     go false = refl
 
@@ -85,10 +85,10 @@ positive (suc n) h = omega arith
 display-some : (i v : ℕ) → 0 < v → v < 10 ^ i → display i v ≡ [] → ⊥
 unfolding display
 display-some zero v lo hi h = omega arith
-display-some (suc i) v lo hi h = concat-ne-nil (byte "0" + v % 10) (if eqb (v / 10) 0 then [] else display i (v / 10)) h
+display-some (suc i) v lo hi h = concat-ne-nil (byte "0" + v % 10) (when eqb (v / 10) 0 then [] else display i (v / 10)) h
 
 display-digits : (i v : ℕ) → 0 < v → v < 10 ^ i → display i v ≡ drop_zeros (digits i v)
-unfolding display digits if◌then◌else◌ byte
+unfolding display digits when◌then◌else◌ byte
 display-digits zero v lo hi = absurd (omega arith)
 display-digits (suc i) v lo hi = go (eqb (v / 10) 0) refl (display-digits i (v / 10))
   where
@@ -97,7 +97,7 @@ display-digits (suc i) v lo hi = go (eqb (v / 10) 0) refl (display-digits i (v /
 
     go : (b : Bool) → eqb (v / 10) 0 ≡ b
         → (0 < v / 10 → v / 10 < 10 ^ i → display i (v / 10) ≡ drop_zeros (digits i (v / 10)))
-        → (if b then [] else display i (v / 10)) ++ ((48 + v % 10) ∷ []) ≡ drop_zeros
+        → (when b then [] else display i (v / 10)) ++ ((48 + v % 10) ∷ []) ≡ drop_zeros
         (digits i (v / 10) ++ ((48 + v % 10) ∷ []))
     go true e ih =
         let z : v / 10 ≡ 0 = eqb-true (v / 10) 0 e in
@@ -117,11 +117,11 @@ display-decimal v lo hi = display-digits 20 v lo hi
 -- ---- lower case
 
 pub lowercase_same : (v : Bytes) → to_ascii_lowercase v ≡ map lower v
-unfolding to_ascii_lowercase lower if◌then◌else◌
+unfolding to_ascii_lowercase lower when◌then◌else◌
 lowercase_same [] = refl
 lowercase_same (c ∷ v) = rw (lowercase_same v, go (between (byte "A") (byte "Z") c))
   where
-    go : (b : Bool) → (if b then c + 32 else c) ≡ (if b then 32 + c else c)
+    go : (b : Bool) → (when b then c + 32 else c) ≡ (when b then 32 + c else c)
     go true = omega arith
     go false = refl
 
@@ -132,13 +132,13 @@ not_two : (c a b : ℕ) → (a ≡ b → ⊥) → eqb c a ≡ true → eqb c b �
 not_two c a b n h k = n (sym (eqb-true c a h) ∙ eqb-true c b k)
 
 escape_same : (c : ℕ) → escape_byte c ≡ text_byte c
-unfolding escape_byte text_byte if◌then◌else◌ byte
+unfolding escape_byte text_byte when◌then◌else◌ byte
 escape_same c = go (eqb c 60) (eqb c 62) (eqb c 39) (eqb c 38) (eqb c 34) refl refl refl refl refl
   where
     go : (lt gt apos amp quot : Bool) → eqb c 60 ≡ lt → eqb c 62 ≡ gt → eqb c 39 ≡ apos → eqb c 38 ≡ amp
         → eqb c 34 ≡ quot
-        → (if lt then ascii "&lt;" else if gt then ascii "&gt;" else if apos then ascii "&apos;" else if amp then ascii "&amp;" else if quot then ascii "&quot;" else c ∷ [])
-        ≡ (if amp then ascii "&amp;" else if lt then ascii "&lt;" else if gt then ascii "&gt;" else if quot then ascii "&quot;" else if apos then ascii "&apos;" else c ∷ [])
+        → (when lt then ascii "&lt;" else when gt then ascii "&gt;" else when apos then ascii "&apos;" else when amp then ascii "&amp;" else when quot then ascii "&quot;" else c ∷ [])
+        ≡ (when amp then ascii "&amp;" else when lt then ascii "&lt;" else when gt then ascii "&gt;" else when quot then ascii "&quot;" else when apos then ascii "&apos;" else c ∷ [])
     go true gt apos true quot e₁ e₂ e₃ e₄ e₅ = absurd (not_two c 60 38 (λ z. omega arith) e₁ e₄)
     go true gt apos false quot e₁ e₂ e₃ e₄ e₅ = refl
     go false true apos true quot e₁ e₂ e₃ e₄ e₅ = absurd (not_two c 62 38 (λ z. omega arith) e₂ e₄)

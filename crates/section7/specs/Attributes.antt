@@ -8,7 +8,7 @@ use Rattle.std.proofs.Math.Option.{Option, none, some}
 use mathlib.Core.List.{List, [], ◌∷◌, ◌++◌, map}
 use Prim.Native.String.{String}
 use borrow.Author.Tests.{eqb-true, eq-eqb, not-true}
-use Rattle.spec.specs.Bytes.{Bytes, ascii, if◌then◌else◌, same, begins, is_empty, is_some, present, repeats, member, those, each, All, ◌>>=◌, ◌>>◌, require◌or◌}
+use Rattle.spec.specs.Bytes.{Bytes, ascii, when◌then◌else◌, same, begins, is_empty, is_some, present, repeats, member, those, each, All, ◌>>=◌, ◌>>◌, require◌or◌}
 use Rattle.spec.specs.Numbers.{good}
 use Rattle.spec.specs.Abnf.{lower}
 use Rattle.spec.specs.Abnf as A
@@ -34,8 +34,8 @@ use Rattle.section7.specs.Differences.{says, is_free_label}
 
 unfoldable pub good_value : Bytes → Bytes → Bool
 good_value u v =
-    if same u (rdf "ID") then is_nc_name v else
-    if same u (rdf "nodeID") then is_nc_name v && (not (ends_in_stop v) && not (is_generated v)) else true
+    when same u (rdf "ID") then is_nc_name v else
+    when same u (rdf "nodeID") then is_nc_name v && (not (ends_in_stop v) && not (is_generated v)) else true
 
 pub data Fine (bs : List Binding) : Attribute → Type 0 where
   declaration : {n v : Bytes} → is_declaration (attribute n v) ≡ true → Fine bs (attribute n v)
@@ -69,11 +69,11 @@ checked P [] = true
 checked P (e ∷ rs) = P (rdf e.0) e.1 && checked P rs
 
 table-check : (P : Bytes → Role → Bool) (u : Bytes) (rs : List (String × Role)) → checked P rs ≡ true → P u property ≡ true → P u (role_among rs u) ≡ true
-unfolding checked role_among if◌then◌else◌
+unfolding checked role_among when◌then◌else◌
 table-check P u [] c h = h
 table-check P u (e ∷ rs) c h = go (same u (rdf e.0)) refl (table-check P u rs (and_right (P (rdf e.0) e.1) (checked P rs) c) h)
   where
-    go : (b : Bool) → same u (rdf e.0) ≡ b → P u (role_among rs u) ≡ true → P u (if b then e.1 else role_among rs u) ≡ true
+    go : (b : Bool) → same u (rdf e.0) ≡ b → P u (role_among rs u) ≡ true → P u (when b then e.1 else role_among rs u) ≡ true
     go true q ih = ap (λ (x : Bytes). P x e.1) (same_true u (rdf e.0) q) ∙ and_left (P (rdf e.0) e.1) (checked P rs) c
     go false q ih = ih
 
@@ -102,16 +102,16 @@ unfolding in_table checked rdf_roles old_terms F.all
 in_table_lem u = table-check in_table u rdf_roles refl refl
 
 id_value : (u v : Bytes) → u ≡ rdf "ID" → good_value u v ≡ true → is_nc_name v ≡ true
-unfolding good_value if◌then◌else◌ F.all
+unfolding good_value when◌then◌else◌ F.all
 id_value u v e g = let h : good_value (rdf "ID") v ≡ true = rw e at g in h
 
 label-value : (u v : Bytes) → u ≡ rdf "nodeID" → good_value u v ≡ true → (is_nc_name v && (not (ends_in_stop v) && not (is_generated v))) ≡ true
-unfolding good_value if◌then◌else◌ F.all
+unfolding good_value when◌then◌else◌ F.all
 label-value u v e g = let h : good_value (rdf "nodeID") v ≡ true = rw e at g in h
 
 -- 9 and 13 are not given for a good value
 judge_good : (r : Role) (u v : Bytes) → in_table u r ≡ true → (has_name r ≡ true → u ≡ name_in r) → member u no_attributes ≡ false → good_value u v ≡ true → judge r v ≡ good tt
-unfolding judge in_table name_in good_value if◌then◌else◌ F.all require◌or◌ ◌>>◌
+unfolding judge in_table name_in good_value when◌then◌else◌ F.all require◌or◌ ◌>>◌
 judge_good nothing u v t n m g = absurd (false≢true t)
 judge_good xml_lang u v t n m g = absurd (false≢true t)
 judge_good xml_base u v t n m g = absurd (false≢true t)
@@ -132,7 +132,7 @@ judge_good property u v t n m g = refl
 
 unfoldable pub meaning_of_attribute : List Binding → Attribute → Meaning
 meaning_of_attribute bs (attribute n v) =
-    if is_declaration (attribute n v) then means nothing n v else means (role_of n (uri_of (expand_attribute bs n))) (uri_of (expand_attribute bs n)) v
+    when is_declaration (attribute n v) then means nothing n v else means (role_of n (uri_of (expand_attribute bs n))) (uri_of (expand_attribute bs n)) v
 
 -- a name that begins `xml` does so in lower case
 lower_xml : (n : Bytes) → begins (ascii "xml") n ≡ true → begins (ascii "xml") (map lower n) ≡ true
@@ -151,12 +151,12 @@ not_lower_xml : (n : Bytes) → begins (ascii "xml") (map lower n) ≡ false →
 not_lower_xml n h = no_true _ λ e. false≢true (sym h ∙ lower_xml n e)
 
 -- a name that begins `xml` has one of three roles
-xml_role : (n i : Bytes) → begins (ascii "xml") n ≡ true → role_of n i ≡ (if same n (ascii "xml:lang") then xml_lang else if same n (ascii "xml:base") then xml_base else nothing)
-unfolding role_of if◌then◌else◌
+xml_role : (n i : Bytes) → begins (ascii "xml") n ≡ true → role_of n i ≡ (when same n (ascii "xml:lang") then xml_lang else when same n (ascii "xml:base") then xml_base else nothing)
+unfolding role_of when◌then◌else◌
 xml_role n i h = rw h
 
 other_role : (n i : Bytes) → begins (ascii "xml") n ≡ false → role_of n i ≡ role_among rdf_roles i
-unfolding role_of if◌then◌else◌ begins ascii
+unfolding role_of when◌then◌else◌ begins ascii
 other_role n i h = rw (not_this (ascii "xml:lang") refl, not_this (ascii "xml:base") refl, h)
   where
     not_this : (m : Bytes) → begins (ascii "xml") m ≡ true → same n m ≡ false
@@ -167,7 +167,7 @@ undeclared n v h = no_true _ λ e. false≢true (sym h ∙ declaration_xml n v e
 
 -- the expanded name of an attribute with a prefix
 expand_event : (bs : List Binding) (n ns : Bytes) → is_empty (prefix_of n) ≡ false → namespace bs (prefix_of n) ≡ some ns → expand_attribute bs n ≡ some (ns ++ local_of n)
-unfolding expand_attribute joined if◌then◌else◌
+unfolding expand_attribute joined when◌then◌else◌
 expand_event bs n ns p e = rw (p, e)
 
 -- 8 is not given
@@ -176,26 +176,26 @@ unfolding known ◌>>◌ require◌or◌
 known_event n i p = rw p
 
 known_xml : (bs : List Binding) (n : Bytes) → begins (ascii "xml") n ≡ true → is_known bs n ≡ true → known n (expand_attribute bs n) ≡ good (uri_of (expand_attribute bs n))
-unfolding known expand_attribute is_known joined is_some if◌then◌else◌ ◌>>◌ require◌or◌ uri_of
+unfolding known expand_attribute is_known joined is_some when◌then◌else◌ ◌>>◌ require◌or◌ uri_of
 known_xml bs n x k = go (is_empty (prefix_of n)) (namespace bs (prefix_of n)) refl k
   where
-    go : (b : Bool) (o : Option Bytes) → is_empty (prefix_of n) ≡ b → (b || is_some o) ≡ true → known n (if b then some n else joined o (local_of n)) ≡ good (uri_of (if b then some n else joined o (local_of n)))
+    go : (b : Bool) (o : Option Bytes) → is_empty (prefix_of n) ≡ b → (b || is_some o) ≡ true → known n (when b then some n else joined o (local_of n)) ≡ good (uri_of (when b then some n else joined o (local_of n)))
     go true o p h = rw (known, p, x)
     go false none p h = absurd (false≢true h)
     go false (some ns) p h = rw (known, p)
 
 judge_xml : (n v : Bytes) → (same n (ascii "xml:lang") ≡ true → is_allowed (verdict v) ≡ true) → (same n (ascii "xml:base") ≡ true → is_iri v ≡ true)
-    → judge (if same n (ascii "xml:lang") then xml_lang else if same n (ascii "xml:base") then xml_base else nothing) v ≡ good tt
-unfolding judge if◌then◌else◌ require◌or◌
+    → judge (when same n (ascii "xml:lang") then xml_lang else when same n (ascii "xml:base") then xml_base else nothing) v ≡ good tt
+unfolding judge when◌then◌else◌ require◌or◌
 judge_xml n v l b = go (same n (ascii "xml:lang")) (same n (ascii "xml:base")) l b
   where
-    go : (x y : Bool) → (x ≡ true → is_allowed (verdict v) ≡ true) → (y ≡ true → is_iri v ≡ true) → judge (if x then xml_lang else if y then xml_base else nothing) v ≡ good tt
+    go : (x y : Bool) → (x ≡ true → is_allowed (verdict v) ≡ true) → (y ≡ true → is_iri v ≡ true) → judge (when x then xml_lang else when y then xml_base else nothing) v ≡ good tt
     go true y l b = rw (l refl)
     go false true l b = rw (b refl)
     go false false l b = refl
 
 fine_meaning : (bs : List Binding) (y : Attribute) → Fine bs y → meaning bs y ≡ good (meaning_of_attribute bs y)
-unfolding meaning meaning_of_attribute if◌then◌else◌ ◌>>=◌ ◌>>◌ uri_of
+unfolding meaning meaning_of_attribute when◌then◌else◌ ◌>>=◌ ◌>>◌ uri_of
 fine_meaning bs (attribute n v) (declaration h) = rw h
 fine_meaning bs (attribute n v) (reserved d x k l b) =
     rw (d, known_xml bs n x k, xml_role n (uri_of (expand_attribute bs n)) x, judge_xml n v l b)
@@ -206,23 +206,23 @@ fine_meaning bs (attribute n v) (event {ns = ns} x p e m g) =
 
 -- it is one, by the grammar and without a difference
 good_value_lem : (u v : Bytes) → is_rdf_id (u, v) ≡ true → is_free_label (u, v) ≡ true → good_value u v ≡ true
-unfolding good_value is_rdf_id is_free_label member if◌then◌else◌
+unfolding good_value is_rdf_id is_free_label member when◌then◌else◌
 good_value_lem u v h k = go (same u (rdf "ID")) (same u (rdf "nodeID")) (is_nc_name v) (not (ends_in_stop v) && not (is_generated v)) h k
   where
-    go : (a b x y : Bool) → (if a || (b || false) then x else true) ≡ true → (if b then y else true) ≡ true → (if a then x else if b then x && y else true) ≡ true
+    go : (a b x y : Bool) → (when a || (b || false) then x else true) ≡ true → (when b then y else true) ≡ true → (when a then x else when b then x && y else true) ≡ true
     go true b x y h k = h
     go false true x y h k = rw (h, k)
     go false false x y h k = refl
 
 pub says_then : (m : String) (test : Bytes → Bool) (n v : Bytes) → says m test (attribute n v) ≡ true → same n (ascii m) ≡ true → test v ≡ true
-unfolding says if◌then◌else◌
-says_then m test n v h e = let g : (if true then test v else true) ≡ true = rw e at h in g
+unfolding says when◌then◌else◌
+says_then m test n v h e = let g : (when true then test v else true) ≡ true = rw e at h in g
 
 language_good : (v : Bytes) → (is_empty v || is_language_tag v) ≡ true → is_allowed (verdict v) ≡ true
-unfolding verdict is_allowed if◌then◌else◌
+unfolding verdict is_allowed when◌then◌else◌
 language_good v k = go (is_empty v) (is_language_tag v) k
   where
-    go : (a b : Bool) → (a || b) ≡ true → is_allowed (if a then Clears else if b then Good else Bad) ≡ true
+    go : (a b : Bool) → (a || b) ≡ true → is_allowed (when a then Clears else when b then Good else Bad) ≡ true
     go true b k = refl
     go false true k = refl
     go false false k = absurd (false≢true k)
@@ -255,11 +255,11 @@ module _ (bs : List Binding) (n v : Bytes) (k : Accepted bs (attribute n v)) whe
   has-namespace (some ns) h = (ns, refl)
 
   named_so : (ns : Bytes) → is_empty (prefix_of n) ≡ false → namespace bs (prefix_of n) ≡ some ns → uri_of (attribute_uri bs n) ≡ ns ++ local_of n
-  unfolding attribute_uri if◌then◌else◌ joined uri_of
+  unfolding attribute_uri when◌then◌else◌ joined uri_of
   named_so ns p e = rw (p, e)
 
   fine_event : is_reserved_term n ≡ false → AcceptedEvent (uri_of (attribute_uri bs n), v) → Fine bs (attribute n v)
-  unfolding is_named name_of attribute_uri if◌then◌else◌ is_reserved_term
+  unfolding is_named name_of attribute_uri when◌then◌else◌ is_reserved_term
   fine_event r h =
       let d : is_declaration (attribute n v) ≡ false = undeclared n v (not_lower_xml n r) in
       let p : is_empty (prefix_of n) ≡ false = not-true _ (rw r at k.prefixed) in
@@ -269,12 +269,12 @@ module _ (bs : List Binding) (n v : Bytes) (k : Accepted bs (attribute n v)) whe
       event r p o.1 g.2 (good_value_lem (o.0 ++ local_of n) v g.0 g.1)
 
 pub fine_all : (bs : List Binding) (as' : List Attribute) → All (Accepted bs) as' → All AcceptedEvent (attributes bs as') → All (Fine bs) as'
-unfolding attributes if◌then◌else◌
+unfolding attributes when◌then◌else◌
 fine_all bs [] h k = tt
 fine_all bs (attribute n v ∷ as') h k = go (is_declaration (attribute n v)) (is_reserved_term n) refl refl (fine_all bs as' h.1) k
   where
     go : (d r : Bool) → is_declaration (attribute n v) ≡ d → is_reserved_term n ≡ r → (All AcceptedEvent (attributes bs as') → All (Fine bs) as')
-        → All AcceptedEvent (if r then attributes bs as' else ((uri_of (attribute_uri bs n), v) ∷ attributes bs as')) → All (Fine bs) (attribute n v ∷ as')
+        → All AcceptedEvent (when r then attributes bs as' else ((uri_of (attribute_uri bs n), v) ∷ attributes bs as')) → All (Fine bs) (attribute n v ∷ as')
     go true true p q rest k = (declaration p, rest k)
     go false true p q rest k = (fine_reserved bs n v h.0 p q, rest k)
     go true false p q rest k = absurd (false≢true (sym q ∙ unfold is_reserved_term in lower_xml n (declaration_xml n v p)))
@@ -289,28 +289,28 @@ fine_meanings bs (y ∷ as') h = rw (fine_meaning bs y h.0, fine_meanings bs as'
 
 module _ (bs : List Binding) (n v : Bytes) (as' : List Attribute) where
   means_declaration : is_declaration (attribute n v) ≡ true → meaning_of_attribute bs (attribute n v) ≡ means nothing n v
-  unfolding meaning_of_attribute if◌then◌else◌
+  unfolding meaning_of_attribute when◌then◌else◌
   means_declaration h = rw h
 
   means_reserved : is_declaration (attribute n v) ≡ false → begins (ascii "xml") n ≡ true
-      → meaning_of_attribute bs (attribute n v) ≡ means (if same n (ascii "xml:lang") then xml_lang else if same n (ascii "xml:base") then xml_base else nothing) (uri_of (expand_attribute bs n)) v
-  unfolding meaning_of_attribute if◌then◌else◌
+      → meaning_of_attribute bs (attribute n v) ≡ means (when same n (ascii "xml:lang") then xml_lang else when same n (ascii "xml:base") then xml_base else nothing) (uri_of (expand_attribute bs n)) v
+  unfolding meaning_of_attribute when◌then◌else◌
   means_reserved h x = rw (h, xml_role n (uri_of (expand_attribute bs n)) x)
 
   means_event : (ns : Bytes) → begins (ascii "xml") (map lower n) ≡ false → is_empty (prefix_of n) ≡ false → namespace bs (prefix_of n) ≡ some ns
       → meaning_of_attribute bs (attribute n v) ≡ means (role_among rdf_roles (ns ++ local_of n)) (ns ++ local_of n) v
-  unfolding meaning_of_attribute if◌then◌else◌ uri_of
+  unfolding meaning_of_attribute when◌then◌else◌ uri_of
   means_event ns x p e =
       let z : begins (ascii "xml") n ≡ false = not_lower_xml n x in
       rw (undeclared n v z, expand_event bs n ns p e, other_role n (ns ++ local_of n) z)
 
   events_skip : begins (ascii "xml") n ≡ true → attributes bs (attribute n v ∷ as') ≡ attributes bs as'
-  unfolding attributes is_reserved_term if◌then◌else◌
+  unfolding attributes is_reserved_term when◌then◌else◌
   events_skip x = rw (lower_xml n x)
 
   events_event : (ns : Bytes) → begins (ascii "xml") (map lower n) ≡ false → is_empty (prefix_of n) ≡ false → namespace bs (prefix_of n) ≡ some ns
       → attributes bs (attribute n v ∷ as') ≡ (ns ++ local_of n, v) ∷ attributes bs as'
-  unfolding attributes is_reserved_term attribute_uri if◌then◌else◌ joined uri_of
+  unfolding attributes is_reserved_term attribute_uri when◌then◌else◌ joined uri_of
   events_event ns x p e = rw (x, p, e)
 
 -- a role of the rdf namespace that has a name
@@ -322,14 +322,14 @@ pub record RdfRole (r : Role) : Type 0 where
   pub in_rdf_context : role_among rdf_roles (name_in r) ≡ r
 
 module _ (bs : List Binding) (r : Role) (k : RdfRole r) where
-  not_reserved : (x y : Bool) → same_role r (if x then xml_lang else if y then xml_base else nothing) ≡ false
-  unfolding if◌then◌else◌
+  not_reserved : (x y : Bool) → same_role r (when x then xml_lang else when y then xml_base else nothing) ≡ false
+  unfolding when◌then◌else◌
   not_reserved true y = k.not_lang
   not_reserved false true = k.not_base
   not_reserved false false = k.not_nothing
 
   pub first_value : (as' : List Attribute) → All (Fine bs) as' → first r (map (meaning_of_attribute bs) as') ≡ value (name_in r) (attributes bs as')
-  unfolding first value attributes if◌then◌else◌
+  unfolding first value attributes when◌then◌else◌
   first_value [] h = refl
   first_value (attribute n v ∷ as') (declaration d, h) =
       rw (means_declaration bs n v as' d, events_skip bs n v as' (declaration_xml n v d), k.not_nothing) (first_value as' h)
@@ -346,12 +346,12 @@ module _ (bs : List Binding) where
 
   -- the names of the events are among those that document 01 compares
   names_skip : (n v : Bytes) (as' : List Attribute) → is_declaration (attribute n v) ≡ true → expanded_names bs (attribute n v ∷ as') ≡ expanded_names bs as'
-  unfolding expanded_names those if◌then◌else◌
+  unfolding expanded_names those when◌then◌else◌
   names_skip n v as' h = rw h
 
   names_add : (n v : Bytes) (as' : List Attribute) → is_declaration (attribute n v) ≡ false
       → expanded_names bs (attribute n v ∷ as') ≡ present (expand_attribute bs n ∷ []) ++ expanded_names bs as'
-  unfolding expanded_names those if◌then◌else◌ present name_of
+  unfolding expanded_names those when◌then◌else◌ present name_of
   names_add n v as' h = rw h (go (expand_attribute bs n))
     where
       go : (o : Option Bytes) → present (o ∷ map (λ (a : Attribute). expand_attribute bs (name_of a)) (those (λ (a : Attribute). not (is_declaration a)) as'))
@@ -398,8 +398,8 @@ unfoldable pub is_property : AttributeEvent → Bool
 is_property a = same_role property (role_among rdf_roles a.0)
 
 module _ (bs : List Binding) where
-  reserved_property : (x y : Bool) → same_role property (if x then xml_lang else if y then xml_base else nothing) ≡ false
-  unfolding if◌then◌else◌ same_role role_number
+  reserved_property : (x y : Bool) → same_role property (when x then xml_lang else when y then xml_base else nothing) ≡ false
+  unfolding when◌then◌else◌ same_role role_number
   reserved_property true y = refl
   reserved_property false true = refl
   reserved_property false false = refl
@@ -409,7 +409,7 @@ module _ (bs : List Binding) where
   nothing-property = refl
 
   pub property-events : (as' : List Attribute) → All (Fine bs) as' → property_attributes (map (meaning_of_attribute bs) as') ≡ those is_property (attributes bs as')
-  unfolding property_attributes those attributes if◌then◌else◌ is_property
+  unfolding property_attributes those attributes when◌then◌else◌ is_property
   property-events [] h = refl
   property-events (attribute n v ∷ as') (declaration d, h) =
       rw (means_declaration bs n v as' d, events_skip bs n v as' (declaration_xml n v d), nothing-property) (property-events as' h)
@@ -419,14 +419,14 @@ module _ (bs : List Binding) where
       rw (means_event bs n v as' ns x p e, events_event bs n v as' ns x p e, property-events as' h)
 
   -- xml:lang and xml:base, as written
-  lang_role : (x y : Bool) → same_role xml_lang (if x then xml_lang else if y then xml_base else nothing) ≡ x
-  unfolding if◌then◌else◌ same_role role_number
+  lang_role : (x y : Bool) → same_role xml_lang (when x then xml_lang else when y then xml_base else nothing) ≡ x
+  unfolding when◌then◌else◌ same_role role_number
   lang_role true y = refl
   lang_role false true = refl
   lang_role false false = refl
 
-  base_role : (x y : Bool) → (y ≡ true → x ≡ false) → same_role xml_base (if x then xml_lang else if y then xml_base else nothing) ≡ y
-  unfolding if◌then◌else◌ same_role role_number
+  base_role : (x y : Bool) → (y ≡ true → x ≡ false) → same_role xml_base (when x then xml_lang else when y then xml_base else nothing) ≡ y
+  unfolding when◌then◌else◌ same_role role_number
   base_role true true h = sym (h refl)
   base_role true false h = refl
   base_role false true h = refl
@@ -444,7 +444,7 @@ module _ (bs : List Binding) where
   not_xml n m k x = no_true (same n m) λ e. false≢true (sym (not_lower_xml n x) ∙ named_xml n m k e)
 
   pub first_lang : (as' : List Attribute) → All (Fine bs) as' → first xml_lang (map (meaning_of_attribute bs) as') ≡ written (ascii "xml:lang") as'
-  unfolding first written if◌then◌else◌ same_role role_number is_declaration begins ascii same in_table
+  unfolding first written when◌then◌else◌ same_role role_number is_declaration begins ascii same in_table
   first_lang [] h = refl
   first_lang (attribute n v ∷ as') (declaration d, h) = rw (means_declaration bs n v as' d, declaration_not n v (ascii "xml:lang") d refl) (first_lang as' h)
   first_lang (attribute n v ∷ as') (reserved d x q l b, h) =
@@ -453,7 +453,7 @@ module _ (bs : List Binding) where
       rw (means_event bs n v as' ns x p e, among_not xml_lang (ns ++ local_of n) refl, not_xml n (ascii "xml:lang") refl x) (first_lang as' h)
 
   pub first_base : (as' : List Attribute) → All (Fine bs) as' → first xml_base (map (meaning_of_attribute bs) as') ≡ written (ascii "xml:base") as'
-  unfolding first written if◌then◌else◌ same_role role_number is_declaration begins ascii same in_table
+  unfolding first written when◌then◌else◌ same_role role_number is_declaration begins ascii same in_table
   first_base [] h = refl
   first_base (attribute n v ∷ as') (declaration d, h) = rw (means_declaration bs n v as' d, declaration_not n v (ascii "xml:base") d refl) (first_base as' h)
   first_base (attribute n v ∷ as') (reserved d x q l b, h) =

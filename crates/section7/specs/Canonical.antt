@@ -1,6 +1,6 @@
 -- Exclusive XML Canonicalization 1.0, with comments and no inclusive prefixes: the text of an XML literal (7.2.17).
 use Rattle.std.specs.Prelude.{Bool, true, false, ◌&&◌, ◌||◌, not, List, [], ◌∷◌, ◌++◌, map, ℕ, eqb, ltb}
-use Rattle.spec.specs.Bytes.{Bytes, ascii, byte, if◌then◌else◌, same, is_empty, member, those}
+use Rattle.spec.specs.Bytes.{Bytes, ascii, byte, when◌then◌else◌, same, is_empty, member, those}
 use Rattle.spec.specs.XmlNames.{prefix_of, local_of}
 use Rattle.spec.specs.Pyx.{Attribute, attribute}
 use Rattle.spec.specs.Namespaces.{Binding, declared, is_declaration, name_of, look_up, namespace}
@@ -19,7 +19,7 @@ precedes (a ∷ s) (b ∷ t) = ltb a b || (eqb a b && precedes s t)
 
 unfoldable pub put : {A : Type 0} → (A → A → Bool) → A → List A → List A
 put before a [] = a ∷ []
-put before a (b ∷ l) = if before b a then b ∷ put before a l else a ∷ b ∷ l
+put before a (b ∷ l) = when before b a then b ∷ put before a l else a ∷ b ∷ l
 
 unfoldable pub sorted : {A : Type 0} → (A → A → Bool) → List A → List A
 sorted before [] = []
@@ -31,7 +31,7 @@ before_binding a b = precedes a.0 b.0
 
 -- the namespace of an attribute; without a prefix none, which is first
 unfoldable pub space_of : List Binding → Attribute → Bytes
-space_of bs (attribute n v) = if is_empty (prefix_of n) then [] else uri_of (namespace bs (prefix_of n))
+space_of bs (attribute n v) = when is_empty (prefix_of n) then [] else uri_of (namespace bs (prefix_of n))
 
 -- attributes by namespace, then by local name
 unfoldable pub before_attribute : List Binding → Attribute → Attribute → Bool
@@ -48,7 +48,7 @@ attribute_prefixes as' =
 
 unfoldable pub once_each : List Bytes → List Bytes
 once_each [] = []
-once_each (p ∷ ps) = if member p ps then once_each ps else p ∷ once_each ps
+once_each (p ∷ ps) = when member p ps then once_each ps else p ∷ once_each ps
 
 unfoldable pub used_prefixes : Bytes → List Attribute → List Bytes
 used_prefixes n as' = those (λ p. not (same p (ascii "xml"))) (once_each (prefix_of n ∷ attribute_prefixes as'))
@@ -64,17 +64,17 @@ rendered bs rs n as' =
 
 -- as an attribute
 unfoldable pub declaration : Binding → Attribute
-declaration b = attribute (if is_empty b.0 then ascii "xmlns" else ascii "xmlns:" ++ b.0) b.1
+declaration b = attribute (when is_empty b.0 then ascii "xmlns" else ascii "xmlns:" ++ b.0) b.1
 
 -- ---- text
 
 -- Canonical XML 1.0, 2.3, text nodes
 unfoldable pub character : ℕ → Bytes
 character c =
-    if eqb c (byte "&") then ascii "&amp;" else
-    if eqb c (byte "<") then ascii "&lt;" else
-    if eqb c (byte ">") then ascii "&gt;" else
-    if eqb c (byte "\r") then ascii "&#xD;" else c ∷ []
+    when eqb c (byte "&") then ascii "&amp;" else
+    when eqb c (byte "<") then ascii "&lt;" else
+    when eqb c (byte ">") then ascii "&gt;" else
+    when eqb c (byte "\r") then ascii "&#xD;" else c ∷ []
 
 -- element, namespace and attribute nodes; values as Canonical XML has them
 unfoldable pub start_tag : List Binding → List Binding → Bytes → List Attribute → Bytes

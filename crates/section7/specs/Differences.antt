@@ -3,7 +3,7 @@
 use Rattle.std.specs.Prelude.{◌≡◌, Bool, true, false, ◌&&◌, ◌||◌, not, List, [], ◌∷◌, ◌++◌, map}
 use Rattle.std.proofs.Math.Option.{Option, none, some}
 use Prim.Native.String.{String}
-use Rattle.spec.specs.Bytes.{Bytes, ascii, if◌then◌else◌, same, begins, is_empty, is_some, repeats, those, All}
+use Rattle.spec.specs.Bytes.{Bytes, ascii, when◌then◌else◌, same, begins, is_empty, is_some, repeats, those, All}
 use Rattle.spec.specs.Numbers.{good}
 use Rattle.spec.specs.XmlNames.{prefix_of, local_of}
 use Rattle.spec.specs.Rfc3987.{is_iri}
@@ -40,11 +40,11 @@ xml_text (element n as' children following) =
 
 -- of the attribute with this name as written
 unfoldable pub says : String → (Bytes → Bool) → Attribute → Bool
-says m test (attribute n v) = if same n (ascii m) then test v else true
+says m test (attribute n v) = when same n (ascii m) then test v else true
 
 -- rdf:nodeID, as a label
 unfoldable pub is_free_label : AttributeEvent → Bool
-is_free_label a = if same a.0 (rdf "nodeID") then not (ends_in_stop a.1) && not (is_generated a.1) else true
+is_free_label a = when same a.0 (rdf "nodeID") then not (ends_in_stop a.1) && not (is_generated a.1) else true
 
 -- ---- of a start tag
 
@@ -78,7 +78,7 @@ if_any (some v) test = test v
 unfoldable pub literal_text : Option Bytes → Option Bytes → Option Bytes
 literal_text (some v) t = none
 literal_text none none = none
-literal_text none (some t) = if is_empty t then none else some t
+literal_text none (some t) = when is_empty t then none else some t
 
 -- one text, and this
 unfoldable pub is_one : Bytes → List Bytes → Bool
@@ -120,10 +120,10 @@ pub data Place : Type 0 where
 unfoldable pub by_parse_type : Option Bytes → Place
 by_parse_type none = nodes
 by_parse_type (some v) =
-    if same v (ascii "Resource") then properties else if same v (ascii "Collection") then nodes else xml
+    when same v (ascii "Resource") then properties else when same v (ascii "Collection") then nodes else xml
 
 unfoldable pub place_under : Place → Bytes → Option Bytes → Place
-place_under document uri p = if same uri (rdf "RDF") then nodes else properties
+place_under document uri p = when same uri (rdf "RDF") then nodes else properties
 place_under nodes uri p = properties
 place_under properties uri p = by_parse_type p
 place_under xml uri p = xml

@@ -4,7 +4,7 @@ use Rattle.std.proofs.Common.{sym, ◌∙◌, ap, inl, inr}
 use Rattle.std.proofs.Math.Bool.{false}
 use Rattle.std.proofs.lemmas.Bool.{false≢true, not-true}
 use Prim.Native.String.{String}
-use Rattle.spec.specs.Bytes.{Bytes, ascii, if◌then◌else◌, same, member, those, All}
+use Rattle.spec.specs.Bytes.{Bytes, ascii, when◌then◌else◌, same, member, those, All}
 use Rattle.spec.specs.Rdf.{rdf, reserved_elements, may_be_node, may_be_property}
 use Rattle.spec.specs.Rdf as F
 use Rattle.spec.specs.RdfXml.{is_blank}
@@ -117,11 +117,11 @@ table-property = refl
 
 -- a property is what has none of them
 property-names : (rs : List (String × Role)) (i : Bytes) → no_property rs ≡ true → same_role property (role_among rs i) ≡ not (member i (names rs))
-unfolding no_property names role_among member if◌then◌else◌ same_role role_number
+unfolding no_property names role_among member when◌then◌else◌ same_role role_number
 property-names [] i h = refl
 property-names (e ∷ rs) i h = go (same i (rdf e.0)) (property-names rs i (and_right (not (same_role property e.1)) (no_property rs) h))
   where
-    go : (b : Bool) → same_role property (role_among rs i) ≡ not (member i (names rs)) → same_role property (if b then e.1 else role_among rs i) ≡ not (b || member i (names rs))
+    go : (b : Bool) → same_role property (role_among rs i) ≡ not (member i (names rs)) → same_role property (when b then e.1 else role_among rs i) ≡ not (b || member i (names rs))
     go true ih = not-true (same_role property e.1) (and_left _ (no_property rs) h)
     go false ih = ih
 
@@ -173,7 +173,7 @@ properties_same us t (a ∷ as') h = rw (property-same us t a h.0, properties_sa
 
 -- where only such attributes are allowed there is no property attribute
 pub only_properties : (us : List Bytes) → Terms us → (as' : List AttributeEvent) → Only us as' → those is_property as' ≡ []
-unfolding those is_property if◌then◌else◌
+unfolding those is_property when◌then◌else◌
 only_properties us t [] h = refl
 only_properties us t (a ∷ as') h = rw (property-names rdf_roles a.0 table-property, sub_member a.0 us (names rdf_roles) t h.0) (only_properties us t as' h.1)
 

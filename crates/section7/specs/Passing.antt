@@ -7,7 +7,7 @@ use Rattle.std.proofs.lemmas.Bool.{false≢true}
 use Rattle.std.proofs.Math.Option.{Option, none, some}
 use mathlib.Core.List.{List, [], ◌∷◌, ◌++◌}
 use Rattle.std.proofs.Math.ListN.{length}
-use Rattle.spec.specs.Bytes.{Bytes, if◌then◌else◌, is_empty, ◌>>=◌, ◌>>◌, require◌or◌, each}
+use Rattle.spec.specs.Bytes.{Bytes, when◌then◌else◌, is_empty, ◌>>=◌, ◌>>◌, require◌or◌, each}
 use Rattle.spec.specs.Numbers.{Answer, refuse, good}
 use Rattle.spec.specs.declared.Refusal.{Refusal}
 use Rattle.spec.specs.declared.Refusal.TheVariants.{NotWellFormed, OverLimit, NoNamespace, NotNcName, BadLanguage, BadIri, RepeatedId, BadLabel, Reserved, TwoNames, StrayText, EmptyLiteral, LabelsSpent, ProfileBroken}
@@ -53,8 +53,8 @@ unfolding require◌or◌
 for_limit P true n h = tt
 for_limit P false n h = λ l. h refl
 
-for_if : {A : Type 0} (P : Refusal → Type 0) (b : Bool) (m k : Answer A) → For P m → For P k → For P (if b then m else k)
-unfolding if◌then◌else◌
+for_if : {A : Type 0} (P : Refusal → Type 0) (b : Bool) (m k : Answer A) → For P m → For P k → For P (when b then m else k)
+unfolding when◌then◌else◌
 for_if P true m k h g = h
 for_if P false m k h g = g
 
@@ -181,7 +181,7 @@ module _ (n : Bytes) (as' : List Attribute) (d : Doc) where
   for_copy = for_then Why _ _ (for_other Why _ NoNamespace refl) (for_then Why _ _ (for_each Why _ (λ a. for_other Why _ NoNamespace refl) as') tt)
 
   for_place : (p : Place) → Unwrapped (opening n as') d → place_in d.frames ≡ p → For Why (open_in p n as' d)
-  unfolding open_in if◌then◌else◌
+  unfolding open_in when◌then◌else◌
   for_place outside w e = rw w (for_element open_root (for_root Why d.labels labels))
   for_place nodes w e = for_element open_node (for_node Why d.labels labels)
   for_place nodes_or_text w e = for_element open_node (for_node Why d.labels labels)

@@ -4,7 +4,7 @@ use Rattle.std.proofs.Math.Path.{refl}
 use Rattle.std.proofs.Common.{◌∙◌, ap}
 use Rattle.std.proofs.lemmas.Bool.{not-true}
 use Rattle.std.proofs.Math.Option.{Option, none, some}
-use Rattle.spec.specs.Bytes.{Bytes, ascii, if◌then◌else◌, same, is_empty, member}
+use Rattle.spec.specs.Bytes.{Bytes, ascii, when◌then◌else◌, same, is_empty, member}
 use Rattle.spec.specs.Pyx.{Attribute}
 use Rattle.spec.specs.Namespaces.{declared}
 use Rattle.spec.specs.Rdf.{rdf}
@@ -52,7 +52,7 @@ is_spaced (element n as' children following) = is_spaced following
 unfoldable pub default_shape : Option Bytes → List AttributeEvent → Content → Bool
 default_shape none as' x = only (rdf "ID" ∷ []) as' && (eqb (elements_in x) 1 && is_spaced x)
 default_shape (some t) as' x =
-    if is_empty t then or_properties (rdf "ID" ∷ rdf "resource" ∷ rdf "nodeID" ∷ []) as' || or_properties (rdf "ID" ∷ rdf "datatype" ∷ []) as' else
+    when is_empty t then or_properties (rdf "ID" ∷ rdf "resource" ∷ rdf "nodeID" ∷ []) as' || or_properties (rdf "ID" ∷ rdf "datatype" ∷ []) as' else
     only (rdf "ID" ∷ rdf "datatype" ∷ []) as'
 
 -- 7.2.14, by rdf:parseType
@@ -66,7 +66,7 @@ node_shape as' = or_properties (rdf "ID" ∷ rdf "nodeID" ∷ rdf "about" ∷ []
 
 -- by where an element stands
 unfoldable pub shape : Place → Bytes → Context → List Attribute → Content → Bool
-shape document uri c as' x = if same uri (rdf "RDF") then is_empty (attrs c as') else node_shape (attrs c as')
+shape document uri c as' x = when same uri (rdf "RDF") then is_empty (attrs c as') else node_shape (attrs c as')
 shape nodes uri c as' x = node_shape (attrs c as')
 shape properties uri c as' x = property_shape (parse_type c as') (attrs c as') x
 shape xml uri c as' x = true
@@ -136,11 +136,11 @@ xml_shaped c (comment s f) = xml_shaped c f
 xml_shaped c (element n as' children f) = and_both _ _ (xml_shaped (inside as' c) children) (xml_shaped c f)
 
 inside-literal : (uri : Bytes) (t : Option Bytes) → t ≡ some (ascii "Literal") → place_under properties uri t ≡ xml
-unfolding place_under by_parse_type if◌then◌else◌ same ascii
+unfolding place_under by_parse_type when◌then◌else◌ same ascii
 inside-literal uri t h = rw h refl
 
 inside-other : (uri v : Bytes) (t : Option Bytes) → t ≡ some v → G.parse_other v ≡ true → place_under properties uri t ≡ xml
-unfolding place_under by_parse_type if◌then◌else◌ G.parse_other member
+unfolding place_under by_parse_type when◌then◌else◌ G.parse_other member
 inside-other uri v t h o =
     let k : (same v (ascii "Resource") ≡ false) × ((same v (ascii "Literal") || (same v (ascii "Collection") || false)) ≡ false) = or_none _ _ (not-true _ o) in
     let l : (same v (ascii "Literal") ≡ false) × ((same v (ascii "Collection") || false) ≡ false) = or_none _ _ k.1 in
@@ -149,12 +149,12 @@ inside-other uri v t h o =
 -- property elements without rdf:parseType
 module _ (as' : List AttributeEvent) (x : Content) where
   text_passes : (t : Bytes) → text_of_content x ≡ some t → is_empty t ≡ false → G.Only (rdf "ID" ∷ rdf "datatype" ∷ []) as' → property_shape (value (rdf "parseType") as') as' x ≡ true
-  unfolding property_shape default_shape if◌then◌else◌
+  unfolding property_shape default_shape when◌then◌else◌
   text_passes t h full a = rw (datatype_parse_type as' a, h, full) (passes_only _ as' a)
 
   empty_passes : text_of_content x ≡ some [] → value (rdf "parseType") as' ≡ none
       → (or_properties (rdf "ID" ∷ rdf "resource" ∷ rdf "nodeID" ∷ []) as' || or_properties (rdf "ID" ∷ rdf "datatype" ∷ []) as') ≡ true → property_shape (value (rdf "parseType") as') as' x ≡ true
-  unfolding property_shape default_shape if◌then◌else◌ is_empty
+  unfolding property_shape default_shape when◌then◌else◌ is_empty
   empty_passes h n a = rw (n, h) a
 
   node_passes : {o : Subject} {c : Context} {u u' : Used} {ts : List Triple} → Matches (node_element_list (o ∷ [])) c x u u' ts → G.Only (rdf "ID" ∷ []) as' → property_shape (value (rdf "parseType") as') as' x ≡ true
@@ -207,11 +207,11 @@ misc_shaped p c (comment t f) m = misc_shaped p c f m
 misc_shaped p c (element n as' children f) m = absurd m
 
 root-shape : (uri : Bytes) (c : Context) (as' : List Attribute) (x : Content) → uri ≡ rdf "RDF" → attrs c as' ≡ [] → shape document uri c as' x ≡ true
-unfolding shape if◌then◌else◌ is_empty
+unfolding shape when◌then◌else◌ is_empty
 root-shape uri c as' x h a = rw (h, same_refl (rdf "RDF"), a)
 
 alone_shape : (uri : Bytes) (c : Context) (as' : List Attribute) (x : Content) → G.node_element_ur_is uri ≡ true → node_shape (attrs c as') ≡ true → shape document uri c as' x ≡ true
-unfolding shape if◌then◌else◌
+unfolding shape when◌then◌else◌
 alone_shape uri c as' x h a = rw (not_root uri h) a
 
 -- what section 7 accepts passes it

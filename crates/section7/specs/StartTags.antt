@@ -6,7 +6,7 @@ use Rattle.std.proofs.Math.Bool.{not}
 use Rattle.std.proofs.lemmas.Bool.{false≢true}
 use Rattle.std.proofs.Math.Option.{Option, none, some}
 use mathlib.Core.List.{List, [], ◌∷◌, ◌++◌, map, append-nil}
-use Rattle.spec.specs.Bytes.{Bytes, ascii, byte, if◌then◌else◌, same, begins, is_empty, is_some, member, repeats, those, All, or_else, each, ◌>>=◌, ◌>>◌, require◌or◌}
+use Rattle.spec.specs.Bytes.{Bytes, ascii, byte, when◌then◌else◌, same, begins, is_empty, is_some, member, repeats, those, All, or_else, each, ◌>>=◌, ◌>>◌, require◌or◌}
 use Rattle.spec.specs.Numbers.{Answer, refuse, good}
 use Rattle.spec.specs.declared.Refusal.TheVariants.{NotWellFormed, OverLimit, BadIri}
 use Rattle.spec.specs.XmlNames.{prefix_of}
@@ -42,31 +42,31 @@ use Rattle.section7.specs.Attributes.{Fine, Accepted, AcceptedEvent, no_attribut
 -- ---- the roles
 
 id_role : RdfRole rdf_ID
-unfolding same_role role_number role_among rdf_roles name_in if◌then◌else◌ F.all
+unfolding same_role role_number role_among rdf_roles name_in when◌then◌else◌ F.all
 id_role = record { has_name_lem = refl; not_nothing = refl; not_lang = refl; not_base = refl; in_rdf_context = refl }
 
 node_id_role : RdfRole rdf_node_id
-unfolding same_role role_number role_among rdf_roles name_in if◌then◌else◌ F.all
+unfolding same_role role_number role_among rdf_roles name_in when◌then◌else◌ F.all
 node_id_role = record { has_name_lem = refl; not_nothing = refl; not_lang = refl; not_base = refl; in_rdf_context = refl }
 
 about_role : RdfRole rdf_about
-unfolding same_role role_number role_among rdf_roles name_in if◌then◌else◌ F.all
+unfolding same_role role_number role_among rdf_roles name_in when◌then◌else◌ F.all
 about_role = record { has_name_lem = refl; not_nothing = refl; not_lang = refl; not_base = refl; in_rdf_context = refl }
 
 resource_role : RdfRole rdf_resource
-unfolding same_role role_number role_among rdf_roles name_in if◌then◌else◌ F.all
+unfolding same_role role_number role_among rdf_roles name_in when◌then◌else◌ F.all
 resource_role = record { has_name_lem = refl; not_nothing = refl; not_lang = refl; not_base = refl; in_rdf_context = refl }
 
 datatype_role : RdfRole rdf_datatype
-unfolding same_role role_number role_among rdf_roles name_in if◌then◌else◌ F.all
+unfolding same_role role_number role_among rdf_roles name_in when◌then◌else◌ F.all
 datatype_role = record { has_name_lem = refl; not_nothing = refl; not_lang = refl; not_base = refl; in_rdf_context = refl }
 
 parse_type_role : RdfRole rdf_parse_type
-unfolding same_role role_number role_among rdf_roles name_in if◌then◌else◌ F.all
+unfolding same_role role_number role_among rdf_roles name_in when◌then◌else◌ F.all
 parse_type_role = record { has_name_lem = refl; not_nothing = refl; not_lang = refl; not_base = refl; in_rdf_context = refl }
 
 type_role : RdfRole rdf_type
-unfolding same_role role_number role_among rdf_roles name_in if◌then◌else◌ F.all
+unfolding same_role role_number role_among rdf_roles name_in when◌then◌else◌ F.all
 type_role = record { has_name_lem = refl; not_nothing = refl; not_lang = refl; not_base = refl; in_rdf_context = refl }
 
 -- ---- rdf:IDs
@@ -106,21 +106,21 @@ module _ (ids : List Identifier) where
 pub same-language : (as' : List Attribute) (l : Language)
     → All (λ a. says "xml:lang" (λ v. is_empty v || is_language_tag v) a ≡ true) as'
     → language_under (written (ascii "xml:lang") as') l ≡ in_force (own_of (written (ascii "xml:lang") as')) l
-unfolding language_under written own_of said_by verdict tag_of in_force if◌then◌else◌
+unfolding language_under written own_of said_by verdict tag_of in_force when◌then◌else◌
 same-language [] l h = refl
 same-language (attribute n v ∷ as') l h = go (same n (ascii "xml:lang")) refl (same-language as' l h.1)
   where
     said : (a b : Bool) → (a || b) ≡ true
-        → (if a then no_language else language (tag_of v))
-        ≡ in_force (said_by (if a then Clears else if b then Good else Bad) v) l
+        → (when a then no_language else language (tag_of v))
+        ≡ in_force (said_by (when a then Clears else when b then Good else Bad) v) l
     said true b k = refl
     said false true k = refl
     said false false k = absurd (false≢true k)
 
     go : (t : Bool) → same n (ascii "xml:lang") ≡ t
         → language_under (written (ascii "xml:lang") as') l ≡ in_force (own_of (written (ascii "xml:lang") as')) l
-        → language_under (if t then some v else written (ascii "xml:lang") as') l
-        ≡ in_force (own_of (if t then some v else written (ascii "xml:lang") as')) l
+        → language_under (when t then some v else written (ascii "xml:lang") as') l
+        ≡ in_force (own_of (when t then some v else written (ascii "xml:lang") as')) l
     go true e k = said (is_empty v) (is_language_tag v) (says_then "xml:lang" _ n v h.0 e)
     go false e k = k
 
@@ -149,7 +149,7 @@ abbrev uris : List AttributeEvent → List Bytes
 uris es = map (λ (a : AttributeEvent). a.0) es
 
 no_values : (u : Bytes) (es : List AttributeEvent) → member u (uris es) ≡ false → values u es ≡ []
-unfolding values member if◌then◌else◌
+unfolding values member when◌then◌else◌
 no_values u [] h = refl
 no_values u (a ∷ es) h = let k : (same u a.0 ≡ false) × (member u (uris es) ≡ false) = or_none _ _ h in rw (unlike a.0 u k.0) (no_values u es k.1)
   where
@@ -157,11 +157,11 @@ no_values u (a ∷ es) h = let k : (same u a.0 ≡ false) × (member u (uris es)
     unlike i u h = no_true _ λ s. false≢true (sym h ∙ (ap (same u) (same_true i u s) ∙ same_refl u))
 
 few-values : (u : Bytes) (es : List AttributeEvent) → repeats (uris es) ≡ false → few (values u es) ≡ true
-unfolding values repeats few if◌then◌else◌
+unfolding values repeats few when◌then◌else◌
 few-values u [] h = refl
 few-values u (a ∷ es) h = go (same a.0 u) refl (few-values u es (or_none (member a.0 (uris es)) (repeats (uris es)) h).1)
   where
-    go : (b : Bool) → same a.0 u ≡ b → few (values u es) ≡ true → few (if b then a.1 ∷ values u es else values u es) ≡ true
+    go : (b : Bool) → same a.0 u ≡ b → few (values u es) ≡ true → few (when b then a.1 ∷ values u es else values u es) ≡ true
     go true e k = let z : values u es ≡ [] = no_values u es (rw (same_true a.0 u e) at (or_none (member a.0 (uris es)) (repeats (uris es)) h).0) in rw z
     go false e k = k
 
@@ -187,13 +187,13 @@ resolves_first b v vs ts h =
     λ i q. always_any (λ ts. resolved b (some v) ≡ good (first_type ts)) (all_resolved b vs) _ λ is. q) h
 
 type_first : (b : Option Bytes) (es : List AttributeEvent) (ts : List (Option Bytes)) → all_resolved b (values (rdf "type") es) ≡ good ts → resolved b (value (rdf "type") es) ≡ good (first_type ts)
-unfolding values value if◌then◌else◌
+unfolding values value when◌then◌else◌
 type_first b [] ts h = unfold all_resolved each first_type resolved in let z : good [] ≡ good ts = h in let g : ts ≡ [] = cc in rw g
 type_first b (a ∷ es) ts h = go (same a.0 (rdf "type")) h (type_first b es ts)
   where
-    go : (t : Bool) → all_resolved b (if t then a.1 ∷ values (rdf "type") es else values (rdf "type") es) ≡ good ts
+    go : (t : Bool) → all_resolved b (when t then a.1 ∷ values (rdf "type") es else values (rdf "type") es) ≡ good ts
         → (all_resolved b (values (rdf "type") es) ≡ good ts → resolved b (value (rdf "type") es) ≡ good (first_type ts))
-        → resolved b (if t then some a.1 else value (rdf "type") es) ≡ good (first_type ts)
+        → resolved b (when t then some a.1 else value (rdf "type") es) ≡ good (first_type ts)
     go true h k = resolves_first b a.1 (values (rdf "type") es) ts h
     go false h k = k h
 
@@ -319,7 +319,7 @@ module _ (c : Context) (n : Bytes) (as' : List Attribute) (u : Used) (e : StartE
     -- 6 is not given
     well_formed_lem : (b : Option Bytes) (f : Frame) (k : Kind) (fs : List Frame) → c ≡ context b (f ∷ fs) → is_xml (in_kind k) ≡ false
         → (not (is_second_root (doc b (with_kind k f ∷ fs) u)) && (all_legal (declared as') && not (repeated (in_kind k) as' (doc b (with_kind k f ∷ fs) u)))) ≡ true
-    unfolding is_second_root is_empty repeated doc context with_kind in_scope if◌then◌else◌
+    unfolding is_second_root is_empty repeated doc context with_kind in_scope when◌then◌else◌
     well_formed_lem b f k fs q x = let qb : f.bindings ++ in_scope fs ≡ c.bindings = ap (λ (y : Context). y.bindings) (sym q) in rw (x, qb, e.legal, r.joined)
 
     pub opening-gives : (b : Option Bytes) (f : Frame) (k : Kind) (fs : List Frame) (production : Tag → ℕ → Answer Opened) (o : Opened)

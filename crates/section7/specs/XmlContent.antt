@@ -4,7 +4,7 @@ use Rattle.std.proofs.Math.Path.{refl, sym, ap}
 use Rattle.std.proofs.Common.{◌∙◌}
 use Rattle.std.proofs.Math.Option.{Option, none}
 use mathlib.Core.List.{List, [], ◌∷◌, ◌++◌, map, append_assoc, append-nil}
-use Rattle.spec.specs.Bytes.{Bytes, if◌then◌else◌, same, is_empty, member, repeats, each, All, ◌>>=◌, ◌>>◌, require◌or◌}
+use Rattle.spec.specs.Bytes.{Bytes, when◌then◌else◌, same, is_empty, member, repeats, each, All, ◌>>=◌, ◌>>◌, require◌or◌}
 use Rattle.spec.specs.Numbers.{good}
 use Rattle.spec.specs.declared.Refusal.TheVariants.{NotWellFormed, OverLimit, EmptyLiteral}
 use Rattle.spec.specs.Pyx.{Attribute, attribute, Event, opening, closing, text}
@@ -67,7 +67,7 @@ module _ (b : Option Bytes) (p : Property) (g : Frame) (fs : List Frame) (u : Us
 
   -- XML text goes to it
   takes_xml_lem : (x y : Bytes) (xs : List Frame) → AllXml xs → change_value (takes_xml x) (xs ++ around y) ≡ xs ++ around (y ++ x)
-  unfolding change_value with_kind on_value takes_xml is_xml_element if◌then◌else◌
+  unfolding change_value with_kind on_value takes_xml is_xml_element when◌then◌else◌
   takes_xml_lem x y [] a = refl
   takes_xml_lem x y (f ∷ xs) a = rw (a.0, takes_xml_lem x y xs a.1)
 
@@ -92,7 +92,7 @@ module _ (b : Option Bytes) (p : Property) (g : Frame) (fs : List Frame) (u : Us
   -- 6 is not given
   copy-legal : (n : Bytes) (as' : List Attribute) (y : Bytes) (xs : List Frame) (bs : List Binding) → WellFormedTag bs n as'
       → (not (is_second_root (doc b (xs ++ around y) u)) && (all_legal (declared as') && not (repeated xml as' (doc b (xs ++ around y) u)))) ≡ true
-  unfolding is_second_root doc is_empty repeated is_xml if◌then◌else◌
+  unfolding is_second_root doc is_empty repeated is_xml when◌then◌else◌
   copy-legal n as' y [] bs t = rw (t.legal, written_once (declared as' ++ bs) as' t.once)
   copy-legal n as' y (f ∷ xs) bs t = rw (t.legal, written_once (declared as' ++ bs) as' t.once)
 

@@ -18,10 +18,10 @@ ascii (◌then◌ c s) = code c ∷ ascii s
 unfoldable pub byte : Char → ℕ
 byte c = code c
 
-infixr 4 if◌then◌else◌
-unfoldable pub if◌then◌else◌ : {A : Type 0} → Bool → A → A → A
-if◌then◌else◌ true a b = a
-if◌then◌else◌ false a b = b
+infixr 4 when◌then◌else◌
+unfoldable pub when◌then◌else◌ : {A : Type 0} → Bool → A → A → A
+when◌then◌else◌ true a b = a
+when◌then◌else◌ false a b = b
 
 unfoldable pub same : Bytes → Bytes → Bool
 same [] [] = true
@@ -44,16 +44,16 @@ after (a ∷ p) (b ∷ s) = after p s
 -- the elements that pass a test
 unfoldable pub those : {A : Type 0} → (A → Bool) → List A → List A
 those p [] = []
-those p (a ∷ l) = if p a then (a ∷ those p l) else those p l
+those p (a ∷ l) = when p a then (a ∷ those p l) else those p l
 
 -- a text up to, and from, the first byte of a set
 unfoldable pub up_to : (ℕ → Bool) → Bytes → Bytes
 up_to p [] = []
-up_to p (a ∷ s) = if p a then [] else (a ∷ up_to p s)
+up_to p (a ∷ s) = when p a then [] else (a ∷ up_to p s)
 
 unfoldable pub from : (ℕ → Bool) → Bytes → Bytes
 from p [] = []
-from p (a ∷ s) = if p a then (a ∷ s) else from p s
+from p (a ∷ s) = when p a then (a ∷ s) else from p s
 
 -- is a byte among those of a text?
 unfoldable pub among : Bytes → ℕ → Bool
@@ -122,7 +122,7 @@ onto c (l ∷ ls) = (c ∷ l) ∷ ls
 
 unfoldable pub split : ℕ → Bytes → List Bytes
 split sep [] = [] ∷ []
-split sep (c ∷ s) = if eqb c sep then [] ∷ split sep s else onto c (split sep s)
+split sep (c ∷ s) = when eqb c sep then [] ∷ split sep s else onto c (split sep s)
 
 unfoldable pub concat : List Bytes → Bytes
 concat [] = []
@@ -150,5 +150,5 @@ each f [] = good []
 each f (a ∷ l) = f a >>= λ b. each f l >>= λ bs. good (b ∷ bs)
 
 unfoldable pub all : Unit {0}
-unfolding ascii byte if◌then◌else◌ same begins after those up_to from among is_empty every member between in_ranges repeats total size_of or_else is_some present onto split concat ◌>>=◌ ◌>>◌ require◌or◌ each
+unfolding ascii byte when◌then◌else◌ same begins after those up_to from among is_empty every member between in_ranges repeats total size_of or_else is_some present onto split concat ◌>>=◌ ◌>>◌ require◌or◌ each
 all = tt

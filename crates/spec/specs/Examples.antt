@@ -1,7 +1,7 @@
 -- Document 01, "Proved": what a worked example is, and the test of a table of them.
 use Rattle.std.specs.Prelude.{Bool, true, false, ◌&&◌, ◌||◌, not, List, [], ◌∷◌, ◌++◌, ℕ, suc, eqb}
 use Prim.Native.String.{String}
-use Rattle.spec.specs.Bytes.{Bytes, ascii, byte, same, begins, if◌then◌else◌}
+use Rattle.spec.specs.Bytes.{Bytes, ascii, byte, same, begins, when◌then◌else◌}
 use Rattle.spec.specs.Rfc3986.{resolve}
 use Rattle.spec.specs.Rfc5646.{is_language_tag}
 use Rattle.spec.specs.Rdf.{rdf}
@@ -51,7 +51,7 @@ holds (bad_tag t) = not (is_language_tag (ascii t))
 -- the places of the examples that fail, from n on
 unfoldable pub failing : ℕ → List Example → List ℕ
 failing n [] = []
-failing n (e ∷ l) = if holds e then failing (suc n) l else (n ∷ failing (suc n) l)
+failing n (e ∷ l) = when holds e then failing (suc n) l else (n ∷ failing (suc n) l)
 
 -- are these answers, each with the one that is expected?
 unfoldable pub agree : List (ℕ × ℕ) → Bool

@@ -1,6 +1,6 @@
 -- Document 01, "Events": a host's run of steps over its input, all at hand or in pieces (theorem: Division of `theorems`).
 use Rattle.std.specs.Prelude.{◌≡◌, ◌⊎◌, true, List, [], ◌∷◌, ◌++◌, ℕ, zero, suc, ◌+◌, ◌≤◌, eqb, length, drop}
-use Rattle.spec.specs.Bytes.{Bytes, if◌then◌else◌, is_empty}
+use Rattle.spec.specs.Bytes.{Bytes, when◌then◌else◌, is_empty}
 use Rattle.spec.specs.Calls.{State, Report, call_step, call_finish}
 use Rattle.spec.specs.Pyx2nt.{last_line}
 
@@ -64,4 +64,4 @@ pub data Feeds (room : ℕ → ℕ) : ℕ → Bytes → List Bytes → State →
 
 -- what pyx2nt prints of its run from event k on: all lines, then the refusal, where a step or finish refused
 unfoldable pub printed : ℕ → Run → Bytes
-printed k n = n.output ++ last_line (if eqb n.answer 1 then (call_finish n.behind).answer else n.answer) (k + n.events)
+printed k n = n.output ++ last_line (when eqb n.answer 1 then (call_finish n.behind).answer else n.answer) (k + n.events)

@@ -2,7 +2,7 @@
 -- around it.
 use Rattle.std.specs.Prelude.{◌≡◌, Bool, false, ◌&&◌, List, [], ◌∷◌, ◌++◌, map, ℕ, suc, ◌+◌, ◌<◌, eqb, length}
 use Rattle.std.proofs.Math.Option.{Option, none, some}
-use Rattle.spec.specs.Bytes.{Bytes, if◌then◌else◌}
+use Rattle.spec.specs.Bytes.{Bytes, when◌then◌else◌}
 use Rattle.spec.specs.Numbers.{Answer, refuse, good}
 use Rattle.spec.specs.Pyx.{Attribute, Event, opening, closing, text, instruction}
 use Rattle.spec.specs.Namespaces.{Binding, declared, expand_element}
@@ -73,7 +73,7 @@ node_subject xml_element = []
 unfoldable pub child_of : ℕ → Event → List Frame → List Subject
 child_of k (opening n as') fs = []
 child_of k (closing n) [] = []
-child_of k (closing n) (f ∷ fs) = if eqb (length fs) (suc k) then node_subject f.kind else []
+child_of k (closing n) (f ∷ fs) = when eqb (length fs) (suc k) then node_subject f.kind else []
 child_of k (text s) fs = []
 child_of k instruction fs = []
 
@@ -98,7 +98,7 @@ is_li_tag n as' fs = names_li (expand_element (declared as' ++ in_scope fs) n)
 
 -- 1 for the start tag of an rdf:li directly inside it
 unfoldable pub li_of : ℕ → Event → List Frame → ℕ
-li_of k (opening n as') fs = if eqb (length fs) (suc k) && is_li_tag n as' fs then 1 else 0
+li_of k (opening n as') fs = when eqb (length fs) (suc k) && is_li_tag n as' fs then 1 else 0
 li_of k (closing n) fs = 0
 li_of k (text s) fs = 0
 li_of k instruction fs = 0

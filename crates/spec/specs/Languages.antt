@@ -1,7 +1,7 @@
 -- Demand 3: the language of literals.
 use Rattle.std.specs.Prelude.{◌≡◌, Bool, true, false, List, [], ◌∷◌}
 use Rattle.std.proofs.Math.Option.{Option, none, some}
-use Rattle.spec.specs.Bytes.{Bytes, ascii, if◌then◌else◌, same}
+use Rattle.spec.specs.Bytes.{Bytes, ascii, when◌then◌else◌, same}
 use Rattle.spec.specs.Pyx.{Attribute, attribute, Event, opening, closing, text, instruction}
 use Rattle.spec.specs.NTriples.{Term, node, plain, tagged, typed, Triple, triple}
 use Rattle.spec.specs.Document.{Frame, Doc, Place, outside, nodes, nodes_or_text, xml, properties, language_in_force}
@@ -30,7 +30,7 @@ open_at instruction d d' = d.frames
 -- the value of the first attribute with this name, as written
 unfoldable pub value_named : Bytes → List Attribute → Option Bytes
 value_named m [] = none
-value_named m (attribute n v ∷ as') = if same n m then some v else value_named m as'
+value_named m (attribute n v ∷ as') = when same n m then some v else value_named m as'
 
 -- does xml:lang mean nothing in a start tag? So it is in Literal content, and in the wrapper
 unfoldable pub is_mute : Place → Bytes → List Attribute → Doc → Bool

@@ -3,7 +3,7 @@
 use Rattle.std.specs.Prelude.{Bool, true, ◌||◌, not, List, [], ◌∷◌, ◌++◌, ℕ, zero, suc, ◌+◌, ◌-◌, ◌*◌, ◌/◌, ◌%◌, eqb, ltb, length}
 use Rattle.std.proofs.Math.Option.{Option, none, some}
 use Prim.Native.String.{String}
-use Rattle.spec.specs.Bytes.{Bytes, ascii, byte, if◌then◌else◌, begins, after, between, among, is_empty}
+use Rattle.spec.specs.Bytes.{Bytes, ascii, byte, when◌then◌else◌, begins, after, between, among, is_empty}
 use Rattle.spec.specs.Grammar.{Grammar, accepts}
 use Rattle.spec.specs.Utf8.{is_scalar, as_characters}
 use Rattle.spec.specs.NTriples.{Subject, named, blank, Term, node, plain, tagged, typed, Triple}
@@ -53,17 +53,17 @@ many p s = up_to (length s) p s
 -- a byte of a class; what the classes leave out is ASCII, so that all bytes of another character are in them
 unfoldable pub one : (ℕ → Bool) → Reader Bytes
 one p [] = none
-one p (c ∷ s) = if p c then some (c ∷ [], s) else none
+one p (c ∷ s) = when p c then some (c ∷ [], s) else none
 
 unfoldable pub text : String → Reader (Unit {0})
-text w s = if begins (ascii w) s then some (tt, after (ascii w) s) else none
+text w s = when begins (ascii w) s then some (tt, after (ascii w) s) else none
 
 -- the longest beginning that passes a test
 unfoldable pub longest : (Bytes → Bool) → Reader Bytes
-longest p [] = if p [] then some ([], []) else none
+longest p [] = when p [] then some ([], []) else none
 longest p (c ∷ s) =
     elim (longest (λ u. p (c ∷ u)) s) [
-      | none ↦ if p [] then some ([], c ∷ s) else none
+      | none ↦ when p [] then some ([], c ∷ s) else none
       | some r ↦ some (c ∷ r.0, r.1)
     ]
 
@@ -79,9 +79,9 @@ last_bits c = 0x80 + c % 64
 
 unfoldable pub utf8 : ℕ → Bytes
 utf8 c =
-    if ltb c 0x80 then c ∷ [] else
-    if ltb c 0x800 then (0xC0 + c / 64) ∷ last_bits c ∷ [] else
-    if ltb c 0x10000 then (0xE0 + c / 64 / 64) ∷ last_bits (c / 64) ∷ last_bits c ∷ [] else
+    when ltb c 0x80 then c ∷ [] else
+    when ltb c 0x800 then (0xC0 + c / 64) ∷ last_bits c ∷ [] else
+    when ltb c 0x10000 then (0xE0 + c / 64 / 64) ∷ last_bits (c / 64) ∷ last_bits c ∷ [] else
     (0xF0 + c / 64 / 64 / 64) ∷ last_bits (c / 64 / 64) ∷ last_bits (c / 64) ∷ last_bits c ∷ []
 
 -- ---- the terminals
@@ -89,9 +89,9 @@ utf8 c =
 -- [162s] HEX
 unfoldable pub HEX : ℕ → Option ℕ
 HEX c =
-    if between (byte "0") (byte "9") c then some (c - byte "0") else
-    if between (byte "A") (byte "F") c then some (10 + (c - byte "A")) else
-    if between (byte "a") (byte "f") c then some (10 + (c - byte "a")) else none
+    when between (byte "0") (byte "9") c then some (c - byte "0") else
+    when between (byte "A") (byte "F") c then some (10 + (c - byte "A")) else
+    when between (byte "a") (byte "f") c then some (10 + (c - byte "a")) else none
 
 -- n of them behind those that say v
 unfoldable pub digits : ℕ → ℕ → Reader ℕ
@@ -101,7 +101,7 @@ digits (suc n) v (c ∷ s) = HEX c >>= λ d. digits n (16 * v + d) s
 
 -- the character of a number: none is a surrogate, none is above 10FFFF
 unfoldable pub character : Reader ℕ → Reader Bytes
-character p s = p s >>= λ r. if is_scalar r.0 then some (utf8 r.0, r.1) else none
+character p s = p s >>= λ r. when is_scalar r.0 then some (utf8 r.0, r.1) else none
 
 -- [10] UCHAR
 unfoldable pub UCHAR : Reader Bytes
@@ -116,7 +116,7 @@ ECHARS =
 unfoldable pub one_of : List (ℕ × ℕ) → Reader Bytes
 one_of l [] = none
 one_of [] (c ∷ s) = none
-one_of (e ∷ l) (c ∷ s) = if eqb e.0 c then some (e.1 ∷ [], s) else one_of l (c ∷ s)
+one_of (e ∷ l) (c ∷ s) = when eqb e.0 c then some (e.1 ∷ [], s) else one_of l (c ∷ s)
 
 unfoldable pub ECHAR : Reader Bytes
 ECHAR = text "\\" then one_of ECHARS
@@ -178,7 +178,7 @@ comment = text "#" then many (one (λ c. not (among (ascii "\r\n") c)))
 -- [7] EOL, or the end of the text
 unfoldable pub EOL : Reader (Unit {0})
 EOL [] = some (tt, [])
-EOL (c ∷ s) = if among (ascii "\r\n") c then some (tt, s) else none
+EOL (c ∷ s) = when among (ascii "\r\n") c then some (tt, s) else none
 
 -- a line with its end: a triple, if there is one, and a comment, if there is one
 unfoldable pub line : Reader (Option Triple)
@@ -191,12 +191,12 @@ in_front (some t) ts = t ∷ ts
 
 -- [1] ntriplesDoc: up to n lines
 unfoldable pub lines : ℕ → Bytes → Option (List Triple)
-lines zero s = if is_empty s then some [] else none
-lines (suc n) s = if is_empty s then some [] else line s >>= λ l. lines n l.1 >>= λ ts. some (in_front l.0 ts)
+lines zero s = when is_empty s then some [] else none
+lines (suc n) s = when is_empty s then some [] else line s >>= λ l. lines n l.1 >>= λ ts. some (in_front l.0 ts)
 
 -- a document: its triples in order; or nothing, where it is none. No more lines than bytes.
 unfoldable pub ntriples_doc : Bytes → Option (List Triple)
-ntriples_doc s = if as_characters (λ cs. true) s then lines (length s) s else none
+ntriples_doc s = when as_characters (λ cs. true) s then lines (length s) s else none
 
 unfoldable pub all : Unit {0}
 unfolding G.all N.all ◌>>=◌ says ◌or◌ ◌then◌ ◌followedBy◌ optional up_to many one text longest terminal last_bits utf8 HEX digits character UCHAR ECHARS one_of ECHAR IRIREF BLANK_NODE_LABEL LANGTAG STRING_LITERAL_QUOTE WS literal subject predicate object triple comment EOL line in_front lines ntriples_doc

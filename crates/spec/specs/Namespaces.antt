@@ -1,7 +1,7 @@
 -- Namespaces in XML 1.0, as document 01 uses it: bindings, expanded names, repeated attributes.
 use Rattle.std.specs.Prelude.{Bool, true, ◌&&◌, ◌||◌, not, List, [], ◌∷◌, ◌++◌, map}
 use Rattle.std.proofs.Math.Option.{Option, none, some}
-use Rattle.spec.specs.Bytes.{Bytes, ascii, if◌then◌else◌, same, begins, after, those, is_empty, is_some, present, repeats, ◌>>◌, require◌or◌}
+use Rattle.spec.specs.Bytes.{Bytes, ascii, when◌then◌else◌, same, begins, after, those, is_empty, is_some, present, repeats, ◌>>◌, require◌or◌}
 use Rattle.spec.specs.Bytes as B
 use Rattle.spec.specs.Numbers.{Answer, refuse, good}
 use Rattle.spec.specs.declared.Refusal.TheVariants.{NoNamespace}
@@ -40,7 +40,7 @@ declared as' = map declares (those is_declaration as')
 -- section 3: `xmlns` is never declared, `xml` only as what it is, the two names for no other prefix, and no prefix empty
 unfoldable pub is_legal : Binding → Bool
 is_legal (p, ns) =
-    if same p (ascii "xml") then same ns xml_name else
+    when same p (ascii "xml") then same ns xml_name else
     not (same p (ascii "xmlns")) && (not (same ns xml_name) && (not (same ns xmlns_name) && (is_empty p || not (is_empty ns))))
 
 -- 6, "illegal xmlns"
@@ -53,11 +53,11 @@ all_legal (b ∷ bs) = is_legal b && all_legal bs
 -- the first binding of a prefix
 unfoldable pub look_up : Bytes → List Binding → Option Bytes
 look_up p [] = none
-look_up p (b ∷ bs) = if same p b.0 then some b.1 else look_up p bs
+look_up p (b ∷ bs) = when same p b.0 then some b.1 else look_up p bs
 
 -- the namespace of a prefix, innermost binding first; `xml` is always bound
 unfoldable pub namespace : List Binding → Bytes → Option Bytes
-namespace bs p = if same p (ascii "xml") then some xml_name else look_up p bs
+namespace bs p = when same p (ascii "xml") then some xml_name else look_up p bs
 
 -- namespace and local name joined; none where the prefix is unknown
 unfoldable pub joined : Option Bytes → Bytes → Option Bytes
@@ -66,7 +66,7 @@ joined (some ns) l = some (ns ++ l)
 
 -- an attribute without prefix has no namespace
 unfoldable pub expand_attribute : List Binding → Bytes → Option Bytes
-expand_attribute bs n = if is_empty (prefix_of n) then some n else joined (namespace bs (prefix_of n)) (local_of n)
+expand_attribute bs n = when is_empty (prefix_of n) then some n else joined (namespace bs (prefix_of n)) (local_of n)
 
 -- is a name's prefix known, or has it none?
 unfoldable pub is_known : List Binding → Bytes → Bool

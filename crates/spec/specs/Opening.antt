@@ -1,7 +1,7 @@
 -- Document 01, "Order in step": start tags (refusals 6 to 15, 18 and 19, and the limits on names and IRIs).
 use Rattle.std.specs.Prelude.{Bool, true, false, ◌&&◌, not, List, [], ◌∷◌, ◌++◌, ℕ, suc, eqb, leb, length}
 use Rattle.std.proofs.Math.Option.{Option, none, some}
-use Rattle.spec.specs.Bytes.{Bytes, if◌then◌else◌, is_empty, ◌>>=◌, ◌>>◌, require◌or◌, each}
+use Rattle.spec.specs.Bytes.{Bytes, when◌then◌else◌, is_empty, ◌>>=◌, ◌>>◌, require◌or◌, each}
 use Rattle.spec.specs.Numbers.{number, Answer, refuse, good}
 use Rattle.spec.specs.declared.Refusal.TheVariants.{NotWellFormed, OverLimit, NoNamespace, ProfileBroken, Reserved}
 use Rattle.spec.specs.Limits.{most_open_elements, most_attributes, most_bindings}
@@ -47,7 +47,7 @@ copy_element n as' d = do
 unfoldable pub counted : Bytes → Kind → Kind
 counted i rdf_rdf = rdf_rdf
 counted i (wrapper b) = wrapper true
-counted i (node_element s li) = node_element s (if is_li i then suc li else li)
+counted i (node_element s li) = node_element s (when is_li i then suc li else li)
 counted i (property_element p v) = property_element p v
 counted i xml_element = xml_element
 
@@ -90,7 +90,7 @@ mode_rules m fs t = require keeps m.xmp fs t or ProfileBroken
 -- the order of a production's refusals and these: 14 comes first, all others after them
 unfoldable pub under_rules : Answer (Unit {0}) → Answer Opened → Answer Opened
 under_rules (good _) a = a
-under_rules (refuse r) (refuse q) = if eqb (number q) (number Reserved) then refuse q else refuse r
+under_rules (refuse r) (refuse q) = when eqb (number q) (number Reserved) then refuse q else refuse r
 under_rules (refuse r) (good o) = refuse r
 
 -- outside Literal content, by a production
@@ -103,7 +103,7 @@ open_element production n as' d = do
 
 -- by what the start tag stands in
 unfoldable pub open_in : Place → Bytes → List Attribute → Doc → Answer Step
-open_in outside n as' d = if starts_wrapper d.mode.xmp n as' d.frames then open_wrapper n as' d else open_element open_root n as' d
+open_in outside n as' d = when starts_wrapper d.mode.xmp n as' d.frames then open_wrapper n as' d else open_element open_root n as' d
 open_in nodes n as' d = open_element open_node n as' d
 open_in nodes_or_text n as' d = open_element open_node n as' d
 open_in (properties s li) n as' d = open_element (λ t. open_property t s li) n as' d
@@ -119,7 +119,7 @@ is_xml (properties s li) = false
 
 -- expanded names outside Literal content; as written there
 unfoldable pub repeated : Place → List Attribute → Doc → Bool
-repeated p as' d = if is_xml p then repeats_written as' else repeats_expanded (declared as' ++ in_scope d.frames) as'
+repeated p as' d = when is_xml p then repeats_written as' else repeats_expanded (declared as' ++ in_scope d.frames) as'
 
 -- 6, counts (7), then by place
 unfoldable pub on_opening : Bytes → List Attribute → Doc → Answer Step

@@ -1,7 +1,7 @@
 -- RDF 1.1 XML Syntax, section 7, as document 01 restates it: what a start tag outside Literal content does (refusals 14, 15, 18).
 use Rattle.std.specs.Prelude.{Bool, ◌&&◌, ◌||◌, not, List, [], ◌∷◌, ◌++◌, ℕ, suc, ltb}
 use Rattle.std.proofs.Math.Option.{Option, none, some}
-use Rattle.spec.specs.Bytes.{Bytes, ascii, if◌then◌else◌, same, is_empty, is_some, ◌>>=◌, ◌>>◌, require◌or◌}
+use Rattle.spec.specs.Bytes.{Bytes, ascii, when◌then◌else◌, same, is_empty, is_some, ◌>>=◌, ◌>>◌, require◌or◌}
 use Rattle.spec.specs.Bytes as B
 use Rattle.spec.specs.Numbers.{Answer, good}
 use Rattle.spec.specs.declared.Refusal.TheVariants.{LabelsSpent, Reserved, TwoNames}
@@ -73,7 +73,7 @@ subject_of none none g = blank g
 
 -- the element type unless rdf:Description
 unfoldable pub element_type : Bytes → Option Bytes
-element_type i = if same i (rdf "Description") then none else some i
+element_type i = when same i (rdf "Description") then none else some i
 
 -- 7.2.11: a node element takes the next label number even if it has a name
 unfoldable pub open_node : Tag → ℕ → Answer Opened
@@ -92,9 +92,9 @@ pub data ParseType : Type 0 where
 unfoldable pub parse_type_of : Option Bytes → ParseType
 parse_type_of none = no_parse_type
 parse_type_of (some v) =
-    if same v (ascii "Collection") then as_collection else
-    if same v (ascii "Resource") then as_resource else
-    if same v (ascii "Literal") then as_literal else as_other
+    when same v (ascii "Collection") then as_collection else
+    when same v (ascii "Resource") then as_resource else
+    when same v (ascii "Literal") then as_literal else as_other
 
 -- has it a node object at once? rdf:type alone does nothing
 unfoldable pub has_node : Tag → Bool
@@ -115,7 +115,7 @@ open_with_node t p n = do
 -- 7.2.15, 7.2.16: no object yet
 unfoldable pub open_default : Tag → Property → ℕ → Answer Opened
 open_default t p n =
-    if has_node t then open_with_node t p n else
+    when has_node t then open_with_node t p n else
     good (record { lines = []; kind = property_element p (default t.datatype no_object); labels = n })
 
 -- 7.2.18: written at the start tag; its node numbers its own rdf:li
@@ -147,19 +147,19 @@ is_li i = same i (rdf "li")
 
 -- the k-th rdf:li of a node stands for rdf:_k
 unfoldable pub property_iri : Bytes → ℕ → Bytes
-property_iri i k = if is_li i then rdf "_" ++ decimal k else i
+property_iri i k = when is_li i then rdf "_" ++ decimal k else i
 
 -- 7.2.14, in a node with subject s that has had li rdf:li
 unfoldable pub open_property : Tag → Subject → ℕ → ℕ → Answer Opened
 open_property t s li n = do
   require may_be_property t.iri or Reserved
   require not (two_objects t) or TwoNames
-  (if is_li t.iri then one_more li else good tt)
+  (when is_li t.iri then one_more li else good tt)
   open_as (parse_type_of t.parse_type) t (record { subject = s; iri = property_iri t.iri (suc li); id = t.id }) n
 
 -- 7.2.8: the root may be rdf:RDF or a node element
 unfoldable pub open_root : Tag → ℕ → Answer Opened
-open_root t n = if same t.iri (rdf "RDF") then good (record { lines = []; kind = rdf_rdf; labels = n }) else open_node t n
+open_root t n = when same t.iri (rdf "RDF") then good (record { lines = []; kind = rdf_rdf; labels = n }) else open_node t n
 
 unfoldable pub all : Unit {0}
 unfolding T.all N.all literal_of attribute_lines type_line tag_lines reification statement one_more two_of subject_of element_type open_node parse_type_of has_node object_of open_with_node open_default open_resource open_with open_as two_objects is_li property_iri open_property open_root

@@ -1,7 +1,7 @@
 -- Document 01, "Events": PYX, the lines of an event.
 use Rattle.std.specs.Prelude.{true, false, ℕ, eqb}
 use mathlib.Core.List.{List, [], ◌∷◌, drop_last}
-use Rattle.spec.specs.Bytes.{Bytes, ascii, byte, if◌then◌else◌, begins, after, up_to, from, among, every, split, concat, ◌>>=◌, ◌>>◌, require◌or◌, each}
+use Rattle.spec.specs.Bytes.{Bytes, ascii, byte, when◌then◌else◌, begins, after, up_to, from, among, every, split, concat, ◌>>=◌, ◌>>◌, require◌or◌, each}
 use Rattle.spec.specs.Bytes as B
 use Rattle.spec.specs.Numbers.{Answer, refuse, good}
 use Rattle.spec.specs.declared.Refusal.TheVariants.{NotPyx}
@@ -24,14 +24,14 @@ pub data Event : Type 0 where
 -- `\n`, `\t`, `\\` stand for LF, tab, backslash; any other backslash is refused
 unfoldable pub escaped : ℕ → Answer ℕ
 escaped c =
-    if eqb c (byte "n") then good (byte "\n") else
-    if eqb c (byte "t") then good (byte "\t") else
-    if eqb c (byte "\\") then good (byte "\\") else refuse NotPyx
+    when eqb c (byte "n") then good (byte "\n") else
+    when eqb c (byte "t") then good (byte "\t") else
+    when eqb c (byte "\\") then good (byte "\\") else refuse NotPyx
 
 -- values and data, decoded
 unfoldable pub unescape : Bytes → Answer Bytes
 unescape [] = good []
-unescape (c ∷ []) = if eqb c (byte "\\") then refuse NotPyx else good (c ∷ [])
+unescape (c ∷ []) = when eqb c (byte "\\") then refuse NotPyx else good (c ∷ [])
 unescape (c ∷ d ∷ s) =
     elim (eqb c (byte "\\")) [
       | true ↦ escaped d >>= λ e. unescape s >>= λ t. good (e ∷ t)
@@ -69,10 +69,10 @@ read_text ls = each (λ l. unescape (after (ascii "-") l)) ls >>= λ ts. good (t
 unfoldable pub read_lines : List Bytes → Answer Event
 read_lines [] = refuse NotPyx
 read_lines (l ∷ ls) =
-    if begins (ascii "(") l then read_opening l ls else
-    if begins (ascii ")") l then read_closing l else
-    if begins (ascii "-") l then read_text (l ∷ ls) else
-    if begins (ascii "?") l then good instruction else
+    when begins (ascii "(") l then read_opening l ls else
+    when begins (ascii ")") l then read_closing l else
+    when begins (ascii "-") l then read_text (l ∷ ls) else
+    when begins (ascii "?") l then good instruction else
     refuse NotPyx
 
 -- an event's bytes: UTF-8, of characters in XML 1.0 Char, and PYX

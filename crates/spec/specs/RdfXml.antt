@@ -1,6 +1,6 @@
 -- Document 01, "Order in step" and "From events to triples": what an event does to a document.
 use Rattle.std.specs.Prelude.{Bool, ◌&&◌, []}
-use Rattle.spec.specs.Bytes.{Bytes, ascii, if◌then◌else◌, among, is_empty, every, ◌>>=◌, ◌>>◌, require◌or◌}
+use Rattle.spec.specs.Bytes.{Bytes, ascii, when◌then◌else◌, among, is_empty, every, ◌>>=◌, ◌>>◌, require◌or◌}
 use Rattle.spec.specs.Numbers.{Answer, good}
 use Rattle.spec.specs.declared.Refusal.TheVariants.{NotWellFormed, OverLimit, StrayText}
 use Rattle.spec.specs.Pyx.{Event, opening, closing, text, instruction}
@@ -28,7 +28,7 @@ unfoldable pub on_text : Place → Bytes → Doc → Answer Step
 on_text outside s d = (require is_blank s or StrayText) >> good ([], d)
 on_text nodes s d = (require is_blank s or StrayText) >> good ([], d)
 on_text (properties u li) s d = (require is_blank s or StrayText) >> good ([], d)
-on_text nodes_or_text s d = good ([], (if is_blank s then d else with_frames (change_value (takes_text s) d.frames) d))
+on_text nodes_or_text s d = good ([], (when is_blank s then d else with_frames (change_value (takes_text s) d.frames) d))
 on_text xml s d = good ([], add_xml (text_xml s) d)
 
 -- ---- events

@@ -1,7 +1,7 @@
 -- RFC 3986, section 5.2: reference resolution.
 use Rattle.std.specs.Prelude.{Bool, ◌&&◌, ◌||◌, not, [], ◌∷◌, ◌++◌, reverse, ℕ, zero, suc, length, drop}
 use Rattle.std.proofs.Math.Option.{Option, none, some}
-use Rattle.spec.specs.Bytes.{Bytes, ascii, if◌then◌else◌, same, begins, after, up_to, from, among, is_empty, or_else, is_some}
+use Rattle.spec.specs.Bytes.{Bytes, ascii, when◌then◌else◌, same, begins, after, up_to, from, among, is_empty, or_else, is_some}
 use Rattle.spec.specs.Bytes as B
 
 -- the five components (3, and the expression of appendix B)
@@ -14,17 +14,17 @@ pub record Reference : Type 0 where
 
 -- a component that a mark begins: what stands between the mark and the first byte of a set
 unfoldable pub marked : Bytes → Bytes → Bytes → Option Bytes
-marked mark stop s = if begins mark s then some (up_to (among stop) (after mark s)) else none
+marked mark stop s = when begins mark s then some (up_to (among stop) (after mark s)) else none
 
 -- the text behind such a component
 unfoldable pub past : Bytes → Bytes → Bytes → Bytes
-past mark stop s = if begins mark s then from (among stop) (after mark s) else s
+past mark stop s = when begins mark s then from (among stop) (after mark s) else s
 
 -- 3.1: what stands before the first ":", if no "/", "?" or "#" comes before it
 unfoldable pub scheme_of : Bytes → Option Bytes
 scheme_of s =
     let n = up_to (among (ascii ":/?#")) s in
-    if begins (ascii ":") (from (among (ascii ":/?#")) s) && not (is_empty n) then some n else none
+    when begins (ascii ":") (from (among (ascii ":/?#")) s) && not (is_empty n) then some n else none
 
 -- the text behind the scheme and its ":"
 unfoldable pub after_scheme : Option Bytes → Bytes → Bytes
@@ -58,13 +58,13 @@ first_segment (c ∷ s) = c ∷ up_to (among (ascii "/")) s
 -- 5.2.4, step 2, A to E: the input buffer and the output buffer, after one turn
 unfoldable pub turn : Bytes → Bytes → Bytes × Bytes
 turn i o =
-    if begins (ascii "../") i then (drop 3 i, o) else
-    if begins (ascii "./") i then (drop 2 i, o) else
-    if begins (ascii "/./") i then (drop 2 i, o) else
-    if same (ascii "/.") i then (ascii "/", o) else
-    if begins (ascii "/../") i then (drop 3 i, without_last o) else
-    if same (ascii "/..") i then (ascii "/", without_last o) else
-    if same (ascii ".") i || same (ascii "..") i then ([], o) else
+    when begins (ascii "../") i then (drop 3 i, o) else
+    when begins (ascii "./") i then (drop 2 i, o) else
+    when begins (ascii "/./") i then (drop 2 i, o) else
+    when same (ascii "/.") i then (ascii "/", o) else
+    when begins (ascii "/../") i then (drop 3 i, without_last o) else
+    when same (ascii "/..") i then (ascii "/", without_last o) else
+    when same (ascii ".") i || same (ascii "..") i then ([], o) else
     (from (among (ascii "/")) (drop 1 i), o ++ first_segment i)
 
 -- each turn shortens the input buffer, so as many turns as it has bytes are enough
@@ -79,7 +79,7 @@ remove_dot_segments p = turns (length p) p []
 
 -- 5.2.3
 unfoldable pub merge : Reference → Bytes → Bytes
-merge base p = elim base.authority [ none ↦ rest | some a ↦ (if is_empty base.path then ascii "/" ++ p else rest) ]
+merge base p = elim base.authority [ none ↦ rest | some a ↦ (when is_empty base.path then ascii "/" ++ p else rest) ]
   where
     rest : Bytes
     rest = reverse (from (among (ascii "/")) (reverse base.path)) ++ p
@@ -87,10 +87,10 @@ merge base p = elim base.authority [ none ↦ rest | some a ↦ (if is_empty bas
 -- 5.2.2, strict
 unfoldable pub transform : Reference → Reference → Reference
 transform base r =
-    if is_some r.scheme then target r.scheme r.authority (remove_dot_segments r.path) r.query else
-    if is_some r.authority then target base.scheme r.authority (remove_dot_segments r.path) r.query else
-    if is_empty r.path then target base.scheme base.authority base.path (or_else r.query base.query) else
-    if begins (ascii "/") r.path then target base.scheme base.authority (remove_dot_segments r.path) r.query else
+    when is_some r.scheme then target r.scheme r.authority (remove_dot_segments r.path) r.query else
+    when is_some r.authority then target base.scheme r.authority (remove_dot_segments r.path) r.query else
+    when is_empty r.path then target base.scheme base.authority base.path (or_else r.query base.query) else
+    when begins (ascii "/") r.path then target base.scheme base.authority (remove_dot_segments r.path) r.query else
     target base.scheme base.authority (remove_dot_segments (merge base r.path)) r.query
   where
     target : Option Bytes → Option Bytes → Bytes → Option Bytes → Reference

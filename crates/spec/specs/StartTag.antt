@@ -2,7 +2,7 @@
 use Rattle.std.specs.Prelude.{Bool, true, false, ◌&&◌, ◌||◌, not, List, [], ◌∷◌, ◌++◌, ℕ, eqb, leb, length}
 use Rattle.std.proofs.Math.Option.{Option, none, some}
 use Prim.Native.String.{String}
-use Rattle.spec.specs.Bytes.{Bytes, ascii, byte, if◌then◌else◌, same, begins, after, is_empty, every, member, between, or_else, present, ◌>>=◌, ◌>>◌, require◌or◌, each}
+use Rattle.spec.specs.Bytes.{Bytes, ascii, byte, when◌then◌else◌, same, begins, after, is_empty, every, member, between, or_else, present, ◌>>=◌, ◌>>◌, require◌or◌, each}
 use Rattle.spec.specs.Bytes as B
 use Rattle.spec.specs.Numbers.{Answer, refuse, good}
 use Rattle.spec.specs.declared.Refusal.TheVariants.{BadIri, BadLabel, BadLanguage, NoNamespace, NotNcName, RepeatedId, Reserved}
@@ -57,14 +57,14 @@ rdf_roles =
 -- any other name is a property
 unfoldable pub role_among : List (String × Role) → Bytes → Role
 role_among [] i = property
-role_among (r ∷ rs) i = if same i (rdf r.0) then r.1 else role_among rs i
+role_among (r ∷ rs) i = when same i (rdf r.0) then r.1 else role_among rs i
 
 -- by the name as written and the expanded name: names that begin `xml` are not properties
 unfoldable pub role_of : Bytes → Bytes → Role
 role_of n i =
-    if same n (ascii "xml:lang") then xml_lang else
-    if same n (ascii "xml:base") then xml_base else
-    if begins (ascii "xml") n then nothing else role_among rdf_roles i
+    when same n (ascii "xml:lang") then xml_lang else
+    when same n (ascii "xml:base") then xml_base else
+    when begins (ascii "xml") n then nothing else role_among rdf_roles i
 
 -- 13: `riog` and eight digits
 unfoldable pub is_generated : Bytes → Bool
@@ -104,7 +104,7 @@ known n (some i) = (require not (is_empty (prefix_of n)) || begins (ascii "xml")
 -- an attribute judged: 8, then by its role
 unfoldable pub meaning : List Binding → Attribute → Answer Meaning
 meaning bs (attribute n v) =
-    if is_declaration (attribute n v) then good (means nothing n v) else do
+    when is_declaration (attribute n v) then good (means nothing n v) else do
       i ← known n (expand_attribute bs n)
       judge (role_of n i) v
       good (means (role_of n i) i v)
@@ -114,12 +114,12 @@ meaning bs (attribute n v) =
 -- the value of the first attribute in a role
 unfoldable pub first : Role → List Meaning → Option Bytes
 first r [] = none
-first r (means q i v ∷ ms) = if same_role r q then some v else first r ms
+first r (means q i v ∷ ms) = when same_role r q then some v else first r ms
 
 -- the property attributes: IRI and value
 unfoldable pub property_attributes : List Meaning → List (Bytes × Bytes)
 property_attributes [] = []
-property_attributes (means q i v ∷ ms) = if same_role property q then ((i, v) ∷ property_attributes ms) else property_attributes ms
+property_attributes (means q i v ∷ ms) = when same_role property q then ((i, v) ∷ property_attributes ms) else property_attributes ms
 
 -- 11: a reference against a base, or without one an IRI; none stays none
 unfoldable pub resolved : Option Bytes → Option Bytes → Answer (Option Bytes)

@@ -1,7 +1,7 @@
 -- Document 01, xml:lang, as request 2 of document 02 amends it: "xml:lang="" to say that an item has none".
 use Rattle.std.specs.Prelude.{Bool, true, false, map, ℕ, length}
 use Rattle.std.proofs.Math.Option.{Option, none, some}
-use Rattle.spec.specs.Bytes.{Bytes, if◌then◌else◌, is_empty}
+use Rattle.spec.specs.Bytes.{Bytes, when◌then◌else◌, is_empty}
 use Rattle.spec.specs.Abnf.{lower}
 use Rattle.spec.specs.Rfc5646.{is_language_tag}
 use Rattle.spec.specs.Rfc5646 as L
@@ -12,7 +12,7 @@ use Rattle.spec.specs.declared.Verdict.TheVariants.{Good, Clears, Bad}
 
 -- of a value of xml:lang
 unfoldable pub verdict : Bytes → Verdict
-verdict v = if is_empty v then Clears else if is_language_tag v then Good else Bad
+verdict v = when is_empty v then Clears else when is_language_tag v then Good else Bad
 
 -- 10: only a bad one is refused
 unfoldable pub is_allowed : Verdict → Bool

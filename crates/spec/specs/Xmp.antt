@@ -2,7 +2,7 @@
 -- document 01 says, by the same definitions.
 use Rattle.std.specs.Prelude.{Bool, true, false, ◌&&◌, ◌||◌, not, List, [], ◌∷◌, ◌++◌}
 use Rattle.std.proofs.Math.Option.{Option, none, some}
-use Rattle.spec.specs.Bytes.{Bytes, ascii, if◌then◌else◌, same, is_empty, is_some, each, ◌>>◌, require◌or◌}
+use Rattle.spec.specs.Bytes.{Bytes, ascii, when◌then◌else◌, same, is_empty, is_some, each, ◌>>◌, require◌or◌}
 use Rattle.spec.specs.Numbers.{Answer, refuse, good}
 use Rattle.spec.specs.declared.Refusal.TheVariants.{OverLimit}
 use Rattle.spec.specs.Pyx.{Attribute}
@@ -107,8 +107,8 @@ keeps true fs t = keeps_around fs t && has_none_out t
 unfoldable pub new_part : Bool → Place → Bytes → Part
 new_part false p i = ordinary
 new_part true outside i = top_level none
-new_part true nodes i = if same i (rdf "Alt") then alternatives none else ordinary
-new_part true nodes_or_text i = if same i (rdf "Alt") then alternatives none else ordinary
+new_part true nodes i = when same i (rdf "Alt") then alternatives none else ordinary
+new_part true nodes_or_text i = when same i (rdf "Alt") then alternatives none else ordinary
 new_part true (properties s li) i = ordinary
 new_part true xml i = ordinary
 
@@ -117,7 +117,7 @@ unfoldable pub with_child : Tag → Part → Part
 with_child t ordinary = ordinary
 with_child t (top_level none) = top_level t.about
 with_child t (top_level (some a)) = top_level (some a)
-with_child t (alternatives none) = if same t.iri (rdf "li") then alternatives (some (carries t.own_tag)) else alternatives none
+with_child t (alternatives none) = when same t.iri (rdf "li") then alternatives (some (carries t.own_tag)) else alternatives none
 with_child t (alternatives (some b)) = alternatives (some b)
 
 unfoldable pub noted : Bool → Tag → Part → Part

@@ -1,7 +1,7 @@
 -- An attribute by the class of its name: what it is there for, and what is wrong with it.
 use Rattle.std.specs.Prelude.{◌≡◌, refl, Bool, true, false, List, [], ◌++◌, ℕ, ◌<◌}
 use Rattle.std.proofs.Common.{sym, ◌∙◌, append-nil}
-use Rattle.spec.specs.Bytes.{Bytes, ascii, if◌then◌else◌, begins, ◌>>=◌, ◌>>◌, require◌or◌}
+use Rattle.spec.specs.Bytes.{Bytes, ascii, when◌then◌else◌, begins, ◌>>=◌, ◌>>◌, require◌or◌}
 use Rattle.spec.specs.Numbers.{Answer, refuse, good}
 use Rattle.spec.specs.declared.Refusal.TheVariants.{NoNamespace}
 use Rattle.spec.specs.XmlNames.{prefix_of, local_of}
@@ -66,7 +66,7 @@ unprefixed n x false = refl
 
 module _ (e v : List ℕ) (bs : List Binding) (n x : Bytes) {p l : Bytes} where
   pub meaning_by_lem : (c : Class) → Says c e v bs (attribute n x) p → p ≡ prefix_of n → l ≡ local_of n → meaning bs (attribute n x) ≡ meaning_by c n (text_by e v n l c) x
-  unfolding meaning meaning_by check_by known_by role_by text_by known expand_attribute joined judge if◌then◌else◌ ◌>>=◌ ◌>>◌ require◌or◌
+  unfolding meaning meaning_by check_by known_by role_by text_by known expand_attribute joined judge when◌then◌else◌ ◌>>=◌ ◌>>◌ require◌or◌
   meaning_by_lem Declaration h q r = rw h
   meaning_by_lem Unknown h q r = rw (h.other, ← q, h.some, h.is)
   meaning_by_lem Unprefixed h q r = rw (h.0, ← q, h.1, ← q, h.1) (unprefixed n x (begins (ascii "xml") n))

@@ -8,7 +8,7 @@ use Prim.Native.Nat.{ℕ, zero, suc, ◌+◌, ◌<◌, ◌≤◌}
 use native.Mathlib.Omega.{arith}
 use Rattle.std.proofs.Math.Dec.{eqb}
 use Rattle.std.proofs.lemmas.Bool.{eqb-false}
-use Rattle.spec.specs.Bytes.{Bytes, if◌then◌else◌, up_to, is_empty, is_some}
+use Rattle.spec.specs.Bytes.{Bytes, when◌then◌else◌, up_to, is_empty, is_some}
 use Rattle.spec.specs.StartTag.{Role, property, role_number, same_role, Meaning, means, first, property_attributes}
 use Rattle.copy.specs.Copy.{part}
 use Rattle.copy.specs.Texts.{length_up_to}
@@ -41,16 +41,16 @@ part_cons rs j m h = rw (drop-cons rs j 0 h)
 
 module _ {e w v cs rs : List ℕ} {k : ℕ} (h : Roles e w v cs rs k) (r : Role) where
   module _ (j m : ℕ) (l : j < k) (t : Bool) (b : eqb (get_or rs j 0) (role_number r) ≡ t) where
-    found_at : found_from rs r j (suc m) ≡ length (if t then [] else (get_or rs j 0 ∷ up_to (λ c. eqb c (role_number r)) (part rs (suc j) m)))
+    found_at : found_from rs r j (suc m) ≡ length (when t then [] else (get_or rs j 0 ∷ up_to (λ c. eqb c (role_number r)) (part rs (suc j) m)))
     unfolding up_to
     found_at = rw (part_cons rs j m (omega (arith, h.room)), b)
 
-    first_at : first_from e w v cs r j (suc m) ≡ (if t then some (value_at e w j) else first_from e w v cs r (suc j) m)
+    first_at : first_from e w v cs r j (suc m) ≡ (when t then some (value_at e w j) else first_from e w v cs r (suc j) m)
     unfolding places meant_at first same_role
     first_at = rw (turned (role_number (role_at e w v (class_at cs j) j)) (role_number r) t (rw (h.number j l) at b))
 
   some-from : (j m : ℕ) → j + m ≤ k → found_from rs r j m < m → first_from e w v cs r j m ≡ some (value_at e w (j + found_from rs r j m))
-  unfolding if◌then◌else◌
+  unfolding when◌then◌else◌
   some-from j zero l f = absurd (omega arith)
   some-from j (suc m) l f = go (eqb (get_or rs j 0) (role_number r)) refl (some-from (suc j) m (omega arith))
     where
@@ -67,7 +67,7 @@ module _ {e w v cs rs : List ℕ} {k : ℕ} (h : Roles e w v cs rs k) (r : Role)
           first_at j m (omega arith) false b ∙ (more (omega arith) ∙ ap (λ (i : ℕ). some (value_at e w i)) q)
 
   none_from : (j m : ℕ) → j + m ≤ k → m ≤ found_from rs r j m → first_from e w v cs r j m ≡ none
-  unfolding if◌then◌else◌ places first
+  unfolding when◌then◌else◌ places first
   none_from j zero l f = refl
   none_from j (suc m) l f = go (eqb (get_or rs j 0) (role_number r)) refl (none_from (suc j) m (omega arith))
     where
@@ -94,12 +94,12 @@ first_most rs k r = omega (arith, length_up_to (λ c. eqb c (role_number r)) (ta
 -- ---- is there a property attribute?
 
 no_properties : (ms : List Meaning) → is_empty (property_attributes ms) ≡ not (is_some (first property ms))
-unfolding property_attributes first is_some is_empty if◌then◌else◌
+unfolding property_attributes first is_some is_empty when◌then◌else◌
 no_properties [] = refl
 no_properties (means q i x ∷ ms) = go (same_role property q) (no_properties ms)
   where
     go : (t : Bool) → is_empty (property_attributes ms) ≡ not (is_some (first property ms))
-        → is_empty (if t then ((i, x) ∷ property_attributes ms) else property_attributes ms) ≡ not (is_some (if t then some x else first property ms))
+        → is_empty (when t then ((i, x) ∷ property_attributes ms) else property_attributes ms) ≡ not (is_some (when t then some x else first property ms))
     go true h = refl
     go false h = h
 

@@ -10,7 +10,7 @@ use Rattle.std.proofs.Math.Numerals.{add-one}
 use native.Mathlib.Omega.{arith}
 use Rattle.std.proofs.Math.Dec.{eqb}
 use borrow.Author.Tests.{eq-eqb, ne_eqb, eqb-true}
-use Rattle.spec.specs.Bytes.{Bytes, ascii, if◌then◌else◌, same, begins, ◌>>◌, require◌or◌}
+use Rattle.spec.specs.Bytes.{Bytes, ascii, when◌then◌else◌, same, begins, ◌>>◌, require◌or◌}
 use Rattle.spec.specs.Numbers.{good}
 use Rattle.spec.specs.Pyx.{Attribute, attribute}
 use Rattle.spec.specs.Namespaces.{Binding, name_of, xml_name, joined, expand_attribute}
@@ -53,7 +53,7 @@ space_local e w v (Held at n) j h = refl
 
 prefixed : (bs : List Binding) (a : Attribute) {c : ℕ} {x : Bytes} → Split c (name_of a) → Prefixed bs a (front_of c (name_of a)) (some x)
     → expand_attribute bs (name_of a) ≡ some (x ++ back_of c (name_of a))
-unfolding expand_attribute joined if◌then◌else◌
+unfolding expand_attribute joined when◌then◌else◌
 prefixed bs a s y = rw (← s.front, y.some, y.is, s.back)
 
 -- what the definitions expand such a name to
@@ -75,7 +75,7 @@ space_expands {e} {w} {k} {v} {bs} {n} {cs} h s j l q = go (class_at cs j) (h.ea
 
 -- a name that begins `xml` is none
 begins_xml : (n i : Bytes) → begins (ascii "xml") n ≡ true → role_number (role_of n i) < 3
-unfolding role_of role_number if◌then◌else◌
+unfolding role_of role_number when◌then◌else◌
 begins_xml n i h = go (same n (ascii "xml:lang")) refl (same n (ascii "xml:base")) refl
   where
     go : (s : Bool) → same n (ascii "xml:lang") ≡ s → (t : Bool) → same n (ascii "xml:base") ≡ t → role_number (role_of n i) < 3
@@ -101,7 +101,7 @@ property-space e w v (Held at n) j f h = refl
 unfoldable pub properties_from : List ℕ → List ℕ → List ℕ → List ℕ → List ℕ → ℕ → ℕ → List (Bytes × Bytes)
 properties_from e w v cs rs j zero = []
 properties_from e w v cs rs j (suc m) =
-    if eqb (get_or rs j 0) (role_number property) then ((space_at e v cs j ++ local_at e w j, value_at e w j) ∷ properties_from e w v cs rs (suc j) m) else properties_from e w v cs rs (suc j) m
+    when eqb (get_or rs j 0) (role_number property) then ((space_at e v cs j ++ local_at e w j, value_at e w j) ∷ properties_from e w v cs rs (suc j) m) else properties_from e w v cs rs (suc j) m
 
 module _ {e w v cs rs : List ℕ} {k : ℕ} (h : Roles e w v cs rs k) where
   -- the expanded name of a property, as a line is given it
@@ -109,7 +109,7 @@ module _ {e w v cs rs : List ℕ} {k : ℕ} (h : Roles e w v cs rs k) where
   property-name j l q = space_local e w v (class_at cs j) j (property-space e w v (class_at cs j) j (h.fine j l) (sym (h.number j l) ∙ q))
 
   from_places : (j m : ℕ) → j + m ≤ k → property_attributes (map (meant_at e w v cs) (places j m)) ≡ properties_from e w v cs rs j m
-  unfolding places properties_from property_attributes meant_at same_role if◌then◌else◌
+  unfolding places properties_from property_attributes meant_at same_role when◌then◌else◌
   from_places j zero b = refl
   from_places j (suc m) b = go (eqb (get_or rs j 0) (role_number property)) refl (from_places (suc j) m (omega arith))
     where
@@ -129,11 +129,11 @@ module _ (e w v cs rs : List ℕ) (k j : ℕ) where
   rest i = properties_from e w v cs rs i (k - i)
 
   pub property_here : j < k → get_or rs j 0 ≡ role_number property → rest j ≡ (space_at e v cs j ++ local_at e w j, value_at e w j) ∷ rest (j + 1)
-  unfolding properties_from if◌then◌else◌
+  unfolding properties_from when◌then◌else◌
   property_here l q = let s : k - j ≡ suc (k - (j + 1)) = omega arith in rw (s, eq-eqb (get_or rs j 0) (role_number property) q, add-one j)
 
   pub other_here : j < k → (get_or rs j 0 ≡ role_number property → ⊥) → rest j ≡ rest (j + 1)
-  unfolding properties_from if◌then◌else◌
+  unfolding properties_from when◌then◌else◌
   other_here l q = let s : k - j ≡ suc (k - (j + 1)) = omega arith in rw (s, ne_eqb (get_or rs j 0) (role_number property) q, add-one j)
 
   pub properties_end : k ≤ j → rest j ≡ []

@@ -4,7 +4,7 @@ use Rattle.std.proofs.Math.Path.{refl}
 use Rattle.std.proofs.Common.{sym, ◌∙◌}
 use Rattle.std.proofs.lemmas.Bool.{false≢true}
 use Prim.Native.String.{String}
-use Rattle.spec.specs.Bytes.{Bytes, ascii, if◌then◌else◌, same, begins, member}
+use Rattle.spec.specs.Bytes.{Bytes, ascii, when◌then◌else◌, same, begins, member}
 use Rattle.spec.specs.StartTag.{rdf_roles, role_among, role_of}
 use Rattle.spec.specs.StartTag as S
 use Rattle.spec.specs.Rdf.{rdf}
@@ -50,7 +50,7 @@ attribute_role term.Other = Property
 
 -- it is that of the definitions
 other_role : (i : Bytes) (ws : List Bytes) → member i ws ≡ false → (rs : List (String × S.Role)) → all_in (words rs) ws ≡ true → role_among rs i ≡ S.property
-unfolding role_among words all_in if◌then◌else◌
+unfolding role_among words all_in when◌then◌else◌
 other_role i ws h [] a = refl
 other_role i ws h (r ∷ rs) a =
     rw (not_word i ws h (rdf r.0) (and_left (member (rdf r.0) ws) (all_in (words rs) ws) a))
@@ -74,18 +74,18 @@ module _ (n i : Bytes) where
   other u h b = no_true (same n u) λ (q : same n u ≡ true). let e : n ≡ u = same_true n u q in false≢true (sym b ∙ rw e h)
 
   pub by_expanded : begins (ascii "xml") n ≡ false → role_is (attribute_role (term_of i)) ≡ role_of n i
-  unfolding role_of if◌then◌else◌ begins ascii
+  unfolding role_of when◌then◌else◌ begins ascii
   by_expanded b = rw (other (ascii "xml:lang") refl b, other (ascii "xml:base") refl b, b, term_role i)
 
   pub is_lang : same n (ascii "xml:lang") ≡ true → S.xml_lang ≡ role_of n i
-  unfolding role_of if◌then◌else◌
+  unfolding role_of when◌then◌else◌
   is_lang h = rw h
 
   module _ (h : same n (ascii "xml:lang") ≡ false) where
     pub is_base : same n (ascii "xml:base") ≡ true → S.xml_base ≡ role_of n i
-    unfolding role_of if◌then◌else◌
+    unfolding role_of when◌then◌else◌
     is_base b = rw (h, b)
 
     pub is_nothing : same n (ascii "xml:base") ≡ false → begins (ascii "xml") n ≡ true → S.nothing ≡ role_of n i
-    unfolding role_of if◌then◌else◌
+    unfolding role_of when◌then◌else◌
     is_nothing b x = rw (h, b, x)

@@ -5,7 +5,7 @@ use Rattle.std.proofs.Common.{◌∙◌, arith, le-leb, eq-eqb, ne_eqb}
 use Prim.Native.Nat.{ℕ, zero, suc, ◌+◌, ◌-◌, ◌<◌, ◌≤◌}
 use Rattle.std.proofs.Math.ListN.{length-append}
 use Rattle.std.proofs.lemmas.Bool.{lt-leb}
-use Rattle.spec.specs.Bytes.{Bytes, if◌then◌else◌, those, present, every}
+use Rattle.spec.specs.Bytes.{Bytes, when◌then◌else◌, those, present, every}
 use Rattle.spec.specs.Limits.{most_name_bytes}
 use Rattle.spec.specs.XmlNames.{prefix_of, local_of}
 use Rattle.spec.specs.Pyx.{Attribute, attribute}
@@ -20,7 +20,7 @@ use Rattle.start_attributes.specs.Places.{places}
 
 -- of a name whose expanded name is i, where it has one
 unfoldable pub short_by : Class → Bytes → Bool
-short_by c i = if eqb (kind_of c) 2 then leb (length i) most_name_bytes else true
+short_by c i = when eqb (kind_of c) 2 then leb (length i) most_name_bytes else true
 
 unfoldable pub short_at : List ℕ → List ℕ → List ℕ → List ℕ → ℕ → Bool
 short_at e w v cs j = short_by (class_at cs j) (text_at e w v (class_at cs j) j)
@@ -43,13 +43,13 @@ module _ (a b : Bytes) where
 -- ---- the tests of `is_short`, by the kind m of class c
 
 pub short_written : (c : Class) (i : Bytes) {m : ℕ} → m ≡ kind_of c → (m ≡ 2 → ⊥) → true ≡ short_by c i
-unfolding short_by if◌then◌else◌
+unfolding short_by when◌then◌else◌
 short_written c i p h = rw (ne_eqb (kind_of c) 2 (λ z. h (p ∙ z)))
 
 -- its expanded name is in two parts
 pub short_expanded : (e w v : List ℕ) (j : ℕ) (c : Class) {m : ℕ} {s n : Bytes} {r : Bool} → m ≡ kind_of c → m ≡ 2 → s ≡ space_by e v xml_name c → n ≡ tail_at e w c j
     → r ≡ leb (length (s ++ n)) most_name_bytes → r ≡ short_by c (text_at e w v c j)
-unfolding short_by if◌then◌else◌
+unfolding short_by when◌then◌else◌
 short_expanded e w v j c p h x y q = q ∙ rw (x, y, eq-eqb (kind_of c) 2 (sym p ∙ h), two_parts e w v c j)
 
 -- the test of `names_short`: c is the class that was loaded
@@ -62,7 +62,7 @@ short_test e w v cs j p h = rw (← p) (sym h)
 module _ (e v : List ℕ) (bs : List Binding) (a : Attribute) (as' : List Attribute) {p l : Bytes} where
   short_by_lem : (c : Class) → Says c e v bs a p → p ≡ prefix_of (name_of a) → l ≡ local_of (name_of a)
       → all_short (expanded_names bs (a ∷ as')) ≡ (short_by c (text_by e v (name_of a) l c) && all_short (expanded_names bs as'))
-  unfolding expanded_names those present all_short short_by text_by expand_attribute joined if◌then◌else◌
+  unfolding expanded_names those present all_short short_by text_by expand_attribute joined when◌then◌else◌
   short_by_lem Declaration h q r = rw h
   short_by_lem Unknown h q r = rw (h.other, ← q, h.some, h.is)
   short_by_lem Unprefixed h q r = rw (h.0, ← q, h.1)

@@ -7,7 +7,7 @@ use Rattle.std.proofs.lemmas.Bool.{false≢true, eqb-false}
 use mathlib.Core.List.{List, [], ◌∷◌, ◌++◌, map}
 use Prim.Native.String.{String}
 use Rattle.std.proofs.Math.ListN.{length}
-use Rattle.spec.specs.Bytes.{Bytes, ascii, if◌then◌else◌, same, begins, member}
+use Rattle.spec.specs.Bytes.{Bytes, ascii, when◌then◌else◌, same, begins, member}
 use Rattle.spec.specs.Rdf.{rdf}
 use Rattle.spec.proofs.Booleans.{no_true, and_left, and_right}
 use Rattle.copy.specs.Texts.{same_true, same-lengths, begins-length}
@@ -22,7 +22,7 @@ vocabulary =
 
 -- t where the name l is w
 unfoldable pub if_named : Bytes → Bytes → RdfTerm → RdfTerm → RdfTerm
-if_named l w t e = if same l w then t else e
+if_named l w t e = when same l w then t else e
 
 -- the term of a name, each word written so
 unfoldable pub term_among : (String → Bytes) → List (String × RdfTerm) → Bytes → RdfTerm
@@ -48,7 +48,7 @@ terms (r ∷ rs) = r.1 ∷ terms rs
 
 module _ {A : Type 0} (f : Bytes → A) (g : RdfTerm → A) (i : Bytes) where
   by_words : (rs : List (String × RdfTerm)) → map f (words rs) ≡ map g (terms rs) → (member i (words rs) ≡ false → f i ≡ g Other) → f i ≡ g (term_among rdf rs i)
-  unfolding term_among if_named words terms member if◌then◌else◌
+  unfolding term_among if_named words terms member when◌then◌else◌
   by_words [] e n = n refl
   by_words (r ∷ rs) e n = go (same i (rdf r.0)) refl (cc e) λ m. by_words rs (cc e) m
     where
@@ -89,7 +89,7 @@ in_space n = refl
 -- i is a name of the namespace where x is its local part, and else it is none
 module _ (i : Bytes) where
   outside : (rs : List (String × RdfTerm)) → ((n : String) → same i (rdf_space ++ ascii n) ≡ false) → Other ≡ term_among rdf rs i
-  unfolding term_among if_named if◌then◌else◌
+  unfolding term_among if_named when◌then◌else◌
   outside [] h = refl
   outside (r ∷ rs) h = rw (in_space r.0, h r.0) (outside rs h)
 
@@ -160,10 +160,10 @@ front_empty (x ∷ a) b n h = absurd (omega arith)
 
 unfoldable pub of_length : ℕ → List (String × RdfTerm) → List (String × RdfTerm)
 of_length n [] = []
-of_length n (r ∷ rs) = if eqb n (length (ascii r.0)) then r ∷ of_length n rs else of_length n rs
+of_length n (r ∷ rs) = when eqb n (length (ascii r.0)) then r ∷ of_length n rs else of_length n rs
 
 of_length_lem : (n : ℕ) (l : Bytes) → length l ≡ n → (rs : List (String × RdfTerm)) → term_among ascii (of_length n rs) l ≡ term_among ascii rs l
-unfolding term_among if_named of_length if◌then◌else◌
+unfolding term_among if_named of_length when◌then◌else◌
 of_length_lem n l h [] = refl
 of_length_lem n l h (r ∷ rs) = go (eqb n (length (ascii r.0))) refl (of_length_lem n l h rs)
   where
@@ -173,7 +173,7 @@ of_length_lem n l h (r ∷ rs) = go (eqb n (length (ascii r.0))) refl (of_length
 
 of_no_length : (n : ℕ) (l : Bytes) → (n ≡ 2 → ⊥) → (n ≡ 3 → ⊥) → (n ≡ 4 → ⊥) → (n ≡ 5 → ⊥) → (n ≡ 6 → ⊥) → (n ≡ 8 → ⊥) → (n ≡ 9 → ⊥) → (n ≡ 11 → ⊥) → (n ≡ 15 → ⊥)
     → Other ≡ term_among ascii (of_length n vocabulary) l
-unfolding term_among of_length vocabulary if◌then◌else◌ ascii
+unfolding term_among of_length vocabulary when◌then◌else◌ ascii
 of_no_length n l a b c d e f g h i =
     rw (ne_eqb n 2 a, ne_eqb n 3 b, ne_eqb n 4 c, ne_eqb n 5 d, ne_eqb n 6 e, ne_eqb n 8 f, ne_eqb n 9 g, ne_eqb n 11 h, ne_eqb n 15 i)
 

@@ -6,7 +6,7 @@ use Rattle.std.proofs.lemmas.Bool.{false≢true}
 use mathlib.Core.List.{List, [], ◌∷◌}
 use native.Mathlib.Omega.{arith}
 use Rattle.std.proofs.Math.ListN.{length}
-use Rattle.spec.specs.Bytes.{Bytes, if◌then◌else◌, size_of, total}
+use Rattle.spec.specs.Bytes.{Bytes, when◌then◌else◌, size_of, total}
 use Rattle.spec.specs.Limits as L
 use Rattle.spec.specs.Namespaces.{declared}
 use Rattle.spec.specs.NTriples.{Subject, named}
@@ -347,7 +347,7 @@ counts-rdf {r} {fs} {gs} {hs} y c t h =
 -- a child that is not counted
 module _ (i : Bytes) where
   not_counted : (q : Kind) (f : Frame) (w : List ℕ) (s : Subject) → (same_kind q NodeElt ≡ true → is_li i ≡ false) → (same_kind q Wrapper ≡ true → ⊥) → counted i (what_of q f w s) ≡ what_of q f w s
-  unfolding counted what_of if◌then◌else◌
+  unfolding counted what_of when◌then◌else◌
   not_counted Rdf f w s n o = refl
   not_counted NodeElt f w s n o = rw (n refl)
   not_counted PropertyElt f w s n o = refl

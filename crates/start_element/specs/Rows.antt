@@ -5,7 +5,7 @@ use Rattle.std.proofs.Math.Bool.{true}
 use Rattle.std.proofs.lemmas.Bool.{false≢true}
 use Rattle.std.proofs.Math.ListN.{length}
 use Rattle.spec.specs.Limits as L
-use Rattle.spec.specs.Bytes.{Bytes, ascii, if◌then◌else◌, those, after, total}
+use Rattle.spec.specs.Bytes.{Bytes, ascii, when◌then◌else◌, those, after, total}
 use Rattle.spec.specs.Pyx.{Attribute}
 use Rattle.spec.specs.Namespaces.{Binding, is_declaration, declares, declared}
 use Rattle.spec.specs.Document.{binding_bytes}
@@ -79,10 +79,10 @@ module _ {w bs v cs : List ℕ} {p q : Next} {bound : List Binding} (h : Entered
 
 -- one attribute more in front
 entered_more : {w bs v cs x ds : List ℕ} {p q u : Next} (a : Attribute) (as' : List Attribute) → Entered w bs v cs p q (declared as') → BindsAt v cs x ds a q u → Entered w bs x ds p u (declared (a ∷ as'))
-unfolding declared those if◌then◌else◌
+unfolding declared those when◌then◌else◌
 entered_more {w} {bs} {v} {cs} {x} {ds} {p} {q} {u} a as' h b = go (is_declaration a) refl
   where
-    go : (t : Bool) → is_declaration a ≡ t → Entered w bs x ds p u (map declares (if t then (a ∷ those is_declaration as') else those is_declaration as'))
+    go : (t : Bool) → is_declaration a ≡ t → Entered w bs x ds p u (map declares (when t then (a ∷ those is_declaration as') else those is_declaration as'))
     go true d = rw (b.moved d) (entered-one h (b.put d))
     go false d = let o = b.other d in rw (o.0, o.1, o.2) h
 

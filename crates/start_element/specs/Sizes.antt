@@ -6,7 +6,7 @@ use Rattle.std.proofs.Math.Bool.{true, false}
 use mathlib.Core.List.{List, ◌∷◌, map}
 use native.Mathlib.Omega.{arith}
 use Rattle.std.proofs.Math.ListN.{length, length-drop}
-use Rattle.spec.specs.Bytes.{Bytes, ascii, if◌then◌else◌, those, after, size_of, total}
+use Rattle.spec.specs.Bytes.{Bytes, ascii, when◌then◌else◌, those, after, size_of, total}
 use Rattle.spec.specs.Pyx.{Attribute}
 use Rattle.spec.specs.Namespaces.{is_declaration, declares, declared}
 use Rattle.spec.specs.NTriples.{Subject, named, blank}
@@ -59,21 +59,21 @@ module _ {e a : List ℕ} (x : Short e a) where
 
 -- of one attribute
 unfoldable pub bytes_in : Attribute → ℕ
-bytes_in a = if is_declaration a then binding_bytes (declares a) else 0
+bytes_in a = when is_declaration a then binding_bytes (declares a) else 0
 
 module _ (e w : List ℕ) (j : ℕ) where
   pub no_bytes : is_declaration (attribute_at e w j) ≡ false → 0 ≡ bytes_in (attribute_at e w j)
-  unfolding bytes_in if◌then◌else◌
+  unfolding bytes_in when◌then◌else◌
   no_bytes h = rw h
 
   -- n is its name, p the prefix that it binds, v its value
   pub these_bytes : {n p v : Bytes} → is_declaration (attribute_at e w j) ≡ true → n ≡ name_at e w j → p ≡ after (ascii "xmlns:") n → v ≡ value_at e w j
       → length p + length v ≡ bytes_in (attribute_at e w j)
-  unfolding bytes_in if◌then◌else◌ binding_bytes
+  unfolding bytes_in when◌then◌else◌ binding_bytes
   these_bytes h x y z = rw (h, ← binding e w j h x y z)
 
   pub few_bytes : length e ≤ 65_536 → bytes_in (attribute_at e w j) ≤ 131_072
-  unfolding bytes_in if◌then◌else◌ binding_bytes declares attribute_at name_at value_at
+  unfolding bytes_in when◌then◌else◌ binding_bytes declares attribute_at name_at value_at
   few_bytes h =
       go (is_declaration (attribute_at e w j))
     where
@@ -83,15 +83,15 @@ module _ (e w : List ℕ) (j : ℕ) where
           let d = length-drop (length (ascii "xmlns:")) (name_at e w j) in
           omega (arith, part_short e (start_at w j) (size_at w j), part_short e (start_at w j + size_at w j) (value_size_at w j))
 
-      go : (t : Bool) → (if t then binding_bytes (declares (attribute_at e w j)) else 0) ≤ 131_072
+      go : (t : Bool) → (when t then binding_bytes (declares (attribute_at e w j)) else 0) ≤ 131_072
       go true = short
       go false = omega arith
 
 pub declared_bytes : (a : Attribute) (as' : List Attribute) → total binding_bytes (declared (a ∷ as')) ≡ bytes_in a + total binding_bytes (declared as')
-unfolding declared those bytes_in if◌then◌else◌ total
+unfolding declared those bytes_in when◌then◌else◌ total
 declared_bytes a as' = go (is_declaration a)
   where
-    go : (t : Bool) → total binding_bytes (map declares (if t then (a ∷ those is_declaration as') else those is_declaration as')) ≡ (if t then binding_bytes (declares a) else 0) + total binding_bytes (declared as')
+    go : (t : Bool) → total binding_bytes (map declares (when t then (a ∷ those is_declaration as') else those is_declaration as')) ≡ (when t then binding_bytes (declares a) else 0) + total binding_bytes (declared as')
     go true = refl
     go false = omega arith
 

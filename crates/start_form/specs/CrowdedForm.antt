@@ -1,7 +1,7 @@
 -- Is a start tag well-formed where it stands? By the registers, the frame on top, and the words of its attributes.
 use Rattle.std.specs.Prelude.{ℕ, zero, suc, ◌+◌, ◌/◌, ◌≤◌, ◌≡◌, refl, Bool, true, false, ◌&&◌, not, List, [], ◌∷◌, eqb, length}
 use Rattle.std.proofs.Common.{sym, ◌∙◌, zero-add, arith, ne_eqb, le-leb}
-use Rattle.spec.specs.Bytes.{Bytes, if◌then◌else◌, is_empty}
+use Rattle.spec.specs.Bytes.{Bytes, when◌then◌else◌, is_empty}
 use Rattle.spec.specs.NTriples.{Subject}
 use Rattle.spec.specs.Namespaces.{declared, all_legal, repeats_written}
 use Rattle.spec.specs.Document.{Frame, place_in}
@@ -74,11 +74,11 @@ module _ {r : Registers} {fs bs w : List ℕ} (e v : List ℕ) (k : ℕ) {p : Pl
   xml_read x = rw (place_read x, ← a) (place_xml p (subject_of (top_of r fs) w) (count (top_of r fs)) ∙ sym q)
 
   pub repeats-written : i ≡ true → {b : Bool} → b ≡ repeats_written (attributes_of e v k) → Repeats b r fs bs w e v k
-  unfolding repeated if◌then◌else◌
+  unfolding repeated when◌then◌else◌
   repeats-written t h = record { is = λ x ids. rw (xml_read x, t) h }
 
   pub repeats_expanded_lem : i ≡ false → Splits e v k → {b : Bool} → Finds e v k w bs r.counts.bindings b → Repeats b r fs bs w e v k
-  unfolding repeated if◌then◌else◌ doc_of scope
+  unfolding repeated when◌then◌else◌ doc_of scope
   repeats_expanded_lem t s f = record { is = λ x ids. rw (xml_read x, t, in_scope_lem x) (f.is ∙ expanded_means f.are s) }
 
 -- ---- few attributes: each is compared with each

@@ -2,7 +2,7 @@
 use Rattle.std.specs.Prelude.{ℕ, ◌≡◌, refl, Bool, true, false, List, [], ◌∷◌, ◌++◌}
 use Rattle.std.proofs.Common.{sym, ◌∙◌}
 use Rattle.std.proofs.lemmas.Bool.{false≢true}
-use Rattle.spec.specs.Bytes.{Bytes, if◌then◌else◌, is_empty, ◌>>=◌, ◌>>◌, require◌or◌}
+use Rattle.spec.specs.Bytes.{Bytes, when◌then◌else◌, is_empty, ◌>>=◌, ◌>>◌, require◌or◌}
 use Rattle.spec.specs.Numbers.{Answer, refuse, good}
 use Rattle.spec.specs.declared.Refusal.{Refusal}
 use Rattle.spec.specs.declared.Refusal.TheVariants.{NotWellFormed, OverLimit}
@@ -25,7 +25,7 @@ production_in xml t n = open_node t n
 -- a start tag that does not open the wrapper
 by_production : (p : Place) → is_xml p ≡ false → (n : Bytes) (as' : List Attribute) (d : Doc) → starts_wrapper d.mode.xmp n as' d.frames ≡ false
     → open_in p n as' d ≡ open_element (production_in p) n as' d
-unfolding open_in is_xml production_in open_element if◌then◌else◌
+unfolding open_in is_xml production_in open_element when◌then◌else◌
 by_production outside h n as' d o = rw o
 by_production nodes h n as' d o = refl
 by_production nodes_or_text h n as' d o = refl
@@ -57,7 +57,7 @@ pub record WellFormed (p : Place) (n : Bytes) (as' : List Attribute) (d : Doc) :
 
 not_repeated : {p : Place} {n : Bytes} {as' : List Attribute} {d : Doc} {t : Bool} → Starts p n as' d → repeats_expanded (declared as' ++ in_scope d.frames) as' ≡ t
     → repeated (place_in d.frames) as' d ≡ t
-unfolding repeated if◌then◌else◌
+unfolding repeated when◌then◌else◌
 not_repeated s h = rw (s.at, s.outer) h
 
 module _ {p : Place} {n : Bytes} {as' : List Attribute} {d : Doc} (s : Starts p n as' d) where
@@ -82,7 +82,7 @@ module _ {p : Place} {n : Bytes} {as' : List Attribute} {d : Doc} (w : WellForme
 
   -- the wrapper of a packet
   pub opens_wrapper : counts_fit as' d.frames ≡ true → starts_wrapper d.mode.xmp n as' d.frames ≡ true → on_opening n as' d ≡ open_wrapper n as' d
-  unfolding on_opening open_in ◌>>◌ require◌or◌ if◌then◌else◌
+  unfolding on_opening open_in ◌>>◌ require◌or◌ when◌then◌else◌
   opens_wrapper c h = rw (w.first, w.legal, not_repeated w.starts w.once, c, wrapper-outside d.mode.xmp n as' d.frames h, h)
 
   module _ (c : counts_fit as' d.frames ≡ true) (other : starts_wrapper d.mode.xmp n as' d.frames ≡ false) where

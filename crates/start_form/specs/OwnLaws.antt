@@ -4,7 +4,7 @@ use Rattle.std.proofs.Math.Path.{sym}
 use Rattle.std.proofs.Common.{◌∙◌, zero-add, add-one, arith, drop-drop, leb-true, leb-false}
 use Rattle.std.proofs.Math.Option.{none, some}
 use Rattle.std.proofs.Math.Seq.{take-nil}
-use Rattle.spec.specs.Bytes.{Bytes, ascii, if◌then◌else◌, same, those, or_else}
+use Rattle.spec.specs.Bytes.{Bytes, ascii, when◌then◌else◌, same, those, or_else}
 use Rattle.spec.specs.Pyx.{Attribute}
 use Rattle.spec.specs.Namespaces.{Binding, is_declaration, declares, declared, look_up, namespace, xml_name}
 use Rattle.copy.specs.Copy.{part}
@@ -66,11 +66,11 @@ row-declares e w j =
 
 module _ (a : Attribute) (as' : List Attribute) where
   declared-one : is_declaration a ≡ true → declared (a ∷ as') ≡ declares a ∷ declared as'
-  unfolding declared those if◌then◌else◌
+  unfolding declared those when◌then◌else◌
   declared-one h = rw h
 
   declared-other : is_declaration a ≡ false → declared (a ∷ as') ≡ declared as'
-  unfolding declared those if◌then◌else◌
+  unfolding declared those when◌then◌else◌
   declared-other h = rw h
 
 -- rows below a change stay
@@ -135,23 +135,23 @@ module _ {e w : List ℕ} {k : ℕ} {rs ss : List ℕ} {d j : ℕ} (o : Owning e
 -- ---- own bindings first, then those of the open elements
 
 look_append : (p : Bytes) (xs ys : List Binding) → look_up p (xs ++ ys) ≡ or_else (look_up p xs) (look_up p ys)
-unfolding look_up or_else if◌then◌else◌
+unfolding look_up or_else when◌then◌else◌
 look_append p [] ys = refl
 look_append p (x ∷ xs) ys = go (same p x.0) (look_append p xs ys)
   where
     go : (t : Bool) → look_up p (xs ++ ys) ≡ or_else (look_up p xs) (look_up p ys)
-        → (if t then some x.1 else look_up p (xs ++ ys))
-        ≡ or_else (if t then some x.1 else look_up p xs) (look_up p ys)
+        → (when t then some x.1 else look_up p (xs ++ ys))
+        ≡ or_else (when t then some x.1 else look_up p xs) (look_up p ys)
     go true h = refl
     go false h = h
 
 namespace-append : (p : Bytes) (xs ys : List Binding)
     → namespace (xs ++ ys) p ≡ or_else (namespace xs p) (namespace ys p)
-unfolding namespace or_else if◌then◌else◌
+unfolding namespace or_else when◌then◌else◌
 namespace-append p xs ys = go (same p (ascii "xml"))
   where
-    go : (t : Bool) → (if t then some xml_name else look_up p (xs ++ ys))
-        ≡ or_else (if t then some xml_name else look_up p xs) (if t then some xml_name else look_up p ys)
+    go : (t : Bool) → (when t then some xml_name else look_up p (xs ++ ys))
+        ≡ or_else (when t then some xml_name else look_up p xs) (when t then some xml_name else look_up p ys)
     go true = refl
     go false = look_append p xs ys
 

@@ -4,7 +4,7 @@ use Rattle.std.proofs.Common.{sym, ◌∙◌, add-one, arith}
 use Rattle.std.proofs.Math.Option.{none, some}
 use mathlib.Core.List.{List, [], ◌∷◌, ◌++◌, append_assoc, append-nil}
 use Rattle.std.proofs.Math.ListN.{get_or-eq_default}
-use Rattle.spec.specs.Bytes.{Bytes, ascii, if◌then◌else◌, same}
+use Rattle.spec.specs.Bytes.{Bytes, ascii, when◌then◌else◌, same}
 use Rattle.spec.specs.NTriples.{Subject, named, node, Triple, triple, line, write}
 use Rattle.spec.specs.Rdf.{rdf}
 use Rattle.spec.specs.Namespaces.{xml_name}
@@ -67,11 +67,11 @@ role_none rs j h = rw (get_or-eq_default rs 0 {n = j} h)
 
 module _ (e w v cs rs : List ℕ) (j : ℕ) where
   not_one : eqb (get_or rs j 0) (role_number property) ≡ false → properties_from e w v cs rs j 1 ≡ []
-  unfolding properties_from if◌then◌else◌
+  unfolding properties_from when◌then◌else◌
   not_one h = rw h
 
   one : eqb (get_or rs j 0) (role_number property) ≡ true → properties_from e w v cs rs j 1 ≡ (space_at e v cs j ++ local_at e w j, value_at e w j) ∷ []
-  unfolding properties_from if◌then◌else◌
+  unfolding properties_from when◌then◌else◌
   one h = rw h
 
 -- the tests of `emit_property_attr`; c is the class that was loaded, n its namespace
@@ -99,7 +99,7 @@ pub record Emitting (on : Bool) (d f : List ℕ) (at to : ℕ) (s : Subject) (l 
   pub put : Put on d f at to bytes
 
 rest-split : (e w v cs rs : List ℕ) (k j : ℕ) → j < k → properties_from e w v cs rs j (k - j) ≡ properties_from e w v cs rs j 1 ++ properties_from e w v cs rs (j + 1) (k - (j + 1))
-unfolding properties_from if◌then◌else◌
+unfolding properties_from when◌then◌else◌
 rest-split e w v cs rs k j h = let s : k - j ≡ suc (k - (j + 1)) = omega arith in rw (s, add-one j) (go (eqb (get_or rs j 0) (role_number property)) refl)
   where
     go : (t : Bool) → eqb (get_or rs j 0) (role_number property) ≡ t
@@ -142,10 +142,10 @@ module _ {on : Bool} {d : List ℕ} {at : ℕ} (s : Subject) {t : Bool} (i : Byt
 
 -- the type of a node element, unless it is rdf:Description
 pub element_type_lem : (i : Bytes) {x : Bool} → x ≡ not (same i (rdf "Description")) → given x i ≡ element_type i
-unfolding given element_type if◌then◌else◌
+unfolding given element_type when◌then◌else◌
 element_type_lem i q = rw q (go (same i (rdf "Description")))
   where
-    go : (t : Bool) → given (not t) i ≡ (if t then none else some i)
+    go : (t : Bool) → given (not t) i ≡ (when t then none else some i)
     go true = refl
     go false = refl
 

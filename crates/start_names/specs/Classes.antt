@@ -7,7 +7,7 @@ use Rattle.std.proofs.Math.Option.{Option, none, some}
 use mathlib.Core.List.{List, [], ◌∷◌, ◌++◌, map}
 use Prim.Native.Nat.{ℕ, zero, suc, ◌+◌, ◌*◌, ◌/◌, ◌<◌, ◌≤◌}
 use borrow.Author.Tests.{le-leb, lt-leb, eq-eqb, ne_eqb, eqb-true}
-use Rattle.spec.specs.Bytes.{Bytes, if◌then◌else◌, same, is_empty, is_some}
+use Rattle.spec.specs.Bytes.{Bytes, when◌then◌else◌, same, is_empty, is_some}
 use Rattle.spec.specs.XmlNames.{prefix_of, local_of}
 use Rattle.spec.specs.Pyx.{Attribute, attribute}
 use Rattle.spec.specs.Namespaces.{Binding, name_of, xml_name, is_declaration, declared, namespace, joined, expand_attribute, is_known, repeats_expanded}
@@ -251,7 +251,7 @@ same_keys e w v cs j i = same_key (key_at e w v cs j) (key_at e w v cs i)
 
 pub says_key : (e v : List ℕ) (bs : List Binding) (a : Attribute) {p l : Bytes} (c : Class)
     → Says c e v bs a p → p ≡ prefix_of (name_of a) → l ≡ local_of (name_of a) → (kind_of c, text_by e v (name_of a) l c) ≡ key_of bs a
-unfolding key_of keyed text_by expand_attribute joined if◌then◌else◌
+unfolding key_of keyed text_by expand_attribute joined when◌then◌else◌
 says_key e v bs a Declaration h p l = rw h
 says_key e v bs a Unprefixed h p l = rw (h.0, ← p, h.1)
 says_key e v bs a Unknown h p l = rw (h.other, ← p, h.some, h.is)
@@ -293,7 +293,7 @@ expanded_by e v n l (Held at m) = some (part v at m ++ l)
 module _ (e v : List ℕ) (bs : List Binding) (a : Attribute) {p : Bytes} where
   pub class_expands : {l : Bytes} (c : Class) → Says c e v bs a p → p ≡ prefix_of (name_of a) → l ≡ local_of (name_of a) → is_declaration a ≡ false
       → expand_attribute bs (name_of a) ≡ expanded_by e v (name_of a) l c
-  unfolding expand_attribute expanded_by joined if◌then◌else◌
+  unfolding expand_attribute expanded_by joined when◌then◌else◌
   class_expands Declaration h q r d = absurd (false≢true (sym d ∙ h))
   class_expands Unprefixed h q r d = rw (← q, h.1)
   class_expands Unknown h q r d = rw (← q, h.some, h.is)

@@ -6,7 +6,7 @@ use Rattle.std.proofs.Math.Bool.{true, false}
 use mathlib.Core.List.{List, [], ◌∷◌, ◌++◌, map}
 use native.Mathlib.Omega.{arith}
 use Rattle.std.proofs.Math.ListN.{length}
-use Rattle.spec.specs.Bytes.{Bytes, ascii, if◌then◌else◌, same, begins, after, those, is_empty}
+use Rattle.spec.specs.Bytes.{Bytes, ascii, when◌then◌else◌, same, begins, after, those, is_empty}
 use Rattle.spec.specs.Pyx.{Attribute, attribute}
 use Rattle.spec.specs.Namespaces.{is_declaration, declares, declared, is_legal, all_legal, xml_name, xmlns_name}
 use Rattle.copy.specs.Texts.{after_drop}
@@ -53,27 +53,27 @@ no_bytes (b ∷ s) = ne_eqb (suc (length s)) 0 (λ (h : suc (length s) ≡ 0). o
 
 module _ (p ns : Bytes) where
   pub of_xml : same p (ascii "xml") ≡ true → same ns xml_name ≡ is_legal (p, ns)
-  unfolding is_legal if◌then◌else◌
+  unfolding is_legal when◌then◌else◌
   of_xml h = rw h
 
   module _ (x : same p (ascii "xml") ≡ false) where
     pub of_xmlns : same p (ascii "xmlns") ≡ true → false ≡ is_legal (p, ns)
-    unfolding is_legal if◌then◌else◌
+    unfolding is_legal when◌then◌else◌
     of_xmlns h = rw (x, h)
 
     module _ (y : same p (ascii "xmlns") ≡ false) where
       pub as_xml : same ns xml_name ≡ true → false ≡ is_legal (p, ns)
-      unfolding is_legal if◌then◌else◌
+      unfolding is_legal when◌then◌else◌
       as_xml h = rw (x, y, h)
 
       module _ (z : same ns xml_name ≡ false) where
         pub as_xmlns : same ns xmlns_name ≡ true → false ≡ is_legal (p, ns)
-        unfolding is_legal if◌then◌else◌
+        unfolding is_legal when◌then◌else◌
         as_xmlns h = rw (x, y, z, h)
 
         module _ (u : same ns xmlns_name ≡ false) where
           left : (is_empty p || not (is_empty ns)) ≡ is_legal (p, ns)
-          unfolding is_legal if◌then◌else◌
+          unfolding is_legal when◌then◌else◌
           left = rw (x, y, z, u)
 
           pub default_any : length p ≡ 0 → true ≡ is_legal (p, ns)
@@ -88,10 +88,10 @@ unfoldable pub binds_to : Bytes → Attribute → Bool
 binds_to p a = is_declaration a && same p (declares a).0
 
 unfoldable pub legal : Attribute → Bool
-legal a = if is_declaration a then is_legal (declares a) else true
+legal a = when is_declaration a then is_legal (declares a) else true
 
 unfoldable pub bindings_in : Attribute → ℕ
-bindings_in a = if is_declaration a then 1 else 0
+bindings_in a = when is_declaration a then 1 else 0
 
 module _ (e w : List ℕ) (j : ℕ) where
   -- what `is_declaration` says of the name of attribute j
@@ -101,11 +101,11 @@ module _ (e w : List ℕ) (j : ℕ) where
 
   module _ (h : is_declaration (attribute_at e w j) ≡ false) where
     pub legal-other : true ≡ legal (attribute_at e w j)
-    unfolding legal if◌then◌else◌
+    unfolding legal when◌then◌else◌
     legal-other = rw h
 
     pub no_binding : 0 ≡ bindings_in (attribute_at e w j)
-    unfolding bindings_in if◌then◌else◌
+    unfolding bindings_in when◌then◌else◌
     no_binding = rw h
 
     pub binds_none : (p : Bytes) → false ≡ binds_to p (attribute_at e w j)
@@ -114,7 +114,7 @@ module _ (e w : List ℕ) (j : ℕ) where
 
   module _ (h : is_declaration (attribute_at e w j) ≡ true) where
     pub one_binding : 1 ≡ bindings_in (attribute_at e w j)
-    unfolding bindings_in if◌then◌else◌
+    unfolding bindings_in when◌then◌else◌
     one_binding = rw h
 
     -- n is its name, d what it binds, v its value
@@ -125,7 +125,7 @@ module _ (e w : List ℕ) (j : ℕ) where
       binding r = rw (q, p, r)
 
       pub legal-declared : {v : Bytes} → v ≡ value_at e w j → is_legal (d, v) ≡ legal (attribute_at e w j)
-      unfolding legal if◌then◌else◌
+      unfolding legal when◌then◌else◌
       legal-declared r = rw (h, binding r)
 
       pub binds_declared : (o : Bytes) → same o d ≡ binds_to o (attribute_at e w j)
@@ -134,18 +134,18 @@ module _ (e w : List ℕ) (j : ℕ) where
 
 module _ (a : Attribute) (as' : List Attribute) where
   all_legal_more : all_legal (declared (a ∷ as')) ≡ (legal a && all_legal (declared as'))
-  unfolding declared those all_legal legal if◌then◌else◌
+  unfolding declared those all_legal legal when◌then◌else◌
   all_legal_more = go (is_declaration a)
     where
-      go : (t : Bool) → all_legal (map declares (if t then (a ∷ those is_declaration as') else those is_declaration as')) ≡ ((if t then is_legal (declares a) else true) && all_legal (declared as'))
+      go : (t : Bool) → all_legal (map declares (when t then (a ∷ those is_declaration as') else those is_declaration as')) ≡ ((when t then is_legal (declares a) else true) && all_legal (declared as'))
       go true = refl
       go false = refl
 
   pub declared_more : length (declared (a ∷ as')) ≡ bindings_in a + length (declared as')
-  unfolding declared those bindings_in if◌then◌else◌
+  unfolding declared those bindings_in when◌then◌else◌
   declared_more = go (is_declaration a)
     where
-      go : (t : Bool) → length (map declares (if t then (a ∷ those is_declaration as') else those is_declaration as')) ≡ (if t then 1 else 0) + length (declared as')
+      go : (t : Bool) → length (map declares (when t then (a ∷ those is_declaration as') else those is_declaration as')) ≡ (when t then 1 else 0) + length (declared as')
       go true = omega arith
       go false = omega arith
 
@@ -184,10 +184,10 @@ counted-begins {e} {w} {k} =
     record { upto = omega arith; few = omega arith; rest = omega (arith, ap (λ (x : List Attribute). length (declared x)) (attributes_all e w k)) }
 
 pub at_most_one : (a : Attribute) → bindings_in a ≤ 1
-unfolding bindings_in if◌then◌else◌
+unfolding bindings_in when◌then◌else◌
 at_most_one a = go (is_declaration a)
   where
-    go : (t : Bool) → (if t then 1 else 0) ≤ 1
+    go : (t : Bool) → (when t then 1 else 0) ≤ 1
     go true = omega arith
     go false = omega arith
 
@@ -206,12 +206,12 @@ module _ {e w : List ℕ} {k j n : ℕ} (h : Counted e w k j n) where
 -- ---- the loop of `declaring`: from attribute i on there is no declaration
 
 none_more : (as' : List Attribute) (a : Attribute) → is_declaration a ≡ false → declared (as' ++ (a ∷ [])) ≡ declared as'
-unfolding declared those if◌then◌else◌
+unfolding declared those when◌then◌else◌
 none_more [] a h = rw h
 none_more (b ∷ as') a h = go (is_declaration b) (none_more as' a h)
   where
     go : (t : Bool) → map declares (those is_declaration (as' ++ (a ∷ []))) ≡ map declares (those is_declaration as')
-        → map declares (if t then (b ∷ those is_declaration (as' ++ (a ∷ []))) else those is_declaration (as' ++ (a ∷ []))) ≡ map declares (if t then (b ∷ those is_declaration as') else those is_declaration as')
+        → map declares (when t then (b ∷ those is_declaration (as' ++ (a ∷ []))) else those is_declaration (as' ++ (a ∷ []))) ≡ map declares (when t then (b ∷ those is_declaration as') else those is_declaration as')
     go true r = ap (declares b ∷◌) r
     go false r = r
 

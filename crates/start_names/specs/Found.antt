@@ -5,7 +5,7 @@ use Rattle.std.proofs.Common.{ap, ◌∙◌, add-zero, zero-add}
 use Rattle.std.proofs.Math.Option.{Option, none, some}
 use Prim.Native.Nat.{ℕ, suc, ◌+◌, ◌-◌, ◌*◌, ◌<◌, ◌≤◌}
 use native.Mathlib.Omega.{arith}
-use Rattle.spec.specs.Bytes.{Bytes, ascii, if◌then◌else◌, same, is_empty, or_else, those, ◌>>◌, require◌or◌, is_some}
+use Rattle.spec.specs.Bytes.{Bytes, ascii, when◌then◌else◌, same, is_empty, or_else, those, ◌>>◌, require◌or◌, is_some}
 use Rattle.spec.specs.Numbers.{Answer, refuse, good}
 use Rattle.spec.specs.declared.Refusal.TheVariants.{NoNamespace}
 use Rattle.spec.specs.Pyx.{Attribute}
@@ -43,11 +43,11 @@ answered (some ns) l = good (ns ++ l)
 -- ---- a tag's own declarations
 
 look_own : (p : Bytes) (a : Attribute) (as' : List Attribute)
-    → look_up p (declared (a ∷ as')) ≡ (if binds_to p a then some (declares a).1 else look_up p (declared as'))
-unfolding binds_to declared those look_up if◌then◌else◌
+    → look_up p (declared (a ∷ as')) ≡ (when binds_to p a then some (declares a).1 else look_up p (declared as'))
+unfolding binds_to declared those look_up when◌then◌else◌
 look_own p a as' = go (is_declaration a) refl
   where
-    go : (t : Bool) → is_declaration a ≡ t → look_up p (declared (a ∷ as')) ≡ (if is_declaration a && same p (declares a).0 then some (declares a).1 else look_up p (declared as'))
+    go : (t : Bool) → is_declaration a ≡ t → look_up p (declared (a ∷ as')) ≡ (when is_declaration a && same p (declares a).0 then some (declares a).1 else look_up p (declared as'))
     go true e = rw e
     go false e = rw e
 
@@ -70,15 +70,15 @@ passed-begins {p} {e} {w} {k} = record { upto = omega arith; rest = ap (λ (x : 
 
 module _ {p : Bytes} {e w : List ℕ} {k j : ℕ} (h : Passed p e w k j) where
   here : j < k → look_up p (declared (attributes_of e w k))
-      ≡ (if binds_to p (attribute_at e w j) then some (declares (attribute_at e w j)).1 else look_up p (declared (attributes_from e w (j + 1) (k - (j + 1)))))
+      ≡ (when binds_to p (attribute_at e w j) then some (declares (attribute_at e w j)).1 else look_up p (declared (attributes_from e w (j + 1) (k - (j + 1)))))
   here l = h.rest ∙ rw (attributes_more e w k j l) (look_own p (attribute_at e w j) (attributes_from e w (j + 1) (k - (j + 1))))
 
   pub passed_more : j < k → binds_to p (attribute_at e w j) ≡ false → Passed p e w k (j + 1)
-  unfolding if◌then◌else◌
+  unfolding when◌then◌else◌
   passed_more l b = record { upto = omega arith; rest = here l ∙ rw b }
 
   pub passed_hit : j < k → binds_to p (attribute_at e w j) ≡ true → {r : Found} → r ≡ Own (start_at w j + size_at w j) (value_size_at w j) → IsOwn p e w k r
-  unfolding if◌then◌else◌ found_bytes attribute_at declares value_at
+  unfolding when◌then◌else◌ found_bytes attribute_at declares value_at
   passed_hit l b q = record { is = λ v. rw q (sym (here l ∙ rw b)) }
 
   pub passed_done : k ≤ j → IsOwn p e w k Unknown
@@ -121,39 +121,39 @@ module _ {p : Bytes} {v bs : List ℕ} {n i : ℕ} (h : Sought p v bs n i) where
   sought_done l = let z : i ≡ 0 = omega arith in record { is = λ e. sym (h.rest ∙ rw z) }
 
   there : 0 < i → look_up p (bindings_of bs v 0 n)
-      ≡ (if same p (binding_of v (row_at bs (i - 1))).0 then some (binding_of v (row_at bs (i - 1))).1 else look_up p (bindings_of bs v 0 (i - 1)))
+      ≡ (when same p (binding_of v (row_at bs (i - 1))).0 then some (binding_of v (row_at bs (i - 1))).1 else look_up p (bindings_of bs v 0 (i - 1)))
   unfolding bindings_of look_up
   there l = let s : i ≡ suc (i - 1) = omega arith in h.rest ∙ (ap (λ (m : ℕ). look_up p (bindings_of bs v 0 m)) s ∙ rw (zero-add (i - 1)))
 
   -- x is the prefix of row i - 1
   module _ {x : Bytes} (l : 0 < i) (q : x ≡ (binding_of v (row_at bs (i - 1))).0) where
     pub sought_more : same p x ≡ false → Sought p v bs n (i - 1)
-    unfolding if◌then◌else◌
+    unfolding when◌then◌else◌
     sought_more s = record { upto = omega arith; rest = there l ∙ rw (← q, s) }
 
     pub sought_hit : same p x ≡ true → {r : Found} → r ≡ held_by (row_at bs (i - 1)) → IsHeld p v bs n r
-    unfolding if◌then◌else◌ found_bytes binding_of
+    unfolding when◌then◌else◌ found_bytes binding_of
     sought_hit s h = record { is = λ e. rw h (sym (there l ∙ rw (← q, s))) }
 
 -- ---- both: the tests of `lookup`
 
 look_append : (p : Bytes) (xs ys : List Binding) → look_up p (xs ++ ys) ≡ or_else (look_up p xs) (look_up p ys)
-unfolding look_up or_else if◌then◌else◌
+unfolding look_up or_else when◌then◌else◌
 look_append p [] ys = refl
 look_append p (x ∷ xs) ys = go (same p x.0) (look_append p xs ys)
   where
     go : (t : Bool) → look_up p (xs ++ ys) ≡ or_else (look_up p xs) (look_up p ys)
-        → (if t then some x.1 else look_up p (xs ++ ys)) ≡ or_else (if t then some x.1 else look_up p xs) (look_up p ys)
+        → (when t then some x.1 else look_up p (xs ++ ys)) ≡ or_else (when t then some x.1 else look_up p xs) (look_up p ys)
     go true h = refl
     go false h = h
 
 module _ (p : Bytes) (e w : List ℕ) (k : ℕ) (v bs : List ℕ) (n : ℕ) where
   pub found_xml : same p (ascii "xml") ≡ true → found_bytes e v Xml ≡ namespace (scope e w k v bs n) p
-  unfolding found_bytes namespace if◌then◌else◌
+  unfolding found_bytes namespace when◌then◌else◌
   found_xml s = rw s
 
   in_scope_lem : same p (ascii "xml") ≡ false → namespace (scope e w k v bs n) p ≡ or_else (look_up p (declared (attributes_of e w k))) (look_up p (bindings_of bs v 0 n))
-  unfolding namespace scope if◌then◌else◌
+  unfolding namespace scope when◌then◌else◌
   in_scope_lem s = rw s (look_append p (declared (attributes_of e w k)) (bindings_of bs v 0 n))
 
   -- its own declarations stand before those of the open elements

@@ -6,7 +6,7 @@ use Rattle.std.proofs.Math.Bool.{true, false, not}
 use Rattle.std.proofs.Math.Option.{Option, none, some}
 use mathlib.Core.List.{List, [], ◌∷◌, map}
 use Prim.Native.Nat.{ℕ, zero, suc}
-use Rattle.spec.specs.Bytes.{Bytes, if◌then◌else◌, same, is_empty, is_some, those, present, member, repeats}
+use Rattle.spec.specs.Bytes.{Bytes, when◌then◌else◌, same, is_empty, is_some, those, present, member, repeats}
 use Rattle.spec.specs.XmlNames.{prefix_of, local_of}
 use Rattle.spec.specs.Pyx.{Attribute}
 use Rattle.spec.specs.Namespaces.{Binding, name_of, is_declaration, namespace, joined, expand_attribute, is_known, expanded_names, unknown_names, repeats_expanded, repeats_written}
@@ -67,15 +67,15 @@ repeats_keys (k ∷ ks) = member_key k ks || repeats_keys ks
 -- the texts of one kind
 unfoldable texts_of : ℕ → List Key → List Bytes
 texts_of i [] = []
-texts_of i (k ∷ ks) = if eqb i k.0 then (k.1 ∷ texts_of i ks) else texts_of i ks
+texts_of i (k ∷ ks) = when eqb i k.0 then (k.1 ∷ texts_of i ks) else texts_of i ks
 
 member-texts : (i : ℕ) (s : Bytes) (ks : List Key) → member_key (i, s) ks ≡ member s (texts_of i ks)
-unfolding member_key same_key member texts_of if◌then◌else◌
+unfolding member_key same_key member texts_of when◌then◌else◌
 member-texts i s [] = refl
 member-texts i s (k ∷ ks) = go (eqb i k.0) (member-texts i s ks)
   where
     go : (t : Bool) → member_key (i, s) ks ≡ member s (texts_of i ks)
-        → ((t && same s k.1) || member_key (i, s) ks) ≡ member s (if t then (k.1 ∷ texts_of i ks) else texts_of i ks)
+        → ((t && same s k.1) || member_key (i, s) ks) ≡ member s (when t then (k.1 ∷ texts_of i ks) else texts_of i ks)
     go true h = rw h
     go false h = h
 
@@ -97,44 +97,44 @@ third_of false a b c = refl
 
 module _ (bs : List Binding) where
   known_some : (n : Bytes) → is_known bs n ≡ is_some (expand_attribute bs n)
-  unfolding is_known is_some expand_attribute joined if◌then◌else◌
+  unfolding is_known is_some expand_attribute joined when◌then◌else◌
   known_some n = go (is_empty (prefix_of n)) (namespace bs (prefix_of n))
     where
-      go : (t : Bool) (o : Option Bytes) → (t || is_some o) ≡ is_some (if t then some n else joined o (local_of n))
+      go : (t : Bool) (o : Option Bytes) → (t || is_some o) ≡ is_some (when t then some n else joined o (local_of n))
       go true o = refl
       go false none = refl
       go false (some x) = refl
 
   declared-texts : (as' : List Attribute) → map name_of (those is_declaration as') ≡ texts_of 0 (map (key_of bs) as')
-  unfolding those texts_of key_of keyed if◌then◌else◌
+  unfolding those texts_of key_of keyed when◌then◌else◌
   declared-texts [] = refl
   declared-texts (a ∷ as') = go (is_declaration a) (expand_attribute bs (name_of a)) (declared-texts as')
     where
       go : (t : Bool) (o : Option Bytes) → map name_of (those is_declaration as') ≡ texts_of 0 (map (key_of bs) as')
-          → map name_of (if t then (a ∷ those is_declaration as') else those is_declaration as') ≡ texts_of 0 (keyed t (name_of a) o ∷ map (key_of bs) as')
+          → map name_of (when t then (a ∷ those is_declaration as') else those is_declaration as') ≡ texts_of 0 (keyed t (name_of a) o ∷ map (key_of bs) as')
       go true o h = ap (name_of a ∷◌) h
       go false none h = h
       go false (some x) h = h
 
   unknown_texts : (as' : List Attribute) → unknown_names bs as' ≡ texts_of 1 (map (key_of bs) as')
-  unfolding unknown_names those texts_of key_of keyed is_some if◌then◌else◌
+  unfolding unknown_names those texts_of key_of keyed is_some when◌then◌else◌
   unknown_texts [] = refl
   unknown_texts (a ∷ as') = go (is_declaration a) (expand_attribute bs (name_of a)) (known_some (name_of a)) (unknown_texts as')
     where
       go : (t : Bool) (o : Option Bytes) → is_known bs (name_of a) ≡ is_some o → unknown_names bs as' ≡ texts_of 1 (map (key_of bs) as')
-          → those (λ n. not (is_known bs n)) (map name_of (if not t then (a ∷ those (λ b. not (is_declaration b)) as') else those (λ b. not (is_declaration b)) as'))
+          → those (λ n. not (is_known bs n)) (map name_of (when not t then (a ∷ those (λ b. not (is_declaration b)) as') else those (λ b. not (is_declaration b)) as'))
           ≡ texts_of 1 (keyed t (name_of a) o ∷ map (key_of bs) as')
       go true o k h = h
       go false none k h = rw k (ap (name_of a ∷◌) h)
       go false (some x) k h = rw k h
 
   expanded_texts : (as' : List Attribute) → expanded_names bs as' ≡ texts_of 2 (map (key_of bs) as')
-  unfolding expanded_names those present texts_of key_of keyed if◌then◌else◌
+  unfolding expanded_names those present texts_of key_of keyed when◌then◌else◌
   expanded_texts [] = refl
   expanded_texts (a ∷ as') = go (is_declaration a) (expand_attribute bs (name_of a)) refl (expanded_texts as')
     where
       go : (t : Bool) (o : Option Bytes) → expand_attribute bs (name_of a) ≡ o → expanded_names bs as' ≡ texts_of 2 (map (key_of bs) as')
-          → present (map (λ b. expand_attribute bs (name_of b)) (if not t then (a ∷ those (λ b. not (is_declaration b)) as') else those (λ b. not (is_declaration b)) as'))
+          → present (map (λ b. expand_attribute bs (name_of b)) (when not t then (a ∷ those (λ b. not (is_declaration b)) as') else those (λ b. not (is_declaration b)) as'))
           ≡ texts_of 2 (keyed t (name_of a) o ∷ map (key_of bs) as')
       go true o k h = h
       go false none k h = rw k h
@@ -145,7 +145,7 @@ module _ (bs : List Binding) where
   repeats_in i as' = repeats (texts_of i (map (key_of bs) as'))
 
   kinds : (as' : List Attribute) → repeats_keys (map (key_of bs) as') ≡ (repeats_in 0 as' || (repeats_in 1 as' || repeats_in 2 as'))
-  unfolding repeats_keys repeats texts_of key_of keyed if◌then◌else◌
+  unfolding repeats_keys repeats texts_of key_of keyed when◌then◌else◌
   kinds [] = refl
   kinds (a ∷ as') = go (is_declaration a) (expand_attribute bs (name_of a)) (kinds as')
     where

@@ -3,7 +3,7 @@ use Rattle.std.specs.Prelude.{◌≡◌, Bool, true, false, List, [], ◌∷◌,
 use Rattle.std.proofs.Math.Path.{refl, sym}
 use Rattle.std.proofs.Common.{ap, ◌∙◌, add-zero, zero-add, add-one, arith, drop_of_length-le, drop-drop}
 use Rattle.std.proofs.Math.ListN.{get_or-eq_default}
-use Rattle.spec.specs.Bytes.{Bytes, ascii, if◌then◌else◌, up_to, from, among}
+use Rattle.spec.specs.Bytes.{Bytes, ascii, when◌then◌else◌, up_to, from, among}
 use Rattle.spec.specs.XmlNames.{no_colon, prefix_of, local_of}
 use Rattle.spec.specs.Pyx.{Attribute, attribute}
 use Rattle.copy.specs.Copy.{part, rest_of}
@@ -88,11 +88,11 @@ pub record Splits (e w : List ℕ) (k : ℕ) : Type 0 where
   pub at : (j : ℕ) → j < k → Split (colon_at w j) (name_at e w j)
 
 -- the place of the first colon plus 1, or 0
-pub colon_splits : (n : Bytes) → Split (if no_colon n then 0 else suc (length (up_to (among (ascii ":")) n))) n
-unfolding front_of back_of prefix_of local_of if◌then◌else◌ ascii
+pub colon_splits : (n : Bytes) → Split (when no_colon n then 0 else suc (length (up_to (among (ascii ":")) n))) n
+unfolding front_of back_of prefix_of local_of when◌then◌else◌ ascii
 colon_splits n = go (no_colon n) refl
   where
-    go : (t : Bool) → no_colon n ≡ t → Split (if t then 0 else suc (length (up_to (among (ascii ":")) n))) n
+    go : (t : Bool) → no_colon n ≡ t → Split (when t then 0 else suc (length (up_to (among (ascii ":")) n))) n
     go true h = record { front = rw h; back = rw h }
     go false h =
         record {

@@ -4,7 +4,7 @@ use Rattle.std.proofs.Math.Path.{◌≡◌, refl, sym, ap}
 use Rattle.std.proofs.Common.{◌∙◌, arith}
 use Rattle.std.proofs.Math.Bool.{true, false}
 use Rattle.std.proofs.Math.Option.{Option, none, some}
-use Rattle.spec.specs.Bytes.{Bytes, if◌then◌else◌, is_some, is_empty}
+use Rattle.spec.specs.Bytes.{Bytes, when◌then◌else◌, is_some, is_empty}
 use Rattle.spec.specs.NTriples.{Subject, named, blank, label}
 use Rattle.spec.specs.XmlLang.{unsaid}
 use Rattle.spec.specs.Document.{Object, no_object, node_object, default, collection, literal, other, Property}
@@ -133,7 +133,7 @@ module _ (g : Given) (e a : List ℕ) (s : Subject) where
             }
 
         pub does_default : Does (default_plan g main u (pick (takes_label no_parse_type (is_some t.resource) (is_some t.node_id) u) (suc n) n)) e a s (property_opened no_parse_type t p n) ordinary
-        unfolding property_opened has_node J.object_in labels_behind subject_of is_some if◌then◌else◌ object_by
+        unfolding property_opened has_node J.object_in labels_behind subject_of is_some when◌then◌else◌ object_by
         does_default = go t.resource t.node_id u refl refl refl
           where
             go : (r l : Option Bytes) (v : Bool) → t.resource ≡ r → t.node_id ≡ l → u ≡ v

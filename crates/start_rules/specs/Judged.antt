@@ -5,7 +5,7 @@ use Rattle.std.proofs.Common.{sym, ◌∙◌, arith, ltb-true, ltb-false, le-leb
 use Rattle.std.proofs.Math.Bool.{not-not}
 use Rattle.std.proofs.lemmas.Bool.{false≢true, lt-leb, not-true, not-false}
 use Rattle.std.proofs.Math.Option.{Option, none, some}
-use Rattle.spec.specs.Bytes.{Bytes, ascii, if◌then◌else◌, same, is_empty, is_some, or_else, ◌>>=◌, ◌>>◌, require◌or◌}
+use Rattle.spec.specs.Bytes.{Bytes, ascii, when◌then◌else◌, same, is_empty, is_some, or_else, ◌>>=◌, ◌>>◌, require◌or◌}
 use Rattle.spec.specs.Numbers.{Answer, refuse, good}
 use Rattle.spec.specs.declared.Refusal.{Refusal}
 use Rattle.spec.specs.declared.Refusal.TheVariants.{LabelsSpent, Reserved, TwoNames}
@@ -40,21 +40,21 @@ module _ (v : Bytes) where
 
   module _ {there : Bool} (h : there ≡ true) where
     pub parse_collection : same v (ascii "Collection") ≡ true → as_collection ≡ parse_type_of (given there v)
-    unfolding given parse_type_of if◌then◌else◌
+    unfolding given parse_type_of when◌then◌else◌
     parse_collection a = rw (h, a)
 
     module _ (a : same v (ascii "Collection") ≡ false) where
       pub parse_resource : same v (ascii "Resource") ≡ true → as_resource ≡ parse_type_of (given there v)
-      unfolding given parse_type_of if◌then◌else◌
+      unfolding given parse_type_of when◌then◌else◌
       parse_resource b = rw (h, a, b)
 
       module _ (b : same v (ascii "Resource") ≡ false) where
         pub parse-literal : same v (ascii "Literal") ≡ true → as_literal ≡ parse_type_of (given there v)
-        unfolding given parse_type_of if◌then◌else◌
+        unfolding given parse_type_of when◌then◌else◌
         parse-literal c = rw (h, a, b, c)
 
         pub parse-other : same v (ascii "Literal") ≡ false → as_other ≡ parse_type_of (given there v)
-        unfolding given parse_type_of if◌then◌else◌
+        unfolding given parse_type_of when◌then◌else◌
         parse-other c = rw (h, a, b, c)
 
 -- ---- what is refused, and what is opened else
@@ -74,13 +74,13 @@ one_left : (n : ℕ) → not (ltb n most_labels) ≡ false → one_more n ≡ go
 unfolding one_more require◌or◌
 one_left n h = rw (not-false (ltb n most_labels) h)
 
-asked_spent : (a : Bool) (n : ℕ) → (a && not (ltb n most_labels)) ≡ true → (if a then one_more n else good tt) ≡ refuse LabelsSpent
-unfolding if◌then◌else◌
+asked_spent : (a : Bool) (n : ℕ) → (a && not (ltb n most_labels)) ≡ true → (when a then one_more n else good tt) ≡ refuse LabelsSpent
+unfolding when◌then◌else◌
 asked_spent true n h = one-spent n h
 asked_spent false n h = absurd (false≢true h)
 
-asked_left : (a : Bool) (n : ℕ) → (a && not (ltb n most_labels)) ≡ false → (if a then one_more n else good tt) ≡ good tt
-unfolding if◌then◌else◌
+asked_left : (a : Bool) (n : ℕ) → (a && not (ltb n most_labels)) ≡ false → (when a then one_more n else good tt) ≡ good tt
+unfolding when◌then◌else◌
 asked_left true n h = one_left n h
 asked_left false n h = refl
 
@@ -160,11 +160,11 @@ module _ {reserved id node_id about : Bool} {n : ℕ} where
 
 -- 7.2.8: the root is rdf:RDF, or a node element
 pub root-rdf : (t : Tag) (n : ℕ) → same t.iri (rdf "RDF") ≡ true → open_root t n ≡ good (record { lines = []; kind = rdf_rdf; labels = n })
-unfolding open_root if◌then◌else◌
+unfolding open_root when◌then◌else◌
 root-rdf t n h = rw h
 
 pub root-node : (t : Tag) (n : ℕ) → same t.iri (rdf "RDF") ≡ false → open_root t n ≡ open_node t n
-unfolding open_root if◌then◌else◌
+unfolding open_root when◌then◌else◌
 root-node t n h = rw h
 
 -- ---- property elements
@@ -209,7 +209,7 @@ labels_behind none none n = suc n
 
 unfoldable pub property_opened : O.ParseType → Tag → Property → ℕ → Opened
 property_opened no_parse_type t p n =
-    if has_node t then
+    when has_node t then
     record { lines = tag_lines (object_in t n) t; kind = property_element p (default t.datatype (node_object (object_in t n))); labels = labels_behind t.resource t.node_id n } else
     record { lines = []; kind = property_element p (default t.datatype no_object); labels = n }
 property_opened as_collection t p n = record { lines = []; kind = property_element p (collection []); labels = n }
@@ -226,10 +226,10 @@ pub record PropertyJudged (reserved li : Bool) (count : ℕ) (p : ParseType) (re
 
 -- an rdf:parseType that is there is never none
 some-parse : (v : Bytes) (a b : Bool) → two_objects_by (parse_type_of (some v)) a b ≡ false
-unfolding parse_type_of if◌then◌else◌
+unfolding parse_type_of when◌then◌else◌
 some-parse v a b = go (same v (ascii "Collection")) (same v (ascii "Resource")) (same v (ascii "Literal"))
   where
-    go : (x y z : Bool) → two_objects_by (if x then as_collection else if y then as_resource else if z then as_literal else as_other) a b ≡ false
+    go : (x y z : Bool) → two_objects_by (when x then as_collection else when y then as_resource else when z then as_literal else as_other) a b ≡ false
     go true y z = refl
     go false true z = refl
     go false false true = refl
@@ -247,16 +247,16 @@ then_bind (good x) y f = refl
 
 -- 18 is asked for where a label is generated
 default_labels : (t : Tag) (p : Property) (n : ℕ) (r l : Option Bytes) (x : Bool) → t.resource ≡ r → t.node_id ≡ l → is_empty t.attributes ≡ x
-    → open_default t p n ≡ ((if takes_label no_parse_type (is_some r) (is_some l) (not x) then one_more n else good tt) >> good (property_opened no_parse_type t p n))
-unfolding open_default open_with_node has_node object_of property_opened object_in labels_behind subject_of is_some if◌then◌else◌ ◌>>=◌ ◌>>◌
+    → open_default t p n ≡ ((when takes_label no_parse_type (is_some r) (is_some l) (not x) then one_more n else good tt) >> good (property_opened no_parse_type t p n))
+unfolding open_default open_with_node has_node object_of property_opened object_in labels_behind subject_of is_some when◌then◌else◌ ◌>>=◌ ◌>>◌
 default_labels t p n (some i) l x e f g = rw e
 default_labels t p n none (some i) x e f g = rw (e, f)
 default_labels t p n none none true e f g = rw (e, f, g)
 default_labels t p n none none false e f g = rw (e, f, g) (then_bind (one_more n) _ _)
 
 as_labels : (q : O.ParseType) (t : Tag) (p : Property) (n : ℕ)
-    → open_as q t p n ≡ ((if takes_label q (is_some t.resource) (is_some t.node_id) (not (is_empty t.attributes)) then one_more n else good tt) >> good (property_opened q t p n))
-unfolding open_as open_with open_resource property_opened if◌then◌else◌ ◌>>◌
+    → open_as q t p n ≡ ((when takes_label q (is_some t.resource) (is_some t.node_id) (not (is_empty t.attributes)) then one_more n else good tt) >> good (property_opened q t p n))
+unfolding open_as open_with open_resource property_opened when◌then◌else◌ ◌>>◌
 as_labels no_parse_type t p n = default_labels t p n t.resource t.node_id (is_empty t.attributes) refl refl refl
 as_labels as_collection t p n = refl
 as_labels as_resource t p n = refl
@@ -266,8 +266,8 @@ as_labels as_other t p n = refl
 -- the rules in their order, by what `judge_property` is told
 property_rules : {t : Tag} {reserved li : Bool} {p : ParseType} {resource node_id properties : Bool} (s : Subject) (count n : ℕ) → PropertyTag t reserved li p resource node_id properties
     → open_property t s count n
-    ≡ ((require not reserved or Reserved) >> ((require not (two_objects_by (parse_type_is p) resource node_id) or TwoNames) >> ((if li then one_more count else good tt)
-    >> ((if takes_label (parse_type_is p) resource node_id properties then one_more n else good tt) >> good (property_opened (parse_type_is p) t (property_in t s count) n)))))
+    ≡ ((require not reserved or Reserved) >> ((require not (two_objects_by (parse_type_is p) resource node_id) or TwoNames) >> ((when li then one_more count else good tt)
+    >> ((when takes_label (parse_type_is p) resource node_id properties then one_more n else good tt) >> good (property_opened (parse_type_is p) t (property_in t s count) n)))))
 unfolding open_property two_objects property_in
 property_rules {t} s count n k =
     rw (k.name, k.numbered, k.parse, k.has_resource, k.has_node_id, k.has_properties, not-not (may_be_property t.iri), ← two-objects t.parse_type (is_some t.resource) (is_some t.node_id), ← as_labels (parse_type_of t.parse_type) t (property_in t s count) n)
@@ -348,21 +348,21 @@ module _ {t : Tag} {reserved li : Bool} {count : ℕ} {p : ParseType} {resource 
 
     pub opens_named : {i : Bytes} → t.resource ≡ some i
         → open_property t s count n ≡ good (record { lines = tag_lines (named i) t; kind = property_element (property_in t s count) (default t.datatype (node_object (named i))); labels = n })
-    unfolding property_opened has_node object_in labels_behind subject_of is_some if◌then◌else◌
+    unfolding property_opened has_node object_in labels_behind subject_of is_some when◌then◌else◌
     opens_named f = as_default ∙ rw f
 
     pub opens_blank : {l : Bytes} → t.resource ≡ none → t.node_id ≡ some l
         → open_property t s count n ≡ good (record { lines = tag_lines (blank l) t; kind = property_element (property_in t s count) (default t.datatype (node_object (blank l))); labels = n })
-    unfolding property_opened has_node object_in labels_behind subject_of is_some if◌then◌else◌
+    unfolding property_opened has_node object_in labels_behind subject_of is_some when◌then◌else◌
     opens_blank f g = as_default ∙ rw (f, g)
 
     pub opens_generated : t.resource ≡ none → t.node_id ≡ none → properties ≡ true
         → open_property t s count n
         ≡ good (record { lines = tag_lines (blank (label (suc n))) t; kind = property_element (property_in t s count) (default t.datatype (node_object (blank (label (suc n))))); labels = suc n })
-    unfolding property_opened has_node object_in labels_behind subject_of is_some if◌then◌else◌
+    unfolding property_opened has_node object_in labels_behind subject_of is_some when◌then◌else◌
     opens_generated f g q = as_default ∙ rw (f, g, ← k.has_properties, q)
 
     pub opens_empty : t.resource ≡ none → t.node_id ≡ none → properties ≡ false
         → open_property t s count n ≡ good (record { lines = []; kind = property_element (property_in t s count) (default t.datatype no_object); labels = n })
-    unfolding property_opened has_node is_some if◌then◌else◌
+    unfolding property_opened has_node is_some when◌then◌else◌
     opens_empty f g q = as_default ∙ rw (f, g, ← k.has_properties, q)

@@ -1,7 +1,7 @@
 -- What is generated for a start tag, written into a lent area.
 use Rattle.std.specs.Prelude.{◌≡◌, Bool, true, false, List, ◌++◌, ℕ, suc, ◌+◌, ◌-◌, ◌≤◌, length, take, drop}
 use Rattle.std.proofs.Common.{ap, ◌∙◌, add-one, arith, length-drop}
-use Rattle.spec.specs.Bytes.{Bytes, ascii, if◌then◌else◌}
+use Rattle.spec.specs.Bytes.{Bytes, ascii, when◌then◌else◌}
 use Rattle.spec.specs.Rdf.{rdf}
 use Rattle.spec.specs.NTriples.{label, decimal}
 use Rattle.spec.specs.Productions.{is_li, property_iri}
@@ -11,12 +11,12 @@ use Rattle.label.specs.Label.{length_label}
 
 -- the IRI of the rdf:li after k others
 pub li_iri : (i : Bytes) (k : ℕ) → is_li i ≡ true → property_iri i (suc k) ≡ rdf "_" ++ decimal (k + 1)
-unfolding property_iri if◌then◌else◌
+unfolding property_iri when◌then◌else◌
 li_iri i k h = rw (h, add-one k)
 
 -- and of any other property
 pub own_iri : (i : Bytes) (k : ℕ) → is_li i ≡ false → property_iri i k ≡ i
-unfolding property_iri if◌then◌else◌
+unfolding property_iri when◌then◌else◌
 own_iri i k h = rw h
 
 -- the stores of `property_iri`: the namespace, `_`, the digits

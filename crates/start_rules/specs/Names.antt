@@ -5,7 +5,7 @@ use Rattle.std.proofs.Common.{◌∙◌, true≢false, arith, leb-true}
 use Rattle.std.proofs.Math.Bool.{true, false, not}
 use mathlib.Core.List.{List, [], ◌∷◌, ◌++◌, map}
 use Prim.Native.String.{String}
-use Rattle.spec.specs.Bytes.{Bytes, ascii, if◌then◌else◌, same, begins, is_empty, member}
+use Rattle.spec.specs.Bytes.{Bytes, ascii, when◌then◌else◌, same, begins, is_empty, member}
 use Rattle.spec.specs.Rdf.{rdf, reserved_elements, may_be_node, may_be_property}
 use Rattle.spec.specs.Rdf as F
 use Rattle.spec.specs.Limits.{most_name_bytes}
@@ -25,14 +25,14 @@ space = ascii "http://www.w3.org/1999/02/22-rdf-syntax-ns#"
 
 -- the name behind the namespace; empty where an IRI is not in it
 unfoldable pub name_in_rdf : Bytes → Bytes
-name_in_rdf i = if begins space i then drop (length space) i else []
+name_in_rdf i = when begins space i then drop (length space) i else []
 
 is_space_lem : space ≡ rdf_space
 unfolding rdf_space rdf ascii
 is_space_lem = refl
 
 no_name : Other ≡ local_term []
-unfolding local_term term_among if_named vocabulary if◌then◌else◌ same ascii
+unfolding local_term term_among if_named vocabulary when◌then◌else◌ same ascii
 no_name = refl
 
 -- ---- an IRI is a name of the namespace where the name behind the namespace is
@@ -43,16 +43,16 @@ front_split p s t = joined-split s t [] p (omega arith)
 
 module _ (i : Bytes) where
   pub name-outside : begins space i ≡ false → [] ≡ name_in_rdf i
-  unfolding name_in_rdf if◌then◌else◌
+  unfolding name_in_rdf when◌then◌else◌
   name-outside h = rw h
 
   pub name-inside : begins space i ≡ true → take (length i - 43) (drop 43 i) ≡ name_in_rdf i
-  unfolding name_in_rdf if◌then◌else◌ ascii
+  unfolding name_in_rdf when◌then◌else◌ ascii
   name-inside h = rw h (rest_of i 43)
 
   -- of a name that is not empty
   pub name_decides : (n : Bytes) → is_empty n ≡ false → same (name_in_rdf i) n ≡ same i (in_rdf n)
-  unfolding is_empty in_rdf name_in_rdf if◌then◌else◌ same
+  unfolding is_empty in_rdf name_in_rdf when◌then◌else◌ same
   name_decides [] e = absurd (true≢false e)
   name_decides (b ∷ n) e = go (begins space i) refl
     where
@@ -65,7 +65,7 @@ module _ (i : Bytes) where
 
   -- its term is that of the name
   pub name_term : term_of i ≡ local_term (name_in_rdf i)
-  unfolding name_in_rdf if◌then◌else◌ same ascii
+  unfolding name_in_rdf when◌then◌else◌ same ascii
   name_term = go (begins space i) refl
     where
       go : (t : Bool) → begins space i ≡ t → term_of i ≡ local_term (name_in_rdf i)

@@ -6,7 +6,7 @@ use Rattle.std.proofs.Math.Bool.{true, false, not}
 use Rattle.std.proofs.lemmas.Bool.{false≢true, not-true, not-false}
 use Rattle.std.proofs.Math.Option.{Option, some}
 use Rattle.std.proofs.Math.ListN.{length}
-use Rattle.spec.specs.Bytes.{Bytes, same, is_some, if◌then◌else◌, ◌>>◌, require◌or◌}
+use Rattle.spec.specs.Bytes.{Bytes, same, is_some, when◌then◌else◌, ◌>>◌, require◌or◌}
 use Rattle.spec.proofs.Bytes.{same_true}
 use Rattle.spec.specs.Numbers.{refuse, good}
 use Rattle.spec.specs.declared.Refusal.{Refusal}
@@ -358,7 +358,7 @@ module _ {t : Tag} {r : Registers} {fs w e v : List ℕ} {k : ℕ} {a : List ℕ
         default_lines : p ≡ parse.Absent → (u : Bool) → (is_some y.tells.is.resource || is_some y.tells.is.node_id || t.properties) ≡ u → (n : ℕ)
             → (property_opened no_parse_type y.tells.is (property_in y.tells.is (subject_below fs w r.counts.depth) c) r.counts.labels).lines
             ≡ told (default_plan mk.parts mk.property t.properties n).lines (node_is false (text_of mk.property e b)) (node_is (eqb (object_in mk.parts t.properties).what 2) (text_of (object_in mk.parts t.properties).source e b)) y.tells.is.language y.tells.is.attributes y.tells.is.type (element_type y.tells.is.iri) (property_in y.tells.is (subject_below fs w r.counts.depth) c)
-        unfolding property_opened has_node J.object_in told tag_lines if◌then◌else◌
+        unfolding property_opened has_node J.object_in told tag_lines when◌then◌else◌
         default_lines z true u n =
             let g = no_object_lem mk.parts says t.properties in
             rw (

@@ -10,7 +10,7 @@ use mathlib.Core.List.{List, [], ◌∷◌}
 use native.Mathlib.Omega.{arith}
 use Rattle.std.proofs.Math.ListN.{length}
 use borrow.Author.Tests.{leb-true, ne_eqb}
-use Rattle.spec.specs.Bytes.{Bytes, if◌then◌else◌, same, is_some}
+use Rattle.spec.specs.Bytes.{Bytes, when◌then◌else◌, same, is_some}
 use Rattle.spec.proofs.Booleans.{and_left, and_right}
 use Rattle.spec.specs.Limits.{most_name_bytes}
 use Rattle.spec.specs.Rdf.{rdf, may_be_node}
@@ -78,8 +78,8 @@ outside-rdf (f ∷ es) t h k = go f.kind h k
     go xml_element h k = absurd (let z : ◌≡◌ {A = ℕ} 0 1 = cc in omega arith)
 
 -- an rdf:Alt awaits its first rdf:li
-alt-part : (b : Bool) (g : Given) (n : ℕ) (e a : List ℕ) → part_is NodeElt (node_plan g (pick b 1 0) n).parts e a ≡ (if b then alternatives none else ordinary)
-unfolding part_is if◌then◌else◌
+alt-part : (b : Bool) (g : Given) (n : ℕ) (e a : List ℕ) → part_is NodeElt (node_plan g (pick b 1 0) n).parts e a ≡ (when b then alternatives none else ordinary)
+unfolding part_is when◌then◌else◌
 alt-part true g n e a = refl
 alt-part false g n e a = refl
 
@@ -128,10 +128,10 @@ module _ (t : S.Tag) (li : Bool) (a : Bytes) {c : Bool} (cp : c ≡ carries t.ow
       go (some b) e q = rw (e, h b e)
 
   note_li_lem : is_li t.iri ≡ li → (p : Option Bool) → X.with_child t (alternatives p) ≡ pick li (note_li c (alternatives p)) (alternatives p)
-  unfolding X.with_child note_li is_li if◌then◌else◌
+  unfolding X.with_child note_li is_li when◌then◌else◌
   note_li_lem h none = rw (h, cp) (go _ _ li)
     where
-      go : (x y : Part) (b : Bool) → (if b then x else y) ≡ pick b x y
+      go : (x y : Part) (b : Bool) → (when b then x else y) ≡ pick b x y
       go x y true = refl
       go x y false = refl
   note_li_lem h (some s) = sym (pick_same _ li)

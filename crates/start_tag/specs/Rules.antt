@@ -4,7 +4,7 @@ use Rattle.std.specs.Prelude.{◌≡◌, refl, Bool, true, false, not, eqb, ltb}
 use Rattle.std.proofs.Common.{sym, ap, ◌∙◌}
 use Rattle.std.proofs.lemmas.Bool.{false≢true}
 use Rattle.std.proofs.Math.Option.{Option, none, some}
-use Rattle.spec.specs.Bytes.{Bytes, if◌then◌else◌, same, ◌>>=◌, ◌>>◌, require◌or◌}
+use Rattle.spec.specs.Bytes.{Bytes, when◌then◌else◌, same, ◌>>=◌, ◌>>◌, require◌or◌}
 use Rattle.spec.proofs.Bytes.{same_true}
 use Rattle.spec.specs.Numbers.{number, Answer, refuse, good}
 use Rattle.spec.specs.declared.Refusal.{Refusal}
@@ -25,13 +25,13 @@ is_reserved (refuse q) = eqb (number q) (number Reserved)
 
 -- 14 stands before them
 pub under_reserved : (x : Answer (Unit {0})) → under_rules x (refuse Reserved) ≡ refuse Reserved
-unfolding under_rules if◌then◌else◌
+unfolding under_rules when◌then◌else◌
 under_reserved (good u) = refl
 under_reserved (refuse r) = refl
 
 -- all others behind them
 pub under_broken : (r : Refusal) (a : Answer Opened) → is_reserved a ≡ false → under_rules (refuse r) a ≡ refuse r
-unfolding under_rules if◌then◌else◌ is_reserved
+unfolding under_rules when◌then◌else◌ is_reserved
 under_broken r (good o) h = refl
 under_broken r (refuse q) h = rw h
 
@@ -47,8 +47,8 @@ one_more_free : (n : ℕ) (a : Answer Opened) → is_reserved a ≡ false → is
 unfolding one_more
 one_more_free n a q = free (ltb n most_labels) LabelsSpent a refl q
 
-asked_free : (b : Bool) (n : ℕ) (a : Answer Opened) → is_reserved a ≡ false → is_reserved ((if b then one_more n else good tt) >> a) ≡ false
-unfolding if◌then◌else◌ ◌>>◌
+asked_free : (b : Bool) (n : ℕ) (a : Answer Opened) → is_reserved a ≡ false → is_reserved ((when b then one_more n else good tt) >> a) ≡ false
+unfolding when◌then◌else◌ ◌>>◌
 asked_free true n a q = one_more_free n a q
 asked_free false n a q = q
 
@@ -72,10 +72,10 @@ with_node-free none none t p n h q = rw (h, q) (go _ _ (ltb n most_labels))
     go s f false = refl
 
 as_free : (q : ParseType) (t : Tag) (p : Property) (n : ℕ) → is_reserved (open_as q t p n) ≡ false
-unfolding open_as open_default open_resource open_with is_reserved if◌then◌else◌
+unfolding open_as open_default open_resource open_with is_reserved when◌then◌else◌
 as_free no_parse_type t p n = go _ (has_node t)
   where
-    go : (o : Opened) (b : Bool) → is_reserved (if b then open_with_node t p n else good o) ≡ false
+    go : (o : Opened) (b : Bool) → is_reserved (when b then open_with_node t p n else good o) ≡ false
     go o true = with_node-free t.resource t.node_id t p n refl refl
     go o false = refl
 as_free as_collection t p n = refl
@@ -92,7 +92,7 @@ unfolding open_property
 property-free t s li n h = past _ h (free (not (two_objects t)) TwoNames _ refl (asked_free (is_li t.iri) li _ (as_free (parse_type_of t.parse_type) t (record { subject = s; iri = property_iri t.iri (Prim.Native.Nat.suc li); id = t.id }) n)))
 
 pub root-free : (t : Tag) (n : ℕ) → same t.iri (rdf "RDF") ≡ true → is_reserved (open_root t n) ≡ false
-unfolding open_root if◌then◌else◌ is_reserved
+unfolding open_root when◌then◌else◌ is_reserved
 root-free t n h = rw h
 
 -- ---- names that no node has

@@ -3,7 +3,7 @@ use Rattle.std.specs.Prelude.{◌≡◌, refl, Bool, true, false, [], ◌∷◌,
 use Rattle.std.proofs.Common.{sym, arith}
 use Rattle.std.proofs.lemmas.Bool.{false≢true}
 use Rattle.std.proofs.Math.Option.{some}
-use Rattle.spec.specs.Bytes.{Bytes, if◌then◌else◌, is_empty}
+use Rattle.spec.specs.Bytes.{Bytes, when◌then◌else◌, is_empty}
 use Rattle.spec.specs.Abnf.{lower}
 use Rattle.spec.specs.Rfc5646.{is_language_tag}
 use Rattle.spec.specs.declared.Verdict.TheVariants.{Good, Bad}
@@ -118,10 +118,10 @@ in_force_by (Given at n) l w a = sym (in_force_said (part a at n) (language_of (
 
 -- a value that is not refused says what its bytes in lower case are kept for
 pub said_kept : (v : Bytes) → is_allowed (verdict v) ≡ true → own_of (some v) ≡ said_as (map lower v)
-unfolding own_of said_by verdict is_allowed is_empty tag_of said_as if◌then◌else◌
+unfolding own_of said_by verdict is_allowed is_empty tag_of said_as when◌then◌else◌
 said_kept [] h = refl
 said_kept (c ∷ s) h = go (is_language_tag (c ∷ s)) h
   where
-    go : (t : Bool) → is_allowed (if t then Good else Bad) ≡ true → said_by (if t then Good else Bad) (c ∷ s) ≡ given (kept (map lower (c ∷ s)))
+    go : (t : Bool) → is_allowed (when t then Good else Bad) ≡ true → said_by (when t then Good else Bad) (c ∷ s) ≡ given (kept (map lower (c ∷ s)))
     go true h = refl
     go false h = absurd (false≢true h)

@@ -11,7 +11,7 @@ use Rattle.std.proofs.Math.Seq.{take-length, take-append_seam, drop-append_seam}
 use Rattle.std.proofs.Math.Nat.{add-zero}
 use borrow.Author.Tests.{eqb-true, eqb-false, leb-true, ltb-true, eq-eqb, ne_eqb, le-leb, lt-ltb}
 use Rattle.spec.specs.Limits as L
-use Rattle.spec.specs.Bytes.{Bytes, if◌then◌else◌}
+use Rattle.spec.specs.Bytes.{Bytes, when◌then◌else◌}
 use Rattle.spec.specs.Limits.{most_labels}
 use Rattle.spec.specs.Namespaces.{Binding}
 use Rattle.spec.specs.NTriples.{Subject}
@@ -505,7 +505,7 @@ module _ (f : Frame) (w : List ℕ) (a : length f.at ≡ PLACES) (b : length f.h
   li-kind l h = rw (and_left (eqb (at f ID) (at f END)) _ h, more, le-leb (suc (count f)) 99_999_999 l)
 
   li_what : (i : Bytes) → is_li i ≡ true → (s : Subject) → what_of NodeElt (counted f) w s ≡ G.counted i (what_of NodeElt f w s)
-  unfolding what_of G.counted subject_of if◌then◌else◌
+  unfolding what_of G.counted subject_of when◌then◌else◌
   li_what i e s = rw (e, more, (counted_alike f a b).is_blank)
 
 -- nothing is noted of it in a packet

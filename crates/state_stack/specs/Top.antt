@@ -2,7 +2,7 @@
 use Rattle.std.specs.Prelude.{ℕ, zero, suc, ◌+◌, ◌-◌, ◌*◌, ◌≤◌, ◌≡◌, refl, Bool, true, false, List, ◌∷◌, ◌++◌}
 use Rattle.std.proofs.Common.{sym, ap, ◌∙◌, arith}
 use Rattle.std.proofs.Math.ListN.{length}
-use Rattle.spec.specs.Bytes.{Bytes, if◌then◌else◌}
+use Rattle.spec.specs.Bytes.{Bytes, when◌then◌else◌}
 use Rattle.spec.specs.Opening.{counted, count_li}
 use Rattle.spec.specs.Namespaces.{Binding}
 use Rattle.spec.specs.NTriples.{Subject}
@@ -204,13 +204,13 @@ as_it_was p = p
 
 -- a change goes past the elements inside Literal content
 change_inners : (h : Value → Value) (is bs w : List ℕ) (n b : ℕ) (es : List Element) → change_value h (inners_of is bs w n b ++ es) ≡ inners_of is bs w n b ++ change_value h es
-unfolding change_value inners_of inner_of is_xml_element if◌then◌else◌
+unfolding change_value inners_of inner_of is_xml_element when◌then◌else◌
 change_inners h is bs w zero b es = refl
 change_inners h is bs w (suc n) b es = rw (change_inners h is bs w n (Rattle.state_words.specs.Words.row_at is n).more es)
 
 change_element : (h : Value → Value) (f : Frame) (bound : List Binding) (w : List ℕ) (s : Subject) (es : List Element)
     → change_value h (element_of f bound w s ∷ es) ≡ with_kind (on_value h (what_of f.kind f w s)) (element_of f bound w s) ∷ es
-unfolding change_value element_of if◌then◌else◌
+unfolding change_value element_of when◌then◌else◌
 change_element h f bound w s es = rw (what_outside f.kind f w s)
 
 pub topped_change : {r : Registers} {fs bs is w : List ℕ} (x : Valid r fs bs is w) (n : ℕ) (d : r.counts.depth ≡ suc n) (h : Value → Value)

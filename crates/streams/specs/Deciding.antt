@@ -5,7 +5,7 @@ use Rattle.std.proofs.Math.Path.{refl, ap}
 use Rattle.std.proofs.Common.{sym, ◌∙◌, true≢false, arith, Fits, SFits, of_z, to_z, ne_eqb, ltb-true, le-leb}
 use Rattle.std.proofs.Math.Bool.{true, false}
 use Rattle.std.proofs.Math.Nat.{min-le_right}
-use Rattle.spec.specs.Bytes.{if◌then◌else◌}
+use Rattle.spec.specs.Bytes.{when◌then◌else◌}
 use Rattle.std.specs.Int.Signed.{le_z, non_neg}
 use mir.Syntax.{w32, w64}
 use Rattle.std.proofs.lemmas.Int.{to_z-of_z}
@@ -138,14 +138,14 @@ none_behind_failed p = refl
 
 -- what is left: nothing behind a failure
 unfoldable pub left : Printing → ℕ
-left p = if p.failed then 0 else suc (p.most - p.taken)
+left p = when p.failed then 0 else suc (p.most - p.taken)
 
 pub left_less : (p : Printing) {q : Printing} (n : ℕ) {b : Bool} → b ≡ goes_on p → b ≡ true → p.taken + n ≤ p.most → q ≡ after_write p n → left q < left p
-unfolding left goes_on after_write if◌then◌else◌
+unfolding left goes_on after_write when◌then◌else◌
 left_less p n d t room e = rw e (go p.failed (eqb n 0) refl (sym d ∙ t))
   where
     go : (f z : Bool) → eqb n 0 ≡ z → (not f && ltb p.taken p.most) ≡ true
-        → (if z then 0 else suc (p.most - (p.taken + n))) < (if f then 0 else suc (p.most - p.taken))
+        → (when z then 0 else suc (p.most - (p.taken + n))) < (when f then 0 else suc (p.most - p.taken))
     go true z k h = absurd (true≢false (sym h))
     go false true k h = omega arith
     go false false k h = omega (arith, eqb-false n 0 k, ltb-true p.taken p.most h)

@@ -7,7 +7,7 @@ use Rattle.std.proofs.lemmas.Bool.{false≢true}
 use borrow.Author.Tests.{leb-true, leb-false, le-leb, lt-leb, lt-ltb}
 use Rattle.spec.specs.Limits as L
 use Rattle.spec.specs.Limits.{most_held_bytes}
-use Rattle.spec.specs.Bytes.{Bytes, if◌then◌else◌, total}
+use Rattle.spec.specs.Bytes.{Bytes, when◌then◌else◌, total}
 use Rattle.spec.specs.declared.Refusal.TheVariants.{OverLimit}
 use Rattle.spec.specs.Pyx.{text}
 use Rattle.spec.specs.Document as D
@@ -48,13 +48,13 @@ takes_object D.xml = false
 
 -- the text's bytes come in place of the object's
 text_bytes : (s : Bytes) (es : List Element) → place_in es ≡ D.nodes_or_text → total frame_bytes (change_value (takes_text s) es) ≡ total frame_bytes (change_value (takes_text []) es) + length s
-unfolding place_in D.in_kind D.in_value change_value is_xml_element on_value takes_text with_kind if◌then◌else◌ total frame_bytes kind_bytes value_bytes object_bytes
+unfolding place_in D.in_kind D.in_value change_value is_xml_element on_value takes_text with_kind when◌then◌else◌ total frame_bytes kind_bytes value_bytes object_bytes
 text_bytes s [] h = absurd (false≢true (ap takes_object h))
 text_bytes s (e ∷ es) h = go e.kind h
   where
     go : (k : What) → D.in_kind k ≡ D.nodes_or_text
-        → total frame_bytes (if is_xml_element k then e ∷ change_value (takes_text s) es else with_kind (on_value (takes_text s) k) e ∷ es)
-        ≡ total frame_bytes (if is_xml_element k then e ∷ change_value (takes_text []) es else with_kind (on_value (takes_text []) k) e ∷ es) + length s
+        → total frame_bytes (when is_xml_element k then e ∷ change_value (takes_text s) es else with_kind (on_value (takes_text s) k) e ∷ es)
+        ≡ total frame_bytes (when is_xml_element k then e ∷ change_value (takes_text []) es else with_kind (on_value (takes_text []) k) e ∷ es) + length s
     go rdf_rdf q = absurd (false≢true (ap takes_object q))
     go (wrapper b) q = absurd (false≢true (ap takes_object q))
     go (node_element u li) q = absurd (false≢true (ap takes_object q))
@@ -67,11 +67,11 @@ text_bytes s (e ∷ es) h = go e.kind h
 module _ {r : Registers} {fs bs is w : List ℕ} (s : Bytes) (p : place_in (elements_of r fs bs is w) ≡ D.nodes_or_text) where
   -- blank text changes nothing
   pub blank_quiet : is_blank s ≡ true → Quiet (text s) r fs bs is w (elements_of r fs bs is w)
-  unfolding on_event on_text doc_of with_frames if◌then◌else◌
+  unfolding on_event on_text doc_of with_frames when◌then◌else◌
   blank_quiet h = record { step = λ ids. rw (p, h) }
 
   pub text_quiet : is_blank s ≡ false → Quiet (text s) r fs bs is w (change_value (takes_text s) (elements_of r fs bs is w))
-  unfolding on_event on_text doc_of with_frames if◌then◌else◌
+  unfolding on_event on_text doc_of with_frames when◌then◌else◌
   text_quiet h = record { step = λ ids. rw (p, h) }
 
 -- ---- of a state

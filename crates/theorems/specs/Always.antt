@@ -1,6 +1,6 @@
 -- What holds of every answer that is no refusal, and of every element of a list. The theorems about accepted events begin here.
 use Rattle.std.specs.Prelude.{◌≡◌, refl, Bool, true, false, List, [], ◌∷◌, ◌++◌}
-use Rattle.spec.specs.Bytes.{if◌then◌else◌, ◌>>=◌, ◌>>◌, require◌or◌, each, All}
+use Rattle.spec.specs.Bytes.{when◌then◌else◌, ◌>>=◌, ◌>>◌, require◌or◌, each, All}
 use Rattle.spec.specs.Numbers.{Answer, refuse, good}
 use Rattle.spec.specs.declared.Refusal.{Refusal}
 
@@ -40,8 +40,8 @@ unfolding ◌>>◌ require◌or◌
 always_require Q true n m k = k refl
 always_require Q false n m k = tt
 
-pub always_if : {B : Type 0} (Q : B → Type 0) (b : Bool) (m k : Answer B) → (b ≡ true → Always Q m) → (b ≡ false → Always Q k) → Always Q (if b then m else k)
-unfolding if◌then◌else◌
+pub always_if : {B : Type 0} (Q : B → Type 0) (b : Bool) (m k : Answer B) → (b ≡ true → Always Q m) → (b ≡ false → Always Q k) → Always Q (when b then m else k)
+unfolding when◌then◌else◌
 always_if Q true m k h g = h refl
 always_if Q false m k h g = g refl
 

@@ -6,7 +6,7 @@ use Rattle.std.proofs.Math.Logic.{inr}
 use Rattle.std.proofs.Math.Bool.{true, false}
 use Rattle.std.proofs.lemmas.Bool.{false≢true}
 use Rattle.std.proofs.Math.Option.{Option, none, some, none-ne-some}
-use Rattle.spec.specs.Bytes.{Bytes, ascii, if◌then◌else◌, same, begins, is_empty, is_some, each, All, ◌>>◌, require◌or◌}
+use Rattle.spec.specs.Bytes.{Bytes, ascii, when◌then◌else◌, same, begins, is_empty, is_some, each, All, ◌>>◌, require◌or◌}
 use Rattle.spec.specs.Bytes as Y
 use Rattle.spec.specs.Numbers.{Answer, good}
 use Rattle.spec.specs.XmlNames.{prefix_of, local_of}
@@ -66,10 +66,10 @@ known_each bs (y ∷ as') k =
 
 -- a name that can be expanded has a known prefix
 expanded_known : (bs : List Binding) (n i : Bytes) → expand_attribute bs n ≡ some i → is_known bs n ≡ true
-unfolding expand_attribute is_known joined is_some if◌then◌else◌
+unfolding expand_attribute is_known joined is_some when◌then◌else◌
 expanded_known bs n i h = go (is_empty (prefix_of n)) (namespace bs (prefix_of n)) h
   where
-    go : (b : Bool) (o : Option Bytes) → (if b then some n else joined o (local_of n)) ≡ some i → (b || is_some o) ≡ true
+    go : (b : Bool) (o : Option Bytes) → (when b then some n else joined o (local_of n)) ≡ some i → (b || is_some o) ≡ true
     go true o h = refl
     go false none h = absurd (none-ne-some i h)
     go false (some ns) h = refl

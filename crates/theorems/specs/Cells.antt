@@ -2,7 +2,7 @@
 use Rattle.std.specs.Prelude.{◌≡◌, ◌⊎◌, Bool, true, false, ℕ}
 use Rattle.std.proofs.Common.{sym, ◌∙◌, ap, inl, inr, true≢false}
 use mathlib.Core.List.{List, [], ◌∷◌, cons≢nil, head-eq_of_cons-eq, tail-eq_of_cons-eq}
-use Rattle.spec.specs.Bytes.{Bytes, if◌then◌else◌, same}
+use Rattle.spec.specs.Bytes.{Bytes, when◌then◌else◌, same}
 use Rattle.spec.specs.NTriples.{Subject, named, blank, node, Triple, triple}
 use Rattle.spec.specs.Rdf.{rdf}
 use Rattle.spec.specs.Rdf as F
@@ -17,12 +17,12 @@ same-subject (blank l) = same_refl l
 
 -- a line with a subject is one of the lines of that subject
 among-lines : (x : Subject) (p : Bytes) (y : Subject) (ts : List Triple) → Among (triple x p (node y)) ts → Among (triple x p (node y)) (lines_of x ts)
-unfolding lines_of if◌then◌else◌
+unfolding lines_of when◌then◌else◌
 among-lines x p y [] a = elim a [ ]
 among-lines x p y (t ∷ ts) first = rw (same-subject x) first
 among-lines x p y (triple s q o ∷ ts) (later a) = go (same_subject x s) (among-lines x p y ts a)
   where
-    go : (b : Bool) → Among (triple x p (node y)) (lines_of x ts) → Among (triple x p (node y)) (if b then (triple s q o ∷ lines_of x ts) else lines_of x ts)
+    go : (b : Bool) → Among (triple x p (node y)) (lines_of x ts) → Among (triple x p (node y)) (when b then (triple s q o ∷ lines_of x ts) else lines_of x ts)
     go true h = later h
     go false h = h
 

@@ -4,7 +4,7 @@ use Rattle.std.proofs.Common.{sym, ◌∙◌, ap, subst}
 use Rattle.std.proofs.Math.Option.{none}
 use Rattle.std.proofs.lemmas.Bool.{not-true}
 use Rattle.spec.specs.XmlLang.{Language, unsaid}
-use Rattle.spec.specs.Bytes.{Bytes, if◌then◌else◌, All}
+use Rattle.spec.specs.Bytes.{Bytes, when◌then◌else◌, All}
 use Rattle.spec.specs.Numbers.{Answer, refuse, good}
 use Rattle.spec.specs.Pyx.{Attribute, Event, opening, closing, text, instruction}
 use Rattle.spec.specs.Namespaces.{declared}
@@ -67,11 +67,11 @@ pub data Change (d : Doc) : List Triple → Doc → Type 0 where
 
 -- what is kept by a change of value is kept of every open element
 pub all_changed : (P : Frame → Type 0) (g : Value → Value) → ((f : Frame) → P f → P (with_kind (on_value g f.kind) f)) → (fs : List Frame) → All P fs → All P (change_value g fs)
-unfolding change_value if◌then◌else◌
+unfolding change_value when◌then◌else◌
 all_changed P g keep [] h = tt
 all_changed P g keep (f ∷ fs) h = go (is_xml_element f.kind) (all_changed P g keep fs h.1)
   where
-    go : (b : Bool) → All P (change_value g fs) → All P (if b then f ∷ change_value g fs else with_kind (on_value g f.kind) f ∷ fs)
+    go : (b : Bool) → All P (change_value g fs) → All P (when b then f ∷ change_value g fs else with_kind (on_value g f.kind) f ∷ fs)
     go true k = (h.0, k)
     go false k = (keep f h.0, h.1)
 
@@ -141,13 +141,13 @@ close_element_lem n (f ∷ fs) d e = always_require (Changes d) _ _ _ λ s. end_
 -- ---- text
 
 on_text_lem : (p : Place) (v : Bytes) (d : Doc) → place_in d.frames ≡ p → Always (Changes d) (X.on_text p v d)
-unfolding X.on_text add_xml if◌then◌else◌
+unfolding X.on_text add_xml when◌then◌else◌
 on_text_lem outside v d e = always_require (Changes d) _ _ _ λ b. stays
 on_text_lem nodes v d e = always_require (Changes d) _ _ _ λ b. stays
 on_text_lem (properties s li) v d e = always_require (Changes d) _ _ _ λ b. stays
 on_text_lem nodes_or_text v d e = go (X.is_blank v)
   where
-    go : (b : Bool) → Changes d ([], (if b then d else with_frames (change_value (takes_text v) d.frames) d))
+    go : (b : Bool) → Changes d ([], (when b then d else with_frames (change_value (takes_text v) d.frames) d))
     go true = stays
     go false = takes_text_lem v e
 on_text_lem xml v d e = takes_xml_lem (text_xml v) e

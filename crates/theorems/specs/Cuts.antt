@@ -5,7 +5,7 @@ use Rattle.std.proofs.Common.{◌∙◌, ap, subst, inl, inr, eqb-true}
 use Rattle.std.proofs.lemmas.Bool.{false≢true}
 use Rattle.std.proofs.Math.Option.{Option, none, some}
 use mathlib.Core.List.{[], ◌∷◌, ◌++◌, reverse, reverse-append, reverse-reverse, reverse-cons, append_assoc}
-use Rattle.spec.specs.Bytes.{Bytes, if◌then◌else◌, begins, after, up_to, from, among, every}
+use Rattle.spec.specs.Bytes.{Bytes, when◌then◌else◌, begins, after, up_to, from, among, every}
 use Rattle.spec.specs.Utf8.{begins_with_one}
 use Rattle.spec.proofs.Booleans.{and_left, and_right, or_cases}
 use Rattle.theorems.specs.Utf8.{is_ascii, low, Text, join, byte-text, empty-text, clean_cut, behind, cut_at}
@@ -30,20 +30,20 @@ among_low (a ∷ l) h b k = elim (or_cases (eqb a b) (among l b) k) [
 ]
 
 pub up_to_from : (p : ℕ → Bool) (s : Bytes) → up_to p s ++ from p s ≡ s
-unfolding up_to from if◌then◌else◌
+unfolding up_to from when◌then◌else◌
 up_to_from p [] = refl
 up_to_from p (a ∷ s) = go (p a) (up_to_from p s)
   where
-    go : (b : Bool) → up_to p s ++ from p s ≡ s → (if b then [] else (a ∷ up_to p s)) ++ (if b then (a ∷ s) else from p s) ≡ a ∷ s
+    go : (b : Bool) → up_to p s ++ from p s ≡ s → (when b then [] else (a ∷ up_to p s)) ++ (when b then (a ∷ s) else from p s) ≡ a ∷ s
     go true e = refl
     go false e = ap (λ (x : Bytes). a ∷ x) e
 
 pub after_up_to : (p : ℕ → Bool) (s : Bytes) → after (up_to p s) s ≡ from p s
-unfolding up_to from after if◌then◌else◌
+unfolding up_to from after when◌then◌else◌
 after_up_to p [] = refl
 after_up_to p (a ∷ s) = go (p a) (after_up_to p s)
   where
-    go : (b : Bool) → after (up_to p s) s ≡ from p s → after (if b then [] else (a ∷ up_to p s)) (a ∷ s) ≡ (if b then (a ∷ s) else from p s)
+    go : (b : Bool) → after (up_to p s) s ≡ from p s → after (when b then [] else (a ∷ up_to p s)) (a ∷ s) ≡ (when b then (a ∷ s) else from p s)
     go true e = refl
     go false e = e
 
@@ -53,11 +53,11 @@ pub data From (p : ℕ → Bool) : Bytes → Type 0 where
   found : (b : ℕ) (s : Bytes) → p b ≡ true → From p (b ∷ s)
 
 pub from_view : (p : ℕ → Bool) (s : Bytes) → From p (from p s)
-unfolding from if◌then◌else◌
+unfolding from when◌then◌else◌
 from_view p [] = nothing
 from_view p (a ∷ s) = go (p a) refl (from_view p s)
   where
-    go : (b : Bool) → p a ≡ b → From p (from p s) → From p (if b then (a ∷ s) else from p s)
+    go : (b : Bool) → p a ≡ b → From p (from p s) → From p (when b then (a ∷ s) else from p s)
     go true e f = found a s e
     go false e f = f
 

@@ -4,7 +4,7 @@ use Rattle.std.proofs.Common.{sym, ◌∙◌, ap, subst, inl, inr, arith, length
 use Rattle.std.proofs.Math.Option.{Option, none}
 use mathlib.Core.List.{List, [], ◌∷◌, ◌++◌, append_assoc, append-nil, cons≢nil}
 use Rattle.std.proofs.lemmas.List.{drop-append-le}
-use Rattle.spec.specs.Bytes.{Bytes, if◌then◌else◌, is_empty, concat, require◌or◌}
+use Rattle.spec.specs.Bytes.{Bytes, when◌then◌else◌, is_empty, concat, require◌or◌}
 use Rattle.spec.specs.declared.Refusal.TheVariants.{Incomplete}
 use Rattle.spec.specs.Calls.{State, is_open, may_start, started, call_start, Report, marked_by, refused, refused_in, call_step}
 use Rattle.spec.specs.PyxCut.{cut}
@@ -228,7 +228,7 @@ printed_on k r n =
     rw e (append_assoc r.output n.output _)
 
 printed_end : (k : ℕ) (r : Report) → (r.answer ≡ 1 → ⊥) → printed k (ending r) ≡ last_line r.answer k
-unfolding printed ending if◌then◌else◌
+unfolding printed ending when◌then◌else◌
 printed_end k r h = let e : k + 0 ≡ k = omega arith in rw (ne_eqb r.answer 1 h, e) refl
 
 print_on : (f k : ℕ) (b : ℕ) (rest : Bytes) (s : State) → (call_step true (b ∷ rest) program_room s).answer ≡ 0
@@ -255,7 +255,7 @@ abbrev pub program_run : ℕ → Bytes → State → Run
 program_run k s q = run (λ i. program_room) k s q
 
 print-empty : (f k : ℕ) (d : Doc) → print (suc f) k [] (is_open d) ≡ printed k (program_run k [] (is_open d))
-unfolding print printed run at_most ending if◌then◌else◌ refused_in refused marked_by cut
+unfolding print printed run at_most ending when◌then◌else◌ refused_in refused marked_by cut
 print-empty f k d =
     let e : call_step true [] program_room (is_open d) ≡ refused_in (is_open d) Incomplete = given_when true [] program_room (is_open d) Incomplete (no_event d refl) in
     let z : k + 0 ≡ k = omega arith in

@@ -2,7 +2,7 @@
 use Rattle.std.specs.Prelude.{◌≡◌, refl, Bool, true, false, ◌&&◌, ◌||◌, ℕ, eqb}
 use Rattle.std.proofs.Common.{sym, subst, inl, inr, eqb-true}
 use mathlib.Core.List.{List, [], ◌∷◌, ◌++◌, append_assoc, append-nil, drop_last}
-use Rattle.spec.specs.Bytes.{Bytes, ascii, byte, if◌then◌else◌, begins, after, up_to, from, among, every, onto, split, concat, ◌>>=◌, All}
+use Rattle.spec.specs.Bytes.{Bytes, ascii, byte, when◌then◌else◌, begins, after, up_to, from, among, every, onto, split, concat, ◌>>=◌, All}
 use Rattle.spec.specs.Numbers.{good}
 use Rattle.spec.specs.Utf8.{as_characters}
 use Rattle.spec.specs.XmlNames.{is_char, is_name, is_nc_name, is_q_name, no_colon, prefix_of, local_of}
@@ -41,12 +41,12 @@ pieces_onto u c [] h = (h, tt)
 pieces_onto u c (l ∷ ls) h = (subst (λ (x : Bytes). Text x) (append_assoc u (c ∷ []) l) h.0, h.1)
 
 split_text : (u s : Bytes) → Text (u ++ s) → Pieces u (split (byte "\n") s)
-unfolding split if◌then◌else◌ byte is_ascii
+unfolding split when◌then◌else◌ byte is_ascii
 split_text u [] t = (t, tt)
 split_text u (c ∷ s) t = go (eqb c 10) refl (split_text [] s) (split_text (u ++ (c ∷ [])) s)
   where
     go : (b : Bool) → eqb c 10 ≡ b → (Text s → Pieces [] (split 10 s)) → (Text ((u ++ (c ∷ [])) ++ s) → Pieces (u ++ (c ∷ [])) (split 10 s))
-        → Pieces u (if b then [] ∷ split 10 s else onto c (split 10 s))
+        → Pieces u (when b then [] ∷ split 10 s else onto c (split 10 s))
     go true e f g =
         let r = cut_at u c s (rw (eqb-true c 10 e) refl) t in
         (rw (append-nil u) r.0, pieces_all (split 10 s) (f r.1))
@@ -115,13 +115,13 @@ SplitLow true ls = All LowLine ls
 SplitLow false ls = LowLines ls
 
 split_low : (a : Bool) (s : Bytes) → LowFrom a s → SplitLow a (split 10 s)
-unfolding split if◌then◌else◌
+unfolding split when◌then◌else◌
 split_low true [] h = (tt, tt)
 split_low false [] h = tt
 split_low true (b ∷ s) h = rw h.1 (low_onto b (split 10 s) h.0 (split_low false s h.2))
 split_low false (b ∷ s) h = go (eqb b 10) (split_low (eqb b 10) s h)
   where
-    go : (a : Bool) → SplitLow a (split 10 s) → LowLines (if a then [] ∷ split 10 s else onto b (split 10 s))
+    go : (a : Bool) → SplitLow a (split 10 s) → LowLines (when a then [] ∷ split 10 s else onto b (split 10 s))
     go true k = k
     go false k = same-onto b (split 10 s) k
 
@@ -137,10 +137,10 @@ colon-text s nothing t = t
 colon-text s (found b r e) t = join (byte-text b (among_low (ascii ":") refl b e)) t
 
 qname_text : (n : Bytes) → is_q_name n ≡ true → Text n
-unfolding is_q_name prefix_of local_of if◌then◌else◌
+unfolding is_q_name prefix_of local_of when◌then◌else◌
 qname_text n h = go (no_colon n) (and_left _ (is_nc_name (local_of n)) h) (and_right (no_colon n || is_nc_name (prefix_of n)) _ h)
   where
-    go : (b : Bool) → b || is_nc_name (if b then [] else up_to (among (ascii ":")) n) ≡ true → is_nc_name (if b then n else after (ascii ":") (from (among (ascii ":")) n)) ≡ true → Text n
+    go : (b : Bool) → b || is_nc_name (when b then [] else up_to (among (ascii ":")) n) ≡ true → is_nc_name (when b then n else after (ascii ":") (from (among (ascii ":")) n)) ≡ true → Text n
     go true p q = ncname_text n q
     go false p q =
         subst (λ (x : Bytes). Text x) (up_to_from (among (ascii ":")) n)

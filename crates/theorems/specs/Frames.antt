@@ -3,7 +3,7 @@
 use Rattle.std.specs.Prelude.{◌≡◌, ◌⊎◌, Bool, true, false, List, [], ◌∷◌, ◌++◌, ℕ, suc, length}
 use Rattle.std.proofs.Math.Path.{refl}
 use Rattle.std.proofs.Common.{ap, inl, inr, arith}
-use Rattle.spec.specs.Bytes.{Bytes, each, if◌then◌else◌}
+use Rattle.spec.specs.Bytes.{Bytes, each, when◌then◌else◌}
 use Rattle.spec.specs.Numbers.{Answer, good}
 use Rattle.spec.specs.Pyx.{Attribute, Event, opening, closing, text, instruction}
 use Rattle.spec.specs.Namespaces.{Binding, declared, expand_element}
@@ -38,11 +38,11 @@ left (property_element p v) n fs = fs
 left xml_element n fs = change_value (takes_xml (end_tag_xml n)) fs
 
 pub value-length : (h : Value → Value) (fs : List Frame) → length (change_value h fs) ≡ length fs
-unfolding change_value if◌then◌else◌
+unfolding change_value when◌then◌else◌
 value-length h [] = refl
 value-length h (f ∷ fs) = go (is_xml_element f.kind) (value-length h fs)
   where
-    go : (t : Bool) → length (change_value h fs) ≡ length fs → length (if t then f ∷ change_value h fs else with_kind (on_value h f.kind) f ∷ fs) ≡ suc (length fs)
+    go : (t : Bool) → length (change_value h fs) ≡ length fs → length (when t then f ∷ change_value h fs else with_kind (on_value h f.kind) f ∷ fs) ≡ suc (length fs)
     go true e = ap suc e
     go false e = refl
 
@@ -215,13 +215,13 @@ close_element_lem n (f ∷ fs) d =
     (end_kind_lem f.kind n (language_in_force (f ∷ fs)) (with_frames fs d)) λ s h. (rw h.0 closes, h.1)
 
 on_text_lem : (s : Bytes) (d : Doc) (p : Place) → Always (Moved d (text s)) (X.on_text p s d)
-unfolding X.on_text with_frames if◌then◌else◌ add_xml
+unfolding X.on_text with_frames when◌then◌else◌ add_xml
 on_text_lem s d outside = always_after (Moved d (text s)) _ _ (leaves, refl)
 on_text_lem s d nodes = always_after (Moved d (text s)) _ _ (leaves, refl)
 on_text_lem s d (properties u li) = always_after (Moved d (text s)) _ _ (leaves, refl)
 on_text_lem s d nodes_or_text = go (X.is_blank s)
   where
-    go : (b : Bool) → Moved d (text s) ([], (if b then d else with_frames (change_value (takes_text s) d.frames) d))
+    go : (b : Bool) → Moved d (text s) ([], (when b then d else with_frames (change_value (takes_text s) d.frames) d))
     go true = (leaves, refl)
     go false = (adds (by_text s), refl)
 on_text_lem s d xml = (adds (by_xml _), refl)

@@ -2,7 +2,7 @@
 use Rattle.std.specs.Prelude.{◌≡◌, refl, Bool, true, false, List, [], ◌∷◌, ℕ}
 use Rattle.std.proofs.Math.Option.{Option}
 use Rattle.std.proofs.Common.{arith}
-use Rattle.spec.specs.Bytes.{Bytes, if◌then◌else◌, All}
+use Rattle.spec.specs.Bytes.{Bytes, when◌then◌else◌, All}
 use Rattle.spec.specs.NTriples.{Triple}
 use Rattle.spec.specs.declared.Mode.{Mode}
 use Rattle.spec.specs.Document.{Value, Kind, rdf_rdf, wrapper, node_element, property_element, xml_element, Part, Frame, Doc, fresh, with_frames, with_labels, with_kind, with_part, xml, in_kind, place_in, change_value, on_value, is_xml_element}
@@ -51,11 +51,11 @@ unfolding with_kind
 had_changed g fs h = all_changed (λ f. HadRdf f.kind) g (λ f k. had_value g f.kind k) fs h
 
 had_behind : (g : Value → Value) (fs : List Frame) → Had fs → Had (change_value g fs)
-unfolding change_value if◌then◌else◌
+unfolding change_value when◌then◌else◌
 had_behind g [] h = tt
 had_behind g (f ∷ fs) h = go (is_xml_element f.kind)
   where
-    go : (b : Bool) → Had (if b then f ∷ change_value g fs else with_kind (on_value g f.kind) f ∷ fs)
+    go : (b : Bool) → Had (when b then f ∷ change_value g fs else with_kind (on_value g f.kind) f ∷ fs)
     go true = had_changed g fs h
     go false = h
 

@@ -4,7 +4,7 @@ use Rattle.std.specs.Prelude.{◌≡◌, refl, Bool, true, false, ℕ, suc, ◌<
 use Rattle.std.proofs.Common.{sym, ◌∙◌, ap, arith, length-append}
 use Rattle.std.proofs.Math.Option.{Option}
 use mathlib.Core.List.{List, [], ◌∷◌, ◌++◌, tail-eq_of_cons-eq}
-use Rattle.spec.specs.Bytes.{Bytes, if◌then◌else◌, or_else}
+use Rattle.spec.specs.Bytes.{Bytes, when◌then◌else◌, or_else}
 use Rattle.spec.specs.Numbers.{good}
 use Rattle.spec.specs.Namespaces.{Binding}
 use Rattle.spec.specs.Pyx.{Event, opening, closing, text, instruction}
@@ -21,11 +21,11 @@ use Rattle.theorems.specs.Frames.{left, Move, instructs, leaves, adds, opens, co
 -- ---- what the start tags said
 
 pub said-value : (h : Value → Value) (fs : List Frame) → said (change_value h fs) ≡ said fs
-unfolding said change_value with_kind if◌then◌else◌
+unfolding said change_value with_kind when◌then◌else◌
 said-value h [] = refl
 said-value h (f ∷ fs) = go (is_xml_element f.kind) (said-value h fs)
   where
-    go : (b : Bool) → said (change_value h fs) ≡ said fs → said (if b then f ∷ change_value h fs else with_kind (on_value h f.kind) f ∷ fs) ≡ said (f ∷ fs)
+    go : (b : Bool) → said (change_value h fs) ≡ said fs → said (when b then f ∷ change_value h fs else with_kind (on_value h f.kind) f ∷ fs) ≡ said (f ∷ fs)
     go true e = rw e refl
     go false e = refl
 

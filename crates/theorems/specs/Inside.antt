@@ -5,7 +5,7 @@ use Rattle.std.proofs.Common.{sym, ◌∙◌, ap, subst, inl, inr, true≢false,
 use Rattle.std.proofs.lemmas.Bool.{false≢true}
 use Rattle.std.proofs.Math.Option.{some, some-injective}
 use mathlib.Core.List.{List, [], ◌∷◌, ◌++◌, reverse_aux, reverse_aux-append}
-use Rattle.spec.specs.Bytes.{Bytes, if◌then◌else◌}
+use Rattle.spec.specs.Bytes.{Bytes, when◌then◌else◌}
 use Rattle.spec.specs.Numbers.{good}
 use Rattle.spec.specs.Namespaces.{declared, expand_element}
 use Rattle.spec.specs.Pyx.{Attribute, Event, opening, closing, text, instruction}
@@ -72,11 +72,11 @@ unfolding on_value takes_node
 node-child s (a_node {s = t}) = ap (node_element t) (omega arith)
 node-child s a_collection = refl
 
-li-counted : {K : Kind} (i : Bytes) → Holder K → counted i K ≡ grown K [] (if is_li i then 1 else 0)
-unfolding counted if◌then◌else◌
+li-counted : {K : Kind} (i : Bytes) → Holder K → counted i K ≡ grown K [] (when is_li i then 1 else 0)
+unfolding counted when◌then◌else◌
 li-counted i (a_node {s = s} {li = li}) = ap (node_element s) (go (is_li i))
   where
-    go : (b : Bool) → (if b then suc li else li) ≡ li + (if b then 1 else 0)
+    go : (b : Bool) → (when b then suc li else li) ≡ li + (when b then 1 else 0)
     go true = omega arith
     go false = omega arith
 li-counted i a_collection = refl
@@ -111,12 +111,12 @@ Above rest fs = (y : Frame) × (ys : List Frame) × Based (y ∷ ys) × (fs ≡ 
 
 -- what changes the innermost value changes none below them
 value-above : (h : Value → Value) (x : Frame) (gs rest : List Frame) → Based (x ∷ gs) → Above rest (change_value h (x ∷ gs ++ rest))
-unfolding change_value with_kind if◌then◌else◌
+unfolding change_value with_kind when◌then◌else◌
 value-above h x [] rest b = (with_kind (on_value h x.kind) x, [], value_xml h x.kind ∙ b, rw b refl)
 value-above h x (z ∷ gs) rest b = go (is_xml_element x.kind) (value-above h z gs rest b)
   where
     go : (t : Bool) → Above rest (change_value h (z ∷ gs ++ rest))
-        → Above rest (if t then x ∷ change_value h (z ∷ gs ++ rest) else with_kind (on_value h x.kind) x ∷ z ∷ gs ++ rest)
+        → Above rest (when t then x ∷ change_value h (z ∷ gs ++ rest) else with_kind (on_value h x.kind) x ∷ z ∷ gs ++ rest)
     go true (y, ys, c, e) = (x, y ∷ ys, c, ap (x ∷◌) e)
     go false k = (with_kind (on_value h x.kind) x, z ∷ gs, b, refl)
 
@@ -148,7 +148,7 @@ same_kind_lem h o = rw (grown_none h) o
 
 -- a change of the value, where it is innermost
 change_innermost : (h : Value → Value) (g : Frame) (fs : List Frame) {K K' : Kind} → Holder K → g.kind ≡ K → on_value h K ≡ K' → Open fs K' (change_value h (g ∷ fs))
-unfolding change_value with_kind if◌then◌else◌
+unfolding change_value with_kind when◌then◌else◌
 change_innermost h g fs {K} {K'} holder is e =
     let no : is_xml_element g.kind ≡ false = ap is_xml_element is ∙ not_xml holder in
     rw no (open_at [] (with_kind (on_value h g.kind) g) (ap (on_value h) is ∙ e) tt)
@@ -160,12 +160,12 @@ on_text_lem {fs = fs} (x ∷ gs) g m h is b = open_below is (value-above _ x gs 
 
 -- an rdf:li counts only directly inside
 li_direct : (n i : Bytes) (as' : List Attribute) (g : Frame) (fs : List Frame) → expand_element (declared as' ++ in_scope (g ∷ fs)) n ≡ good i
-    → li_of (length fs) (opening n as') (g ∷ fs) ≡ (if is_li i then 1 else 0)
+    → li_of (length fs) (opening n as') (g ∷ fs) ≡ (when is_li i then 1 else 0)
 unfolding li_of is_li_tag names_li
 li_direct n i as' g fs e = rw (eq-eqb (suc (length fs)) (suc (length fs)) refl, e) refl
 
 li_deeper : (n : Bytes) (as' : List Attribute) (x g : Frame) (gs fs : List Frame) → li_of (length fs) (opening n as') (x ∷ gs ++ (g ∷ fs)) ≡ 0
-unfolding li_of if◌then◌else◌
+unfolding li_of when◌then◌else◌
 li_deeper n as' x g gs fs = rw (deeper x g gs fs) refl
 
 on_start : {n : Bytes} {as' : List Attribute} {fs : List Frame} {K : Kind} (gs : List Frame) (g : Frame) {frames : List Frame} → Holder K → g.kind ≡ K → Based gs
@@ -182,7 +182,7 @@ on_start {n} {as'} {fs} {K} (z ∷ gs) g {frames} h is b (copies {f = f} x c k) 
 -- a child closes only directly inside
 on_end : (n : Bytes) {fs : List Frame} {K : Kind} (f g : Frame) (gs : List Frame) → Holder K → g.kind ≡ K → Based (f ∷ gs)
     → Open fs (grown K (child_of (length fs) (closing n) (f ∷ gs ++ (g ∷ fs))) 0) (left f.kind n (gs ++ (g ∷ fs)))
-unfolding child_of if◌then◌else◌ node_subject is_xml_element
+unfolding child_of when◌then◌else◌ node_subject is_xml_element
 on_end n {fs} {K} f g [] h is b = rw (eq-eqb (suc (length fs)) (suc (length fs)) refl) (go f.kind b)
   where
     go : (k : Kind) → is_xml_element k ≡ false → Open fs (grown K (node_subject k) 0) (left k n (g ∷ fs))

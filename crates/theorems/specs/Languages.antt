@@ -5,7 +5,7 @@ use Rattle.std.proofs.Common.{sym, ◌∙◌, ap, arith, suc}
 use Rattle.std.proofs.lemmas.Bool.{false≢true, not-true}
 use Rattle.std.proofs.Math.Option.{Option, none, some}
 use Prim.Native.String.{String}
-use Rattle.spec.specs.Bytes.{Bytes, ascii, if◌then◌else◌, same, begins, is_empty, each, All}
+use Rattle.spec.specs.Bytes.{Bytes, ascii, when◌then◌else◌, same, begins, is_empty, each, All}
 use Rattle.spec.specs.Numbers.{Answer, good}
 use Rattle.spec.specs.Pyx.{Attribute, attribute, Event, opening, closing, text, instruction}
 use Rattle.spec.specs.NTriples.{Subject, blank, Term, node, Triple, triple}
@@ -90,12 +90,12 @@ none_is_lang [] = true
 none_is_lang (r ∷ rs) = not (same_role xml_lang r.1) && none_is_lang rs
 
 among_none : (rs : List (String × Role)) (i : Bytes) → none_is_lang rs ≡ true → same_role xml_lang (role_among rs i) ≡ false
-unfolding none_is_lang role_among same_role role_number if◌then◌else◌
+unfolding none_is_lang role_among same_role role_number when◌then◌else◌
 among_none [] i h = refl
 among_none (r ∷ rs) i h =
     go (same i (rdf r.0)) (not-true (same_role xml_lang r.1) (and_left _ (none_is_lang rs) h)) (among_none rs i (and_right (not (same_role xml_lang r.1)) (none_is_lang rs) h))
   where
-    go : (b : Bool) → same_role xml_lang r.1 ≡ false → same_role xml_lang (role_among rs i) ≡ false → same_role xml_lang (if b then r.1 else role_among rs i) ≡ false
+    go : (b : Bool) → same_role xml_lang r.1 ≡ false → same_role xml_lang (role_among rs i) ≡ false → same_role xml_lang (when b then r.1 else role_among rs i) ≡ false
     go true e k = e
     go false e k = k
 
@@ -104,10 +104,10 @@ unfolding none_is_lang rdf_roles same_role role_number
 rdf_none = refl
 
 pub role_language : (n i : Bytes) → same_role xml_lang (role_of n i) ≡ same n (ascii "xml:lang")
-unfolding role_of same_role role_number if◌then◌else◌
+unfolding role_of same_role role_number when◌then◌else◌
 role_language n i = go (same n (ascii "xml:lang")) (same n (ascii "xml:base")) (begins (ascii "xml") n)
   where
-    go : (a b c : Bool) → same_role xml_lang (if a then xml_lang else if b then xml_base else if c then nothing else role_among rdf_roles i) ≡ a
+    go : (a b c : Bool) → same_role xml_lang (when a then xml_lang else when b then xml_base else when c then nothing else role_among rdf_roles i) ≡ a
     go true b c = refl
     go false true c = refl
     go false false true = refl
@@ -297,24 +297,24 @@ code Bad = 2
 
 -- The tag check: "clears" of the empty value alone, "good" of the tags of RFC 5646 alone, and so "bad" of all others.
 pub only-empty_clears : (v : Bytes) → verdict v ≡ Clears → v ≡ []
-unfolding verdict is_empty if◌then◌else◌ code
+unfolding verdict is_empty when◌then◌else◌ code
 only-empty_clears [] h = refl
 only-empty_clears (c ∷ s) h = absurd (go (is_language_tag (c ∷ s)) (ap code h))
   where
-    go : (t : Bool) → code (if t then Good else Bad) ≡ 1 → ⊥
+    go : (t : Bool) → code (when t then Good else Bad) ≡ 1 → ⊥
     go true e = omega (arith, e)
     go false e = omega (arith, e)
 
 pub empty_clears : verdict [] ≡ Clears
-unfolding verdict is_empty if◌then◌else◌
+unfolding verdict is_empty when◌then◌else◌
 empty_clears = refl
 
 pub only-tags_good : (v : Bytes) → verdict v ≡ Good → is_language_tag v ≡ true
-unfolding verdict is_empty if◌then◌else◌ code
+unfolding verdict is_empty when◌then◌else◌ code
 only-tags_good [] h = absurd (let e : 1 ≡ 0 = ap code h in omega (arith, e))
 only-tags_good (c ∷ s) h = go (is_language_tag (c ∷ s)) (ap code h)
   where
-    go : (t : Bool) → code (if t then Good else Bad) ≡ 0 → t ≡ true
+    go : (t : Bool) → code (when t then Good else Bad) ≡ 0 → t ≡ true
     go true e = refl
     go false e = absurd (omega (arith, e))
 
@@ -323,12 +323,12 @@ unfolding L.all
 no_tag = refl
 
 pub tags_good : (v : Bytes) → is_language_tag v ≡ true → verdict v ≡ Good
-unfolding verdict is_empty if◌then◌else◌
+unfolding verdict is_empty when◌then◌else◌
 tags_good [] h = absurd (false≢true (sym no_tag ∙ h))
 tags_good (c ∷ s) h = rw h refl
 
 empty_cleared : (o : Option Bytes) (l : Language) → o ≡ some [] → in_force (own_of o) l ≡ no_language
-unfolding own_of said_by verdict is_empty in_force if◌then◌else◌
+unfolding own_of said_by verdict is_empty in_force when◌then◌else◌
 empty_cleared o l e = rw e refl
 
 -- Behind an accepted start tag with an empty xml:lang no language is in force, whatever is around it (where xml:lang means something).

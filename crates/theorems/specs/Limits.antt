@@ -4,7 +4,7 @@ use Rattle.std.proofs.Common.{sym, ◌∙◌, ap, arith, length-append, ltb-true
 use Rattle.std.proofs.lemmas.Bool.{false≢true}
 use Rattle.std.proofs.Math.Option.{Option, none, some}
 use Rattle.spec.specs.XmlLang.{carries}
-use Rattle.spec.specs.Bytes.{Bytes, if◌then◌else◌, same, or_else, present, total, All}
+use Rattle.spec.specs.Bytes.{Bytes, when◌then◌else◌, same, or_else, present, total, All}
 use Rattle.spec.specs.Bytes as B
 use Rattle.spec.specs.Numbers.{Answer, refuse, good}
 use Rattle.spec.specs.Limits.{most_open_elements, most_attributes, most_bindings, most_name_bytes, most_ids, most_id_bytes, most_held_bytes, most_labels}
@@ -82,10 +82,10 @@ tag_bindings n as' d =
 -- ---- rdf:_k is short
 
 property_iri_short : (i : Bytes) (li : ℕ) → Short i → (is_li i ≡ true → li < most_labels) → Short (property_iri i (suc li))
-unfolding property_iri if◌then◌else◌ rdf B.ascii most_name_bytes most_labels
+unfolding property_iri when◌then◌else◌ rdf B.ascii most_name_bytes most_labels
 property_iri_short i li h k = go (is_li i) refl
   where
-    go : (b : Bool) → is_li i ≡ b → length (if b then rdf "_" ++ decimal (suc li) else i) ≤ most_name_bytes
+    go : (b : Bool) → is_li i ≡ b → length (when b then rdf "_" ++ decimal (suc li) else i) ≤ most_name_bytes
     go true e =
         let le : li < 99_999_999 = k e in
         let m : length (decimal (suc li)) ≤ 8 = decimal-length 8 (suc li) (omega arith) in
@@ -150,7 +150,7 @@ open_as_lem as_resource t p n k h = always_after OpensKind _ _ (tt, omega arith)
 open_as_lem as_literal t p n k h = (k.0, k.1, k.2, tt)
 open_as_lem as_other t p n k h = (k.0, k.1, k.2, tt)
 
-count_test : (i : Bytes) (li : ℕ) → Always (λ u. is_li i ≡ true → li < most_labels) (if is_li i then O.one_more li else good tt)
+count_test : (i : Bytes) (li : ℕ) → Always (λ u. is_li i ≡ true → li < most_labels) (when is_li i then O.one_more li else good tt)
 unfolding O.one_more
 count_test i li =
     always_if (λ u. is_li i ≡ true → li < most_labels) _ _ _
@@ -190,12 +190,12 @@ count-scope i h [] = refl
 count-scope i h (f ∷ fs) = refl
 
 count-kind : (i : Bytes) (k : Kind) → MayCount (in_kind k) i → ShortKind k → ShortKind (G.counted i k)
-unfolding G.counted in_kind if◌then◌else◌
+unfolding G.counted in_kind when◌then◌else◌
 count-kind i rdf_rdf c h = h
 count-kind i (wrapper b) c h = h
 count-kind i (node_element s li) c h = (h.0, go (is_li i) refl)
   where
-    go : (b : Bool) → is_li i ≡ b → (if b then suc li else li) ≤ most_labels
+    go : (b : Bool) → is_li i ≡ b → (when b then suc li else li) ≤ most_labels
     go true e = let le : li < most_labels = c e in omega arith
     go false e = h.1
 count-kind i (property_element p v) c h = h
@@ -203,25 +203,25 @@ count-kind i xml_element c h = h
 
 -- what the profile remembers of a start tag that is short
 noted_short : (p : Bool) (t : Tag) → Short? t.about → (q : Part) → ShortPart q → ShortPart (noted p t q)
-unfolding noted with_child if◌then◌else◌
+unfolding noted with_child when◌then◌else◌
 noted_short false t a q h = h
 noted_short true t a ordinary h = tt
 noted_short true t a (top_level none) h = a
 noted_short true t a (top_level (some b)) h = h
 noted_short true t a (alternatives none) h = go (same t.iri (rdf "li"))
   where
-    go : (b : Bool) → ShortPart (if b then alternatives (some (carries t.own_tag)) else alternatives none)
+    go : (b : Bool) → ShortPart (when b then alternatives (some (carries t.own_tag)) else alternatives none)
     go true = tt
     go false = tt
 noted_short true t a (alternatives (some b)) h = tt
 
-alt_short : (b : Bool) → ShortPart (if b then alternatives none else ordinary)
-unfolding if◌then◌else◌
+alt_short : (b : Bool) → ShortPart (when b then alternatives none else ordinary)
+unfolding when◌then◌else◌
 alt_short true = tt
 alt_short false = tt
 
 new_short : (p : Bool) (q : Place) (i : Bytes) → ShortPart (new_part p q i)
-unfolding new_part if◌then◌else◌
+unfolding new_part when◌then◌else◌
 new_short false q i = tt
 new_short true outside i = tt
 new_short true nodes i = alt_short (same i (rdf "Alt"))
@@ -236,20 +236,20 @@ count-every i g (f ∷ fs) k c h = ((h.0.0, count-kind i f.kind c h.0.1, k f.par
 
 -- a value is changed
 change_length : (g : Value → Value) (fs : List Frame) → length (change_value g fs) ≡ length fs
-unfolding change_value if◌then◌else◌
+unfolding change_value when◌then◌else◌
 change_length g [] = refl
 change_length g (f ∷ fs) = go (is_xml_element f.kind) (change_length g fs)
   where
-    go : (b : Bool) → length (change_value g fs) ≡ length fs → length (if b then f ∷ change_value g fs else with_kind (on_value g f.kind) f ∷ fs) ≡ suc (length fs)
+    go : (b : Bool) → length (change_value g fs) ≡ length fs → length (when b then f ∷ change_value g fs else with_kind (on_value g f.kind) f ∷ fs) ≡ suc (length fs)
     go true e = ap suc e
     go false e = refl
 
 change_scope : (g : Value → Value) (fs : List Frame) → in_scope (change_value g fs) ≡ in_scope fs
-unfolding change_value in_scope with_kind if◌then◌else◌
+unfolding change_value in_scope with_kind when◌then◌else◌
 change_scope g [] = refl
 change_scope g (f ∷ fs) = go (is_xml_element f.kind) (change_scope g fs)
   where
-    go : (b : Bool) → in_scope (change_value g fs) ≡ in_scope fs → in_scope (if b then f ∷ change_value g fs else with_kind (on_value g f.kind) f ∷ fs) ≡ f.bindings ++ in_scope fs
+    go : (b : Bool) → in_scope (change_value g fs) ≡ in_scope fs → in_scope (when b then f ∷ change_value g fs else with_kind (on_value g f.kind) f ∷ fs) ≡ f.bindings ++ in_scope fs
     go true e = rw e
     go false e = refl
 
@@ -266,11 +266,11 @@ change_kind g (property_element p v) s h = (h.0, h.1, h.2, s v h.3)
 change_kind g xml_element s h = h
 
 change_every : (g : Value → Value) (fs : List Frame) → Safe g → All ShortFrame fs → All ShortFrame (change_value g fs)
-unfolding change_value with_kind if◌then◌else◌
+unfolding change_value with_kind when◌then◌else◌
 change_every g [] s h = tt
 change_every g (f ∷ fs) s h = go (is_xml_element f.kind) (change_every g fs s h.1)
   where
-    go : (b : Bool) → All ShortFrame (change_value g fs) → All ShortFrame (if b then f ∷ change_value g fs else with_kind (on_value g f.kind) f ∷ fs)
+    go : (b : Bool) → All ShortFrame (change_value g fs) → All ShortFrame (when b then f ∷ change_value g fs else with_kind (on_value g f.kind) f ∷ fs)
     go true k = (h.0, k)
     go false k = ((h.0.0, change_kind g f.kind s h.0.1, h.0.2), h.1)
 

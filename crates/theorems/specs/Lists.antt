@@ -6,7 +6,7 @@ use Rattle.std.proofs.Math.Option.{Option}
 use mathlib.Core.List.{List, [], ◌∷◌, ◌++◌, reverse_aux, reverse, append_assoc}
 use Rattle.std.proofs.Math.ListN.{length}
 use borrow.Author.Tests.{leb-true}
-use Rattle.spec.specs.Bytes.{Bytes, if◌then◌else◌}
+use Rattle.spec.specs.Bytes.{Bytes, when◌then◌else◌}
 use Rattle.spec.specs.XmlLang.{written, Language, Own, unsaid, cleared, given}
 use Rattle.spec.specs.Numbers.{Answer, good}
 use Rattle.spec.specs.Pyx.{Event, closing}
@@ -223,17 +223,17 @@ never k = record {
 -- ---- the lines of a subject
 
 lines_none : (k : ℕ) {ts : List Triple} → OfLines (NotRule k) ts → lines_of (blank (label k)) ts ≡ []
-unfolding lines_of if◌then◌else◌
+unfolding lines_of when◌then◌else◌
 lines_none k no_line = refl
 lines_none k (with_line h g t) = rw h (lines_none k t)
 
 lines_split : (x : Subject) (ts us : List Triple) → lines_of x (ts ++ us) ≡ lines_of x ts ++ lines_of x us
-unfolding lines_of if◌then◌else◌
+unfolding lines_of when◌then◌else◌
 lines_split x [] us = refl
 lines_split x (triple s p o ∷ ts) us = go (same_subject x s) (lines_split x ts us)
   where
     go : (b : Bool) → lines_of x (ts ++ us) ≡ lines_of x ts ++ lines_of x us
-        → (if b then (triple s p o ∷ lines_of x (ts ++ us)) else lines_of x (ts ++ us)) ≡ (if b then (triple s p o ∷ lines_of x ts) else lines_of x ts) ++ lines_of x us
+        → (when b then (triple s p o ∷ lines_of x (ts ++ us)) else lines_of x (ts ++ us)) ≡ (when b then (triple s p o ∷ lines_of x ts) else lines_of x ts) ++ lines_of x us
     go true e = rw e
     go false e = e
 
@@ -246,7 +246,7 @@ same_self k = same_refl (label k)
 two-lines : (k : ℕ) (p₁ p₂ : Bytes) (o₁ o₂ : Term) (ts : List Triple) → OfLines (NotRule k) ts
     → lines_of (blank (label k)) (triple (blank (label k)) p₁ o₁ ∷ triple (blank (label k)) p₂ o₂ ∷ ts)
     ≡ triple (blank (label k)) p₁ o₁ ∷ triple (blank (label k)) p₂ o₂ ∷ []
-unfolding lines_of if◌then◌else◌
+unfolding lines_of when◌then◌else◌
 two-lines k p₁ p₂ o₁ o₂ ts h = simp (same_self k, lines_none k h)
 
 abbrev Clear : ℕ → ℕ → List Triple → Type 0

@@ -2,7 +2,7 @@
 use Rattle.std.specs.Prelude.{◌≡◌, refl, Bool, true, false, ◌&&◌, ◌||◌, not, List, [], ◌∷◌, ◌++◌, ℕ, ◌+◌, ◌/◌, ◌%◌, ◌≤◌, ◌<◌, eqb, leb, ltb}
 use Rattle.std.proofs.Common.{sym, ◌∙◌, ap, subst, inl, inr, append_assoc, append-nil, arith, eqb-true, ne_eqb, le-leb, leb-true, ltb-true, ltb-false, lt-ltb}
 use Rattle.std.proofs.lemmas.Bool.{false≢true, eqb-false}
-use Rattle.spec.specs.Bytes.{Bytes, ascii, byte, if◌then◌else◌, between, among, every}
+use Rattle.spec.specs.Bytes.{Bytes, ascii, byte, when◌then◌else◌, between, among, every}
 use Rattle.spec.specs.Bytes as B
 use Rattle.spec.specs.Grammar.{Grammar, one, ◌or◌, ◌then◌, many, more, accepts}
 use Rattle.spec.specs.Abnf.{lower, HEXDIG, optional, times}
@@ -59,7 +59,7 @@ in_hex : (n : ℕ) → n < 16 → In HEX (hex_digit n ∷ [])
 unfolding HEX HEXDIG hex_digit is_ascii B.all
 in_hex n le = go (ltb n 10) refl
   where
-    go : (b : Bool) → ltb n 10 ≡ b → In HEX ((if b then 48 + n else 55 + n) ∷ [])
+    go : (b : Bool) → ltb n 10 ≡ b → In HEX ((when b then 48 + n else 55 + n) ∷ [])
     go true e =
         let lt : n < 10 = ltb-true n 10 e in
         in_one _ (48 + n) (lt-ltb (48 + n) 128 (omega arith)) (or_left _ _ (and_both _ _ (le-leb 48 (48 + n) (omega arith)) (le-leb (48 + n) 57 (omega arith))))
@@ -72,17 +72,17 @@ abbrev iri_piece : Grammar ℕ
 iri_piece = one is_iri_char or UCHAR
 
 iri_byte_lem : (b : ℕ) → is_ascii b ≡ true → In iri_piece (iri_byte b)
-unfolding iri_byte UCHAR text G.characters ascii times hex_digit if◌then◌else◌ is_ascii every
+unfolding iri_byte UCHAR text G.characters ascii times hex_digit when◌then◌else◌ is_ascii every
 iri_byte_lem b h = go (forbidden b) refl
   where
-    go : (t : Bool) → forbidden b ≡ t → In iri_piece (if t then ascii "\\u00" ++ (hex_digit (b / 16) ∷ hex_digit (b % 16) ∷ []) else b ∷ [])
+    go : (t : Bool) → forbidden b ≡ t → In iri_piece (when t then ascii "\\u00" ++ (hex_digit (b / 16) ∷ hex_digit (b % 16) ∷ []) else b ∷ [])
     go true e =
         let lt : b < 128 = forbidden-below b e in
         in_right (in_left (in_text (ascii "\\u") refl before in_hex 0 (omega arith) before in_hex 0 (omega arith) before in_hex (b / 16) (omega arith) before in_hex (b % 16) (omega arith) before in_ascii [] refl refl))
     go false e = in_left (in_one is_iri_char b h (allowed b e))
 
 iri_high : (b : ℕ) → 128 ≤ b → iri_byte b ≡ b ∷ []
-unfolding iri_byte if◌then◌else◌
+unfolding iri_byte when◌then◌else◌
 iri_high b le = rw (not_forbidden b le)
 
 in_iri : (i : Bytes) → Text i → In IRIREF (write_iri i)

@@ -7,7 +7,7 @@ use mathlib.Core.List.{List, [], ◌∷◌, ◌++◌, append_assoc}
 use Prim.Native.Nat.{ℕ, zero, suc, ◌+◌, ◌*◌, ◌/◌, ◌%◌, ◌≤◌, ◌<◌}
 use Prim.Native.String.{String}
 use Rattle.std.proofs.lemmas.Bool.{lt-leb}
-use Rattle.spec.specs.Bytes.{Bytes, ascii, byte, if◌then◌else◌, among, All}
+use Rattle.spec.specs.Bytes.{Bytes, ascii, byte, when◌then◌else◌, among, All}
 use Rattle.spec.specs.Bytes as B
 use Rattle.spec.specs.Grammar.{Grammar, accepts}
 use Rattle.spec.specs.Utf8.{is_scalar, holds_of, as_characters}
@@ -37,7 +37,7 @@ unfolding ◌or◌
 or_second p q s h = rw (h, ◌or◌)
 
 one_back : (p : ℕ → Bool) (c : ℕ) (s : Bytes) → p c ≡ true → one p (c ∷ s) ≡ some (c ∷ [], s)
-unfolding one if◌then◌else◌
+unfolding one when◌then◌else◌
 one_back p c s h = rw h
 
 -- ---- a text written byte by byte
@@ -56,7 +56,7 @@ hex_back : (n : ℕ) → n < 16 → HEX (hex_digit n) ≡ some n
 unfolding HEX hex_digit B.all
 hex_back n le = go (ltb n 10) refl
   where
-    go : (b : Bool) → ltb n 10 ≡ b → HEX (if b then 48 + n else 55 + n) ≡ some n
+    go : (b : Bool) → ltb n 10 ≡ b → HEX (when b then 48 + n else 55 + n) ≡ some n
     go true e =
         let lt : n < 10 = ltb-true n 10 e in
         simp (le-leb 48 (48 + n) (omega arith), le-leb (48 + n) 57 (omega arith)) (ap some (omega arith))
@@ -87,7 +87,7 @@ iri_back : (c : ℕ) (s : Bytes) → iri_piece (iri_byte c ++ s) ≡ some (c ∷
 unfolding iri_byte one B.all
 iri_back c s = go (forbidden c) refl
   where
-    go : (b : Bool) → forbidden c ≡ b → iri_piece ((if b then ascii "\\u00" ++ (hex_digit (c / 16) ∷ hex_digit (c % 16) ∷ []) else c ∷ []) ++ s) ≡ some (c ∷ [], s)
+    go : (b : Bool) → forbidden c ≡ b → iri_piece ((when b then ascii "\\u00" ++ (hex_digit (c / 16) ∷ hex_digit (c % 16) ∷ []) else c ∷ []) ++ s) ≡ some (c ∷ [], s)
     go true e = or_second (one is_iri_char) UCHAR _ refl ∙ uchar_back c s (forbidden-below c e)
     go false e = or_first (one is_iri_char) UCHAR (c ∷ s) (one_back is_iri_char c s (allowed c e))
 
@@ -105,10 +105,10 @@ many_back w p back b stops long u s = up_to_coded w p back b stops (length (code
     size (c ∷ u) = omega (arith, size u, long c, length-append (w c) (coded w u))
 
 iri_long : (c : ℕ) → 1 ≤ length (iri_byte c)
-unfolding iri_byte ascii if◌then◌else◌
+unfolding iri_byte ascii when◌then◌else◌
 iri_long c = go (forbidden c)
   where
-    go : (b : Bool) → 1 ≤ length (if b then ascii "\\u00" ++ (hex_digit (c / 16) ∷ hex_digit (c % 16) ∷ []) else c ∷ [])
+    go : (b : Bool) → 1 ≤ length (when b then ascii "\\u00" ++ (hex_digit (c / 16) ∷ hex_digit (c % 16) ∷ []) else c ∷ [])
     go true = omega arith
     go false = omega arith
 
@@ -140,7 +140,7 @@ literal-long : (c : ℕ) → 1 ≤ length (literal_byte c)
 unfolding literal_byte B.all
 literal-long c = go (eqb c 34) (eqb c 92) (eqb c 10) (eqb c 13)
   where
-    go : (p q m n : Bool) → 1 ≤ length (if p then ascii "\\\"" else if q then ascii "\\\\" else if m then ascii "\\n" else if n then ascii "\\r" else c ∷ [])
+    go : (p q m n : Bool) → 1 ≤ length (when p then ascii "\\\"" else when q then ascii "\\\\" else when m then ascii "\\n" else when n then ascii "\\r" else c ∷ [])
     go true q m n = omega arith
     go false true m n = omega arith
     go false false true n = omega arith
@@ -154,12 +154,12 @@ string_read v s = rw (append_assoc (coded literal_byte v) (34 ∷ []) s, many_ba
 -- ---- labels and tags: the longest beginning
 
 longest_none : (p : Bytes → Bool) (s : Bytes) → ((v : Bytes) → p v ≡ false) → longest p s ≡ none
-unfolding longest if◌then◌else◌
+unfolding longest when◌then◌else◌
 longest_none p [] h = rw (h [])
 longest_none p (c ∷ s) h = rw (longest_none (λ u. p (c ∷ u)) s (λ v. h (c ∷ v)), h [], longest)
 
 longest_back : (p : Bytes → Bool) (u : Bytes) (b : ℕ) (s : Bytes) → p u ≡ true → ((v : Bytes) → p (u ++ (b ∷ v)) ≡ false) → longest p (u ++ (b ∷ s)) ≡ some (u, b ∷ s)
-unfolding longest if◌then◌else◌
+unfolding longest when◌then◌else◌
 longest_back p [] b s h k = rw (longest_none (λ u. p (b ∷ u)) s k, h, longest)
 longest_back p (c ∷ u) b s h k = rw (longest_back (λ u. p (c ∷ u)) u b s h k, longest)
 
@@ -175,7 +175,7 @@ terminal_back g mark b lt a l s h =
     rw (← append_assoc (ascii mark) l (b ∷ s), longest_back (as_characters (accepts g)) (ascii mark ++ l) b s (accepted h) (left_out g b lt a (ascii mark ++ l)), after_mark (ascii mark) l)
 
 terminal_none : (g : Grammar ℕ) (mark : String) (b : ℕ) → b < 128 → avoids b g ≡ true → as_characters (accepts g) [] ≡ false → (s : Bytes) → terminal g mark (b ∷ s) ≡ none
-unfolding terminal R.says R.◌>>=◌ longest if◌then◌else◌
+unfolding terminal R.says R.◌>>=◌ longest when◌then◌else◌
 terminal_none g mark b lt a h s =
     rw (longest_none (λ u. as_characters (accepts g) (b ∷ u)) s (left_out g b lt a []), h, longest)
 
@@ -218,7 +218,7 @@ abbrev as_plain : Bytes → Reader Term
 as_plain v s = some (plain v, s)
 
 no_space : (c : ℕ) (s : Bytes) → among (ascii " \t") c ≡ false → WS (c ∷ s) ≡ some ([], c ∷ s)
-unfolding WS many up_to one if◌then◌else◌
+unfolding WS many up_to one when◌then◌else◌
 no_space c s h = rw (h, up_to)
 
 before_iri : (i s : Bytes) → WS (write_iri i ++ s) ≡ some ([], write_iri i ++ s)
@@ -301,7 +301,7 @@ line_not_empty : (t : Triple) (s : Bytes) → B.is_empty (line t ++ s) ≡ false
 line_not_empty (triple x p o) s = rw (line-shape x p o s) (not_empty (write_subject x) (write_iri p ++ (32 ∷ (write_term o ++ (32 ∷ 46 ∷ 10 ∷ s)))) 32)
 
 pub lines_back : (n : ℕ) (ts : List Triple) → length ts ≤ n → All LabelTriple ts → R.lines n (write ts) ≡ some ts
-unfolding R.lines R.◌>>=◌ R.in_front write B.is_empty if◌then◌else◌
+unfolding R.lines R.◌>>=◌ R.in_front write B.is_empty when◌then◌else◌
 lines_back zero [] le h = refl
 lines_back (suc n) [] le h = refl
 lines_back zero (t ∷ ts) le h = absurd (omega (arith, le))
@@ -338,7 +338,7 @@ text_test s t = rw t.are
 
 -- Lines that can be written say their triples, in order.
 pub lines_read_back : (ts : List Triple) → SpelledLines ts → ntriples_doc (write ts) ≡ some ts
-unfolding ntriples_doc if◌then◌else◌ is_n_triples
+unfolding ntriples_doc when◌then◌else◌ is_n_triples
 lines_read_back ts h =
     rw (text_test (write ts) (decoded_text (accepts G.ntriples_doc) (write ts) (lines_in_grammar ts h)), lines_back (length (write ts)) ts (write-long ts) (spelled_labels ts h))
 

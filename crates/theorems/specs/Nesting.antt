@@ -3,7 +3,7 @@ use Rattle.std.specs.Prelude.{◌≡◌, refl, Bool, true, false, List, [], ◌�
 use Rattle.std.proofs.Common.{sym, ◌∙◌, ap, subst, arith}
 use Rattle.std.proofs.lemmas.Bool.{false≢true}
 use Rattle.std.proofs.Math.Option.{Option}
-use Rattle.spec.specs.Bytes.{Bytes, if◌then◌else◌, All}
+use Rattle.spec.specs.Bytes.{Bytes, when◌then◌else◌, All}
 use Rattle.spec.specs.NTriples.{Subject, Triple}
 use Rattle.spec.specs.declared.Mode.{Mode}
 use Rattle.spec.specs.Document.{Value, default, collection, literal, other, Property, Kind, rdf_rdf, wrapper, node_element, property_element, xml_element, Part, Frame, Doc, fresh, with_frames, with_labels, with_kind, with_part, Place, outside, nodes, nodes_or_text, xml, properties, in_value, in_kind, place_in, change_value, on_value, is_xml_element, subject_bytes, kind_bytes, frame_bytes}
@@ -139,11 +139,11 @@ still_kind g (property_element p v) s = s v
 still_kind g xml_element s = refl
 
 still_place : (g : Value → Value) (fs : List Frame) → Still g → place_in (change_value g fs) ≡ place_in fs
-unfolding place_in change_value with_kind if◌then◌else◌
+unfolding place_in change_value with_kind when◌then◌else◌
 still_place g [] s = refl
 still_place g (f ∷ fs) s = go (is_xml_element f.kind)
   where
-    go : (b : Bool) → place_in (if b then f ∷ change_value g fs else with_kind (on_value g f.kind) f ∷ fs) ≡ in_kind f.kind
+    go : (b : Bool) → place_in (when b then f ∷ change_value g fs else with_kind (on_value g f.kind) f ∷ fs) ≡ in_kind f.kind
     go true = refl
     go false = still_kind g f.kind s
 
@@ -156,11 +156,11 @@ changed_stands m g (property_element o v) p h = h
 changed_stands m g xml_element p h = h
 
 change_nested : (m : Mode) (g : Value → Value) (fs : List Frame) → Still g → Nested m fs → Nested m (change_value g fs)
-unfolding change_value with_kind if◌then◌else◌
+unfolding change_value with_kind when◌then◌else◌
 change_nested m g [] s h = tt
 change_nested m g (f ∷ fs) s h = go (is_xml_element f.kind) (change_nested m g fs s h.1)
   where
-    go : (b : Bool) → Nested m (change_value g fs) → Nested m (if b then f ∷ change_value g fs else with_kind (on_value g f.kind) f ∷ fs)
+    go : (b : Bool) → Nested m (change_value g fs) → Nested m (when b then f ∷ change_value g fs else with_kind (on_value g f.kind) f ∷ fs)
     go true k = (subst (Stands m f.kind) (sym (still_place g fs s)) h.0, k)
     go false k = (changed_stands m g f.kind (place_in fs) h.0, h.1)
 

@@ -4,7 +4,7 @@ use Rattle.std.specs.Prelude.{◌≡◌, refl, Bool, true, not, List, [], ◌∷
 use Rattle.std.proofs.Common.{subst, arith}
 use Rattle.std.proofs.lemmas.Bool.{false≢true}
 use Rattle.std.proofs.Math.Option.{Option, none, some}
-use Rattle.spec.specs.Bytes.{Bytes, ascii, if◌then◌else◌, is_some, All}
+use Rattle.spec.specs.Bytes.{Bytes, ascii, when◌then◌else◌, is_some, All}
 use Rattle.spec.specs.Bytes as B
 use Rattle.spec.specs.NTriples.{Subject, Triple}
 use Rattle.spec.specs.Modes.{xmp_mode}
@@ -61,7 +61,7 @@ data Left : ParseType → Type 0 where
   resource : Left as_resource
 
 left : (o : Option Bytes) → resource_at_most o ≡ true → Left (parse_type_of o)
-unfolding resource_at_most parse_type_of if◌then◌else◌
+unfolding resource_at_most parse_type_of when◌then◌else◌
 left none h = no_parse_type_lem
 left (some v) h = rw (same_true v (ascii "Resource") h) go
   where

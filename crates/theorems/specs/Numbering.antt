@@ -2,7 +2,7 @@
 use Rattle.std.specs.Prelude.{◌≡◌, refl, true, List, ◌∷◌, ◌++◌, ℕ, suc, ◌+◌, length}
 use Rattle.std.proofs.Common.{sym, ◌∙◌, ap, arith}
 use Rattle.std.proofs.Math.Option.{some}
-use Rattle.spec.specs.Bytes.{Bytes, if◌then◌else◌}
+use Rattle.spec.specs.Bytes.{Bytes, when◌then◌else◌}
 use Rattle.spec.specs.Numbers.{good}
 use Rattle.spec.specs.Pyx.{Attribute, opening}
 use Rattle.spec.specs.NTriples.{Subject, node, Triple, decimal}
@@ -43,7 +43,7 @@ abbrev Counts : Subject → ℕ → Opened → Type 0
 Counts s li o = (p : Property) × (p.subject ≡ s) × (p.iri ≡ rdf "_" ++ decimal (suc li)) × Opens p o
 
 counts : (t : Tag) (s : Subject) (li n : ℕ) → is_li t.iri ≡ true → Always (Counts s li) (open_property t s li n)
-unfolding open_property property_iri if◌then◌else◌
+unfolding open_property property_iri when◌then◌else◌
 counts t s li n h =
     always_require (Counts s li) _ _ _ λ e₁. always_require (Counts s li) _ _ _ λ e₂. always_after (Counts s li) _ _
     (always_map (Opens p) (Counts s li) (O.open_as (O.parse_type_of t.parse_type) t p n) (opens_as _ t p n) λ o k. (p, refl, number, k))

@@ -6,7 +6,7 @@ use Rattle.std.proofs.Math.Bool.{not}
 use Rattle.std.proofs.Math.Option.{Option}
 use mathlib.Core.List.{List, [], ◌∷◌, ◌++◌, map}
 use Rattle.spec.specs.XmlLang.{Language}
-use Rattle.spec.specs.Bytes.{Bytes, if◌then◌else◌, is_empty, total, ◌>>=◌, ◌>>◌, require◌or◌}
+use Rattle.spec.specs.Bytes.{Bytes, when◌then◌else◌, is_empty, total, ◌>>=◌, ◌>>◌, require◌or◌}
 use Rattle.spec.specs.Numbers.{number, Answer, refuse, good}
 use Rattle.spec.specs.declared.Refusal.{Refusal}
 use Rattle.spec.specs.declared.Refusal.TheVariants.{NotWellFormed, OverLimit, NoNamespace, Reserved, StrayText, EmptyLiteral, LabelsSpent, ProfileBroken}
@@ -71,12 +71,12 @@ held-bare [] = refl
 held-bare (f ∷ fs) = rw (held-bare fs)
 
 change_bare : (g : Value → Value) (fs : List Frame) → change_value g (map bare fs) ≡ map bare (change_value g fs)
-unfolding change_value with_part with_kind if◌then◌else◌
+unfolding change_value with_part with_kind when◌then◌else◌
 change_bare g [] = refl
 change_bare g (f ∷ fs) = go (is_xml_element f.kind) (change_bare g fs)
   where
     go : (b : Bool) → change_value g (map bare fs) ≡ map bare (change_value g fs)
-        → (if b then bare f ∷ change_value g (map bare fs) else with_kind (on_value g f.kind) (bare f) ∷ map bare fs) ≡ map bare (if b then f ∷ change_value g fs else with_kind (on_value g f.kind) f ∷ fs)
+        → (when b then bare f ∷ change_value g (map bare fs) else with_kind (on_value g f.kind) (bare f) ∷ map bare fs) ≡ map bare (when b then f ∷ change_value g fs else with_kind (on_value g f.kind) f ∷ fs)
     go true e = ap (bare f ∷◌) e
     go false e = refl
 
@@ -115,13 +115,13 @@ follows_after (refuse n) m m₀ k = tt
 follows_after (good u) m m₀ k = k
 
 follows_rules : (r : Answer (Unit {0})) (a : Answer Opened) (f f₀ : Opened → Answer Step) → ((o : Opened) → Follows (f o) (f₀ o)) → Follows (under_rules r a >>= f) (a >>= f₀)
-unfolding ◌>>=◌ under_rules if◌then◌else◌
+unfolding ◌>>=◌ under_rules when◌then◌else◌
 follows_rules (good u) (refuse n) f f₀ k = tt
 follows_rules (good u) (good o) f f₀ k = k o
 follows_rules (refuse r) (good o) f f₀ k = tt
 follows_rules (refuse r) (refuse q) f f₀ k = go (eqb (number q) (number Reserved))
   where
-    go : (b : Bool) → Follows ((if b then refuse q else refuse r) >>= f) (refuse q >>= f₀)
+    go : (b : Bool) → Follows ((when b then refuse q else refuse r) >>= f) (refuse q >>= f₀)
     go true = tt
     go false = tt
 
@@ -151,7 +151,7 @@ copy_element_lem n as' d =
 
 open_in_lem : (p : Place) (n : Bytes) (as' : List Attribute) (d : Doc) → starts_wrapper d.mode.xmp n as' d.frames ≡ false
     → Follows (open_in p n as' d) (open_in p n as' (in_base d))
-unfolding open_in if◌then◌else◌
+unfolding open_in when◌then◌else◌
 open_in_lem outside n as' d w = rw (w, no_wrapper (in_base d).mode n as' (in_base d).frames (unfold in_base in refl)) (open_element_lem open_root n as' d)
 open_in_lem nodes n as' d w = open_element_lem open_node n as' d
 open_in_lem nodes_or_text n as' d w = open_element_lem open_node n as' d
@@ -218,13 +218,13 @@ close_element_lem n (f ∷ fs) d =
 -- ---- text
 
 on_text_lem : (p : Place) (s : Bytes) (d : Doc) → Follows (on_text p s d) (on_text p s (in_base d))
-unfolding on_text add_xml if◌then◌else◌
+unfolding on_text add_xml when◌then◌else◌
 on_text_lem outside s d = follows_require _ _ StrayText _ _ refl λ k. refl
 on_text_lem nodes s d = follows_require _ _ StrayText _ _ refl λ k. refl
 on_text_lem (properties u li) s d = follows_require _ _ StrayText _ _ refl λ k. refl
 on_text_lem nodes_or_text s d = go (is_blank s)
   where
-    go : (b : Bool) → Follows (good ([], (if b then d else with_frames (change_value (takes_text s) d.frames) d))) (good ([], (if b then in_base d else with_frames (change_value (takes_text s) (in_base d).frames) (in_base d))))
+    go : (b : Bool) → Follows (good ([], (when b then d else with_frames (change_value (takes_text s) d.frames) d))) (good ([], (when b then in_base d else with_frames (change_value (takes_text s) (in_base d).frames) (in_base d))))
     go true = refl
     go false = ap (λ (x : Doc). good ([], x)) (changed (takes_text s) d)
 on_text_lem xml s d = ap (λ (x : Doc). good ([], x)) (changed (X.takes_xml (X.text_xml s)) d)
@@ -325,7 +325,7 @@ module _ (b : Option Bytes) where
 
   wrapper_opens : (n : Bytes) (as' : List Attribute) → starts_wrapper (fresh xmp_mode b).mode.xmp n as' (fresh xmp_mode b).frames ≡ true
       → Always (Wraps n as') (next (opening n as') (fresh xmp_mode b))
-  unfolding on_event on_opening open_in open_wrapper if◌then◌else◌
+  unfolding on_event on_opening open_in open_wrapper when◌then◌else◌
   wrapper_opens n as' w =
       let d : Doc = fresh xmp_mode b in
       let p : place_in d.frames ≡ outside = unfold fresh place_in in refl in
@@ -335,7 +335,7 @@ module _ (b : Option Bytes) where
 
   root_opens : (n : Bytes) (as' : List Attribute) → starts_wrapper (fresh xmp_mode b).mode.xmp n as' (fresh xmp_mode b).frames ≡ false
       → Always Roots (next (opening n as') (fresh xmp_mode b))
-  unfolding on_event on_opening open_in open_element opened if◌then◌else◌
+  unfolding on_event on_opening open_in open_element opened when◌then◌else◌
   root_opens n as' w =
       let d : Doc = fresh xmp_mode b in
       let p : place_in d.frames ≡ outside = unfold fresh place_in in refl in

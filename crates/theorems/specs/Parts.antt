@@ -3,7 +3,7 @@ use Rattle.std.specs.Prelude.{◌≡◌, refl, Bool, true, false, not, List, [],
 use Rattle.std.proofs.Common.{sym, ◌∙◌, subst, inl, inr, true≢false, arith}
 use Rattle.std.proofs.Math.Option.{Option, none, some}
 use Rattle.spec.specs.XmlLang.{carries}
-use Rattle.spec.specs.Bytes.{Bytes, if◌then◌else◌, same, All}
+use Rattle.spec.specs.Bytes.{Bytes, when◌then◌else◌, same, All}
 use Rattle.spec.specs.Rdf.{rdf}
 use Rattle.spec.specs.declared.Mode.{Mode}
 use Rattle.spec.specs.NTriples.{Subject, Triple}
@@ -46,11 +46,11 @@ noted_top t none = (t.about, refl)
 noted_top t (some a) = (some a, refl)
 
 noted-alt : (t : Tag) (l : Option Bool) → (m : Option Bool) × (with_child t (alternatives l) ≡ alternatives m)
-unfolding with_child if◌then◌else◌
+unfolding with_child when◌then◌else◌
 noted-alt t (some b) = (some b, refl)
 noted-alt t none = go (same t.iri (rdf "li"))
   where
-    go : (b : Bool) → (m : Option Bool) × ((if b then alternatives (some (carries t.own_tag)) else alternatives none) ≡ alternatives m)
+    go : (b : Bool) → (m : Option Bool) × ((when b then alternatives (some (carries t.own_tag)) else alternatives none) ≡ alternatives m)
     go true = (some (carries t.own_tag), refl)
     go false = (none, refl)
 
@@ -102,8 +102,8 @@ new-root : (t : Tag) (n : ℕ) → same t.iri (rdf "RDF") ≡ true → Always (N
 unfolding open_root
 new-root t n h = always_if (New (top_level none)) _ _ _ (λ e. (none, refl)) λ e. absurd (true≢false (sym h ∙ e))
 
-new-node : (t : Tag) (n : ℕ) (b : Bool) → Always (New (if b then alternatives none else ordinary)) (open_node t n)
-unfolding open_node if◌then◌else◌
+new-node : (t : Tag) (n : ℕ) (b : Bool) → Always (New (when b then alternatives none else ordinary)) (open_node t n)
+unfolding open_node when◌then◌else◌
 new-node t n true = always_require (New (alternatives none)) _ _ _ λ e₁. always_require (New (alternatives none)) _ _ _ λ e₂. always_after (New (alternatives none)) _ _ (inr (none, refl))
 new-node t n false = always_require (New ordinary) _ _ _ λ e₁. always_require (New ordinary) _ _ _ λ e₂. always_after (New ordinary) _ _ (inl refl)
 

@@ -2,7 +2,7 @@
 use Rattle.std.specs.Prelude.{◌≡◌, refl, Bool, true, false, ◌&&◌, ◌||◌, [], ◌∷◌, ◌++◌, ℕ, ◌≤◌, ◌<◌, eqb, ltb, length}
 use Rattle.std.proofs.Common.{◌∙◌, ap, true≢false, arith, ltb-true, ltb-false, lt-ltb}
 use Rattle.std.proofs.lemmas.Bool.{false≢true}
-use Rattle.spec.specs.Bytes.{Bytes, byte, if◌then◌else◌}
+use Rattle.spec.specs.Bytes.{Bytes, byte, when◌then◌else◌}
 use Rattle.spec.specs.Limits.{most_event_bytes}
 use Rattle.spec.specs.PyxCut.{goes_on, may_go_on, Ending, sure, line_end, mid_line, in_front, reach, Cut, wait, unended, too_long, whole, ended, in_length, cut}
 
@@ -35,15 +35,15 @@ never_goes_on c b h = go (eqb c 40) (eqb c 45) h
     go false false h = refl
 
 ended_at_line : (c : ℕ) (t : Bytes) → may_go_on c ≡ false → reach c true t ≡ ([], sure)
-unfolding reach if◌then◌else◌
+unfolding reach when◌then◌else◌
 ended_at_line c [] h = rw h
 ended_at_line c (b ∷ t) h = rw (never_goes_on c b h, reach) refl
 
 pub reach_stable : (c : ℕ) (a : Bool) (s t : Bytes) → (reach c a s).1 ≡ sure → reach c a (s ++ t) ≡ reach c a s
-unfolding reach in_front if◌then◌else◌ byte
+unfolding reach in_front when◌then◌else◌ byte
 reach_stable c true [] t h = go (may_go_on c) refl h
   where
-    go : (m : Bool) → may_go_on c ≡ m → (if m then line_end else sure) ≡ sure → reach c true t ≡ ([], (if may_go_on c then line_end else sure))
+    go : (m : Bool) → may_go_on c ≡ m → (when m then line_end else sure) ≡ sure → reach c true t ≡ ([], (when may_go_on c then line_end else sure))
     go true e h = absurd (line_end_clash h)
     go false e h = rw e (ended_at_line c t e)
 reach_stable c false [] t h = absurd (mid_line_clash h)
@@ -63,10 +63,10 @@ ended-whole l (x, line_end) e h = absurd (false≢true (ap is_whole h))
 ended-whole l (x, mid_line) e h = absurd (false≢true (ap is_whole h))
 
 in_length-whole : (l : Bool) (r : Bytes × Ending) (e : Bytes) → in_length false r ≡ whole e → (r.1 ≡ sure) × (in_length l r ≡ whole e)
-unfolding in_length if◌then◌else◌
+unfolding in_length when◌then◌else◌
 in_length-whole l r e h = go (ltb most_event_bytes (length r.0)) refl h
   where
-    go : (b : Bool) → ltb most_event_bytes (length r.0) ≡ b → (if b then too_long else ended false r) ≡ whole e → (r.1 ≡ sure) × (in_length l r ≡ whole e)
+    go : (b : Bool) → ltb most_event_bytes (length r.0) ≡ b → (when b then too_long else ended false r) ≡ whole e → (r.1 ≡ sure) × (in_length l r ≡ whole e)
     go true q h = absurd (false≢true (ap is_whole h))
     go false q h = let w : (r.1 ≡ sure) × (ended l r ≡ whole e) = ended-whole l r e h in (w.0, simp (q, in_length) w.1)
 
@@ -112,7 +112,7 @@ ended_not_wait l (x, mid_line) h = absurd (h refl)
 
 -- what is no wait stays as it is, whatever bytes follow
 pub cut-final : (l : Bool) (s t : Bytes) → (cut false s ≡ wait → ⊥) → cut l (s ++ t) ≡ cut false s
-unfolding cut in_length if◌then◌else◌
+unfolding cut in_length when◌then◌else◌
 cut-final l [] t h = absurd (h refl)
 cut-final l (c ∷ s) t h = go (ltb most_event_bytes (length (reach c false (c ∷ s)).0)) refl h
   where
@@ -124,8 +124,8 @@ cut-final l (c ∷ s) t h = go (ltb most_event_bytes (length (reach c false (c �
         ap (in_length l) (reach_stable c false (c ∷ s) t (ap (λ (x : Bytes × Ending). x.1) e ∙ w.0)) ∙ (same ∙ w.1)
 
     go : (b : Bool) → ltb most_event_bytes (length (reach c false (c ∷ s)).0) ≡ b
-        → ((if b then too_long else ended false (reach c false (c ∷ s))) ≡ wait → ⊥)
-        → in_length l (reach c false (c ∷ (s ++ t))) ≡ (if b then too_long else ended false (reach c false (c ∷ s)))
+        → ((when b then too_long else ended false (reach c false (c ∷ s))) ≡ wait → ⊥)
+        → in_length l (reach c false (c ∷ (s ++ t))) ≡ (when b then too_long else ended false (reach c false (c ∷ s)))
     go true q h =
         let le : most_event_bytes < length (reach c false (c ∷ s)).0 = ltb-true most_event_bytes (length (reach c false (c ∷ s)).0) q in
         let more = reach-longer c false (c ∷ s) t in
@@ -143,10 +143,10 @@ ended_front true (x, mid_line) e h = absurd (false≢true (ap is_whole h))
 ended_front false (x, mid_line) e h = absurd (false≢true (ap is_whole h))
 
 in_length_front : (l : Bool) (r : Bytes × Ending) (e : Bytes) → in_length l r ≡ whole e → (r.0 ≡ e) × (length r.0 ≤ most_event_bytes)
-unfolding in_length if◌then◌else◌
+unfolding in_length when◌then◌else◌
 in_length_front l r e h = go (ltb most_event_bytes (length r.0)) refl h
   where
-    go : (b : Bool) → ltb most_event_bytes (length r.0) ≡ b → (if b then too_long else ended l r) ≡ whole e → (r.0 ≡ e) × (length r.0 ≤ most_event_bytes)
+    go : (b : Bool) → ltb most_event_bytes (length r.0) ≡ b → (when b then too_long else ended l r) ≡ whole e → (r.0 ≡ e) × (length r.0 ≤ most_event_bytes)
     go true q h = absurd (false≢true (ap is_whole h))
     go false q h = (ended_front l r e h, ltb-false most_event_bytes (length r.0) q)
 
@@ -171,7 +171,7 @@ cut_front l (c ∷ s) e h =
 
 -- with "no more", nothing but an empty rest waits
 pub cut_waits : (rest : Bytes) → cut true rest ≡ wait → rest ≡ []
-unfolding cut in_length ended if◌then◌else◌
+unfolding cut in_length ended when◌then◌else◌
 cut_waits [] h = refl
 cut_waits (c ∷ s) h = absurd (go (ltb most_event_bytes (length (reach c false (c ∷ s)).0)) (reach c false (c ∷ s)) h)
   where
@@ -180,7 +180,7 @@ cut_waits (c ∷ s) h = absurd (go (ltb most_event_bytes (length (reach c false 
     never (e, line_end) h = let z : ◌≡◌ {A = ℕ} 0 1 = cc in omega arith
     never (e, mid_line) h = let z : ◌≡◌ {A = ℕ} 0 1 = cc in omega arith
 
-    go : (b : Bool) (r : Bytes × Ending) → (if b then too_long else ended true r) ≡ wait → ⊥
+    go : (b : Bool) (r : Bytes × Ending) → (when b then too_long else ended true r) ≡ wait → ⊥
     go true r h = let z : ◌≡◌ {A = ℕ} 0 1 = cc in omega arith
     go false r h = never r h
 

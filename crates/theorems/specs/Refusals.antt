@@ -8,7 +8,7 @@ use Rattle.std.proofs.Math.Option.{Option, none, some}
 use mathlib.Core.List.{List, [], ◌∷◌}
 use Rattle.std.proofs.lemmas.Bool.{lt-leb}
 use Rattle.spec.specs.XmlLang.{Language}
-use Rattle.spec.specs.Bytes.{Bytes, byte, same, member, if◌then◌else◌, each, ◌>>=◌, ◌>>◌, require◌or◌}
+use Rattle.spec.specs.Bytes.{Bytes, byte, same, member, when◌then◌else◌, each, ◌>>=◌, ◌>>◌, require◌or◌}
 use Rattle.spec.specs.Numbers.{number, closes, Answer, refuse, good}
 use Rattle.spec.specs.declared.Refusal.{Refusal}
 use Rattle.spec.specs.declared.Refusal.TheVariants.{Incomplete, NoRoom, BadState, Closed, NotPyx, NotWellFormed, OverLimit, NoNamespace, NotNcName, BadLanguage, BadIri, RepeatedId, BadLabel, Reserved, TwoNames, StrayText, EmptyLiteral, LabelsSpent, ProfileBroken}
@@ -59,8 +59,8 @@ module _ (Q : Refusal → Type 0) where
   on_test true r h = tt
   on_test false r h = h
 
-  on_if : {A : Type 0} (b : Bool) (m k : Answer A) → Given Q m → Given Q k → Given Q (if b then m else k)
-  unfolding if◌then◌else◌
+  on_if : {A : Type 0} (b : Bool) (m k : Answer A) → Given Q m → Given Q k → Given Q (when b then m else k)
+  unfolding when◌then◌else◌
   on_if true m k h g = h
   on_if false m k h g = g
 

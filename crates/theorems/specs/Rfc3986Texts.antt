@@ -3,7 +3,7 @@ use Rattle.std.specs.Prelude.{◌≡◌, refl, Bool, true, false, ◌&&◌, not,
 use Rattle.std.proofs.Common.{sym, subst, arith, eqb-true}
 use Rattle.std.proofs.lemmas.Bool.{false≢true}
 use Rattle.std.proofs.Math.Option.{Option, none, some}
-use Rattle.spec.specs.Bytes.{Bytes, ascii, if◌then◌else◌, begins, after, up_to, from, among, every, is_empty, or_else}
+use Rattle.spec.specs.Bytes.{Bytes, ascii, when◌then◌else◌, begins, after, up_to, from, among, every, is_empty, or_else}
 use Rattle.spec.specs.Rfc3986.{Reference, marked, past, scheme_of, after_scheme, parse, without_last, first_segment, turn, turns, remove_dot_segments, merge, transform, with_mark, recompose, resolve}
 use Rattle.spec.proofs.Booleans.{and_left, and_right}
 use Rattle.theorems.specs.Utf8.{is_ascii, Text, join, ascii-text, empty-text, cut_at}
@@ -16,27 +16,27 @@ TextReference r = Text? r.scheme × Text? r.authority × Text r.path × Text? r.
 -- ---- appendix B
 
 marked-text : (m l s : Bytes) → every is_ascii m ≡ true → every is_ascii l ≡ true → Text s → Text? (marked m l s)
-unfolding marked if◌then◌else◌
+unfolding marked when◌then◌else◌
 marked-text m l s h k t = go (begins m s) refl
   where
-    go : (b : Bool) → begins m s ≡ b → Text? (if b then some (up_to (among l) (after m s)) else none)
+    go : (b : Bool) → begins m s ≡ b → Text? (when b then some (up_to (among l) (after m s)) else none)
     go true e = up_to_text l k (after m s) (after_text m s h e t)
     go false e = tt
 
 behind_text : (m l s : Bytes) → every is_ascii m ≡ true → every is_ascii l ≡ true → Text s → Text (past m l s)
-unfolding past if◌then◌else◌
+unfolding past when◌then◌else◌
 behind_text m l s h k t = go (begins m s) refl
   where
-    go : (b : Bool) → begins m s ≡ b → Text (if b then from (among l) (after m s) else s)
+    go : (b : Bool) → begins m s ≡ b → Text (when b then from (among l) (after m s) else s)
     go true e = from-text l k (after m s) (after_text m s h e t)
     go false e = t
 
 -- the scheme, and what is behind it
 scheme-text : (s : Bytes) → Text s → Text? (scheme_of s) × Text (after_scheme (scheme_of s) s)
-unfolding scheme_of after_scheme if◌then◌else◌ ascii every is_ascii
+unfolding scheme_of after_scheme when◌then◌else◌ ascii every is_ascii
 scheme-text s t = go (begins (ascii ":") (from (among (ascii ":/?#")) s) && not (is_empty (up_to (among (ascii ":/?#")) s)))
   where
-    go : (b : Bool) → Text? (if b then some (up_to (among (ascii ":/?#")) s) else none) × Text (after_scheme (if b then some (up_to (among (ascii ":/?#")) s) else none) s)
+    go : (b : Bool) → Text? (when b then some (up_to (among (ascii ":/?#")) s) else none) × Text (after_scheme (when b then some (up_to (among (ascii ":/?#")) s) else none) s)
     go true = (
       up_to_text (ascii ":/?#") refl s t,
       subst (λ (x : Bytes). Text (after (ascii ":") x)) (sym (after_up_to (among (ascii ":/?#")) s)) (past-text (ascii ":/?#") refl s t 58),
@@ -77,8 +77,8 @@ drop-text (suc k) (a ∷ m) (b ∷ i) le h e t =
     let q : is_ascii b ≡ true = subst (λ (x : ℕ). is_ascii x ≡ true) p (and_left (is_ascii a) (every is_ascii m) h) in
     drop-text k m i (omega arith) (and_right (is_ascii a) (every is_ascii m) h) (and_right (eqb a b) (begins m i) e) (cut_at [] b i q t).1
 
-either : (b : Bool) (x y : Bytes × Bytes) → (b ≡ true → Buffers x) → (b ≡ false → Buffers y) → Buffers (if b then x else y)
-unfolding if◌then◌else◌
+either : (b : Bool) (x y : Bytes × Bytes) → (b ≡ true → Buffers x) → (b ≡ false → Buffers y) → Buffers (when b then x else y)
+unfolding when◌then◌else◌
 either true x y f g = f refl
 either false x y f g = g refl
 
@@ -107,7 +107,7 @@ dots_text p t = turns-text (length p) p [] t empty-text
 -- ---- sections 5.2.2, 5.2.3, 5.3
 
 merge-text : (base : Reference) (p : Bytes) → Text base.path → Text p → Text (merge base p)
-unfolding merge if◌then◌else◌ ascii every is_ascii
+unfolding merge when◌then◌else◌ ascii every is_ascii
 merge-text base p t u = go base.authority
   where
     upToLast : Bytes
@@ -116,11 +116,11 @@ merge-text base p t u = go base.authority
     rest : Text (upToLast ++ p)
     rest = join (last-text (ascii "/") refl base.path t) u
 
-    choose : (b : Bool) → Text (if b then ascii "/" ++ p else upToLast ++ p)
+    choose : (b : Bool) → Text (when b then ascii "/" ++ p else upToLast ++ p)
     choose true = join (ascii-text (ascii "/") refl) u
     choose false = rest
 
-    go : (a : Option Bytes) → Text (elim a [ none ↦ upToLast ++ p | some a ↦ (if is_empty base.path then ascii "/" ++ p else upToLast ++ p) ])
+    go : (a : Option Bytes) → Text (elim a [ none ↦ upToLast ++ p | some a ↦ (when is_empty base.path then ascii "/" ++ p else upToLast ++ p) ])
     go none = rest
     go (some a) = choose (is_empty base.path)
 
@@ -129,8 +129,8 @@ unfolding or_else
 or_else_lem none b h k = k
 or_else_lem (some a) b h k = h
 
-choose : (b : Bool) (x y : Reference) → TextReference x → TextReference y → TextReference (if b then x else y)
-unfolding if◌then◌else◌
+choose : (b : Bool) (x y : Reference) → TextReference x → TextReference y → TextReference (when b then x else y)
+unfolding when◌then◌else◌
 choose true x y h k = h
 choose false x y h k = k
 

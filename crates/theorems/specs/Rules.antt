@@ -1,7 +1,7 @@
 -- Document 02: what the rules of a mode leave of a production, and what is known where the wrapper opens.
 use Rattle.std.specs.Prelude.{◌≡◌, refl, Bool, true, false, ◌&&◌, List, [], ◌∷◌, ◌++◌, eqb}
 use Rattle.std.proofs.lemmas.Bool.{false≢true}
-use Rattle.spec.specs.Bytes.{Bytes, if◌then◌else◌, is_empty, require◌or◌}
+use Rattle.spec.specs.Bytes.{Bytes, when◌then◌else◌, is_empty, require◌or◌}
 use Rattle.spec.specs.Numbers.{number, Answer, refuse, good}
 use Rattle.spec.specs.declared.Refusal.TheVariants.{ProfileBroken, Reserved}
 use Rattle.spec.specs.declared.Mode.{Mode}
@@ -18,24 +18,24 @@ use Rattle.theorems.specs.Always.{Always}
 
 -- what a production gives it gives under rules too, if they let it past
 pub always_rules : (Q : Opened → Type 0) (r : Answer (Unit {0})) (a : Answer Opened) → Always Q a → Always Q (under_rules r a)
-unfolding under_rules if◌then◌else◌
+unfolding under_rules when◌then◌else◌
 always_rules Q (good u) a h = h
 always_rules Q (refuse r) (good o) h = tt
 always_rules Q (refuse r) (refuse q) h = go (eqb (number q) (number Reserved))
   where
-    go : (b : Bool) → Always Q (if b then refuse q else refuse r)
+    go : (b : Bool) → Always Q (when b then refuse q else refuse r)
     go true = tt
     go false = tt
 
 -- and it kept them
 kept_by : (b : Bool) (a : Answer Opened) → Always (λ o. (a ≡ good o) × (b ≡ true)) (under_rules (require b or ProfileBroken) a)
-unfolding under_rules require◌or◌ if◌then◌else◌
+unfolding under_rules require◌or◌ when◌then◌else◌
 kept_by true (refuse q) = tt
 kept_by true (good o) = (refl, refl)
 kept_by false (good o) = tt
 kept_by false (refuse q) = go (eqb (number q) (number Reserved))
   where
-    go : (b : Bool) → Always (λ (o : Opened). (refuse q ≡ good o) × (false ≡ true)) (if b then refuse q else refuse ProfileBroken)
+    go : (b : Bool) → Always (λ (o : Opened). (refuse q ≡ good o) × (false ≡ true)) (when b then refuse q else refuse ProfileBroken)
     go true = tt
     go false = tt
 

@@ -6,7 +6,7 @@ use Rattle.std.proofs.Math.Bool.{true, false}
 use Rattle.std.proofs.Math.Option.{some, some-injective}
 use mathlib.Core.List.{List, [], ◌∷◌, ◌++◌}
 use Rattle.spec.specs.XmlLang.{Language}
-use Rattle.spec.specs.Bytes.{Bytes, if◌then◌else◌}
+use Rattle.spec.specs.Bytes.{Bytes, when◌then◌else◌}
 use Rattle.spec.specs.Pyx.{Event, opening, closing, text, instruction}
 use Rattle.spec.specs.NTriples.{Subject, named, Term, Triple}
 use Rattle.spec.specs.Rdf.{rdf}
@@ -65,13 +65,13 @@ module _ (p : Property) (b : Bool) (fs : List Frame) where
   under f (held_at gs g v is o) = held_at (f ∷ gs) g v is o
 
   value-held : (h : Value → Value) → Keeps h → (gs : List Frame) (g : Frame) (v : Value) → g.kind ≡ property_element p v → is_other v ≡ b → Held (change_value h (gs ++ (g ∷ fs)))
-  unfolding change_value with_kind on_value is_xml_element if◌then◌else◌
+  unfolding change_value with_kind on_value is_xml_element when◌then◌else◌
   value-held h k [] g v is o =
       let no : is_xml_element g.kind ≡ false = ap is_xml_element is in
       rw no (held_at [] (with_kind (on_value h g.kind) g) (h v) (ap (on_value h) is) (k v ∙ o))
   value-held h k (x ∷ gs) g v is o = go (is_xml_element x.kind) (value-held h k gs g v is o)
     where
-      go : (t : Bool) → Held (change_value h (gs ++ (g ∷ fs))) → Held (if t then x ∷ change_value h (gs ++ (g ∷ fs)) else with_kind (on_value h x.kind) x ∷ gs ++ (g ∷ fs))
+      go : (t : Bool) → Held (change_value h (gs ++ (g ∷ fs))) → Held (when t then x ∷ change_value h (gs ++ (g ∷ fs)) else with_kind (on_value h x.kind) x ∷ gs ++ (g ∷ fs))
       go true r = under x r
       go false r = held_at (with_kind (on_value h x.kind) x ∷ gs) g v is o
 

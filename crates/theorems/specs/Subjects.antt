@@ -11,7 +11,7 @@ use mathlib.Core.List.{List, [], ◌∷◌, ◌++◌, map}
 use native.Mathlib.Omega.{arith}
 use Rattle.std.proofs.Math.ListN.{length}
 use borrow.Author.Tests.{ltb-true, leb-true, not-true}
-use Rattle.spec.specs.Bytes.{Bytes, if◌then◌else◌, is_empty, each, or_else}
+use Rattle.spec.specs.Bytes.{Bytes, when◌then◌else◌, is_empty, each, or_else}
 use Rattle.spec.specs.Numbers.{Answer}
 use Rattle.spec.specs.Limits.{most_labels}
 use Rattle.spec.proofs.Booleans.{and_left, and_right}
@@ -128,11 +128,11 @@ AllFair (m ∷ ms) = Fair m × AllFair ms
 
 first_of : (P : Bytes → Type 0) (r : Role) (ms : List Meaning) → ((q : Role) (i v : Bytes) → Fair (means q i v) → same_role r q ≡ true → P v)
     → AllFair ms → Of? P (S.first r ms)
-unfolding S.first if◌then◌else◌
+unfolding S.first when◌then◌else◌
 first_of P r [] g h = tt
 first_of P r (means q i v ∷ ms) g h = go (same_role r q) refl (first_of P r ms g h.1)
   where
-    go : (b : Bool) → same_role r q ≡ b → Of? P (S.first r ms) → Of? P (if b then some v else S.first r ms)
+    go : (b : Bool) → same_role r q ≡ b → Of? P (S.first r ms) → Of? P (when b then some v else S.first r ms)
     go true e k = g q i v h.0 e
     go false e k = k
 
@@ -181,12 +181,12 @@ module _ (R : Rule) where
   FairTag t = Of? GoodLabel t.node_id × OfOwn R.lang t.own_tag × OfLanguage R.lang t.language
 
   own_tag_lem : (o : Option Bytes) → Of? GoodTag o → OfOwn R.lang (own_of o)
-  unfolding own_of said_by verdict is_allowed tag_of written if◌then◌else◌
+  unfolding own_of said_by verdict is_allowed tag_of written when◌then◌else◌
   own_tag_lem none h = tt
   own_tag_lem (some v) h = go (is_empty v) (is_language_tag v) refl h
     where
-      go : (e t : Bool) → is_language_tag v ≡ t → is_allowed (if e then Clears else if t then Good else Bad) ≡ true
-          → OfOwn R.lang (said_by (if e then Clears else if t then Good else Bad) v)
+      go : (e t : Bool) → is_language_tag v ≡ t → is_allowed (when e then Clears else when t then Good else Bad) ≡ true
+          → OfOwn R.lang (said_by (when e then Clears else when t then Good else Bad) v)
       go true t q k = tt
       go false true q k = R.tag_of_lem v q
       go false false q k = absurd (false≢true k)
@@ -369,11 +369,11 @@ module _ (R : Rule) where
   on_value_lem g xml_element f h = h
 
   change_value_lem : (g : Value → Value) (fs : List Frame) → ((v : Value) → OfValue R v → OfValue R (g v)) → OfFrames R fs → OfFrames R (change_value g fs)
-  unfolding change_value with_kind if◌then◌else◌
+  unfolding change_value with_kind when◌then◌else◌
   change_value_lem g [] f h = tt
   change_value_lem g (x ∷ fs) f h = go (is_xml_element x.kind) (change_value_lem g fs f h.2)
     where
-      go : (b : Bool) → OfFrames R (change_value g fs) → OfFrames R (if b then x ∷ change_value g fs else with_kind (on_value g x.kind) x ∷ fs)
+      go : (b : Bool) → OfFrames R (change_value g fs) → OfFrames R (when b then x ∷ change_value g fs else with_kind (on_value g x.kind) x ∷ fs)
       go true k = (h.0, h.1, k)
       go false k = (on_value_lem g x.kind f h.0, h.1, h.2)
 
@@ -494,13 +494,13 @@ module _ (R : Rule) where
   takes_text_lem s other h = h
 
   on_text_lem : (p : Place) (v : Bytes) (d : Doc) → OfFrames R d.frames → d.labels < 100_000_000 → Always (Outcome R d.labels) (X.on_text p v d)
-  unfolding X.on_text with_frames if◌then◌else◌ add_xml
+  unfolding X.on_text with_frames when◌then◌else◌ add_xml
   on_text_lem outside v d h le = always_require (Outcome R d.labels) _ _ _ λ e. (omega arith, le, λ new. (h, no_line))
   on_text_lem nodes v d h le = always_require (Outcome R d.labels) _ _ _ λ e. (omega arith, le, λ new. (h, no_line))
   on_text_lem (properties s li) v d h le = always_require (Outcome R d.labels) _ _ _ λ e. (omega arith, le, λ new. (h, no_line))
   on_text_lem nodes_or_text v d h le = go (X.is_blank v)
     where
-      go : (b : Bool) → Outcome R d.labels ([], (if b then d else with_frames (change_value (X.takes_text v) d.frames) d))
+      go : (b : Bool) → Outcome R d.labels ([], (when b then d else with_frames (change_value (X.takes_text v) d.frames) d))
       go true = (omega arith, le, λ new. (h, no_line))
       go false = (omega arith, le, λ new. (change_value_lem _ d.frames (takes_text_lem v) h, no_line))
   on_text_lem xml v d h le = (omega arith, le, λ new. (change_value_lem _ d.frames (takes_xml_lem _) h, no_line))

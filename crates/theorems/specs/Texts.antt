@@ -5,7 +5,7 @@ use Rattle.std.proofs.Math.Option.{Option, none, some}
 use Prim.Native.String.{String}
 use Rattle.std.proofs.Common.{arith, ne_eqb}
 use Rattle.spec.specs.XmlLang.{Language, no_language, language}
-use Rattle.spec.specs.Bytes.{Bytes, ascii, byte, if◌then◌else◌, same, those, every, or_else, is_empty, All}
+use Rattle.spec.specs.Bytes.{Bytes, ascii, byte, when◌then◌else◌, same, those, every, or_else, is_empty, All}
 use Rattle.spec.specs.Bytes as B
 use Rattle.spec.specs.Numbers.{Answer}
 use Rattle.spec.specs.XmlNames.{no_colon, prefix_of, local_of}
@@ -93,19 +93,19 @@ unfolding rdf ascii every is_ascii
 rdf-text s h = join (ascii-text (ascii "http://www.w3.org/1999/02/22-rdf-syntax-ns#") refl) (ascii-text (ascii s) h)
 
 local_text : (n : Bytes) → Text n → Text (local_of n)
-unfolding local_of if◌then◌else◌ ascii every is_ascii
+unfolding local_of when◌then◌else◌ ascii every is_ascii
 local_text n t = go (no_colon n)
   where
-    go : (b : Bool) → Text (if b then n else B.after (ascii ":") (B.from (B.among (ascii ":")) n))
+    go : (b : Bool) → Text (when b then n else B.after (ascii ":") (B.from (B.among (ascii ":")) n))
     go true = t
     go false = past-text (ascii ":") refl n t 58
 
 declared-text : (as' : List Attribute) → All TextAttribute as' → All TextBinding (declared as')
-unfolding declared those declares if◌then◌else◌
+unfolding declared those declares when◌then◌else◌
 declared-text [] h = tt
 declared-text (attribute n v ∷ as') h = go (is_declaration (attribute n v)) (declared-text as' h.1)
   where
-    go : (b : Bool) → All TextBinding (map declares (those is_declaration as')) → All TextBinding (map declares (if b then (attribute n v ∷ those is_declaration as') else those is_declaration as'))
+    go : (b : Bool) → All TextBinding (map declares (those is_declaration as')) → All TextBinding (map declares (when b then (attribute n v ∷ those is_declaration as') else those is_declaration as'))
     go true k = (h.0.1, k)
     go false k = k
 
@@ -120,19 +120,19 @@ base-text b [] t h = t
 base-text b (f ∷ fs) t h = or_else_lem f.own_base (base_in_force b fs) h.0.1 (base-text b fs t h.1)
 
 look_up_text : (p : Bytes) (bs : List Binding) → All TextBinding bs → Text? (look_up p bs)
-unfolding look_up if◌then◌else◌
+unfolding look_up when◌then◌else◌
 look_up_text p [] h = tt
 look_up_text p (b ∷ bs) h = go (same p b.0) (look_up_text p bs h.1)
   where
-    go : (a : Bool) → Text? (look_up p bs) → Text? (if a then some b.1 else look_up p bs)
+    go : (a : Bool) → Text? (look_up p bs) → Text? (when a then some b.1 else look_up p bs)
     go true k = h.0
     go false k = k
 
 namespace-text : (bs : List Binding) (p : Bytes) → All TextBinding bs → Text? (namespace bs p)
-unfolding namespace if◌then◌else◌ xml_name ascii every is_ascii
+unfolding namespace when◌then◌else◌ xml_name ascii every is_ascii
 namespace-text bs p h = go (same p (ascii "xml"))
   where
-    go : (a : Bool) → Text? (if a then some xml_name else look_up p bs)
+    go : (a : Bool) → Text? (when a then some xml_name else look_up p bs)
     go true = ascii-text xml_name refl
     go false = look_up_text p bs h
 
@@ -151,10 +151,10 @@ unfolding expand_element
 element_text bs n h t = in_namespace_lem _ _ (namespace-text bs (prefix_of n) h) (local_text n t)
 
 attribute_name : (bs : List Binding) (n : Bytes) → All TextBinding bs → Text n → Text? (expand_attribute bs n)
-unfolding expand_attribute if◌then◌else◌
+unfolding expand_attribute when◌then◌else◌
 attribute_name bs n h t = go (is_empty (prefix_of n))
   where
-    go : (b : Bool) → Text? (if b then some n else M.joined (namespace bs (prefix_of n)) (local_of n))
+    go : (b : Bool) → Text? (when b then some n else M.joined (namespace bs (prefix_of n)) (local_of n))
     go true = t
     go false = joined-text _ _ (namespace-text bs (prefix_of n) h) (local_text n t)
 
@@ -175,11 +175,11 @@ meaning-text bs h (attribute n v) t =
     always_bind Text TextMeaning _ _ (known_text n _ (attribute_name bs n h t.0)) λ i k. always_after TextMeaning _ _ (k, t.1)
 
 first_text : (r : Role) (ms : List Meaning) → All TextMeaning ms → Text? (S.first r ms)
-unfolding S.first if◌then◌else◌
+unfolding S.first when◌then◌else◌
 first_text r [] h = tt
 first_text r (means q i v ∷ ms) h = go (same_role r q) (first_text r ms h.1)
   where
-    go : (b : Bool) → Text? (S.first r ms) → Text? (if b then some v else S.first r ms)
+    go : (b : Bool) → Text? (S.first r ms) → Text? (when b then some v else S.first r ms)
     go true k = h.0.1
     go false k = k
 
@@ -187,11 +187,11 @@ abbrev TextPair : Bytes × Bytes → Type 0
 TextPair a = Text a.0 × Text a.1
 
 properties_text : (ms : List Meaning) → All TextMeaning ms → All TextPair (S.property_attributes ms)
-unfolding S.property_attributes if◌then◌else◌
+unfolding S.property_attributes when◌then◌else◌
 properties_text [] h = tt
 properties_text (means q i v ∷ ms) h = go (same_role property q) (properties_text ms h.1)
   where
-    go : (b : Bool) → All TextPair (S.property_attributes ms) → All TextPair (if b then ((i, v) ∷ S.property_attributes ms) else S.property_attributes ms)
+    go : (b : Bool) → All TextPair (S.property_attributes ms) → All TextPair (when b then ((i, v) ∷ S.property_attributes ms) else S.property_attributes ms)
     go true k = (h.0, k)
     go false k = k
 
@@ -298,10 +298,10 @@ subject-text none (some l) g t = tt
 subject-text none none g t = tt
 
 type_text : (i : Bytes) → Text i → Text? (O.element_type i)
-unfolding O.element_type if◌then◌else◌
+unfolding O.element_type when◌then◌else◌
 type_text i t = go (same i (rdf "Description"))
   where
-    go : (b : Bool) → Text? (if b then none else some i)
+    go : (b : Bool) → Text? (when b then none else some i)
     go true = tt
     go false = t
 
@@ -352,10 +352,10 @@ unfolding decimal
 decimal-text n = ascii-text _ (drop_zeros_lem is_ascii (digits 20 n) (ascii-digits 20 n))
 
 property-text : (i : Bytes) (k : ℕ) → Text i → Text (O.property_iri i k)
-unfolding O.property_iri if◌then◌else◌ ascii every is_ascii
+unfolding O.property_iri when◌then◌else◌ ascii every is_ascii
 property-text i k t = go (O.is_li i)
   where
-    go : (b : Bool) → Text (if b then rdf "_" ++ decimal k else i)
+    go : (b : Bool) → Text (when b then rdf "_" ++ decimal k else i)
     go true = join (rdf-text "_" refl) (decimal-text k)
     go false = t
 
@@ -396,8 +396,8 @@ open_element_lem production m as' d t h k f =
 -- ---- XML text
 
 -- a branch that keeps to bytes below 128
-low_if : (b : Bool) (x y : Bytes) → every is_ascii x ≡ true → every is_ascii y ≡ true → every is_ascii (if b then x else y) ≡ true
-unfolding if◌then◌else◌
+low_if : (b : Bool) (x y : Bytes) → every is_ascii x ≡ true → every is_ascii y ≡ true → every is_ascii (when b then x else y) ≡ true
+unfolding when◌then◌else◌
 low_if true x y h k = h
 low_if false x y h k = k
 
@@ -460,11 +460,11 @@ on_value_lem g (property_element p v) f h = (h.0, f v h.1)
 on_value_lem g xml_element f h = h
 
 change_value_lem : (g : Value → Value) (fs : List Frame) → ((v : Value) → TextValue v → TextValue (g v)) → All TextFrame fs → All TextFrame (change_value g fs)
-unfolding change_value with_kind if◌then◌else◌
+unfolding change_value with_kind when◌then◌else◌
 change_value_lem g [] f h = tt
 change_value_lem g (x ∷ fs) f h = go (is_xml_element x.kind) (change_value_lem g fs f h.1)
   where
-    go : (b : Bool) → All TextFrame (change_value g fs) → All TextFrame (if b then x ∷ change_value g fs else with_kind (on_value g x.kind) x ∷ fs)
+    go : (b : Bool) → All TextFrame (change_value g fs) → All TextFrame (when b then x ∷ change_value g fs else with_kind (on_value g x.kind) x ∷ fs)
     go true k = (h.0, k)
     go false k = ((h.0.0, h.0.1, on_value_lem g x.kind f h.0.2), h.1)
 
@@ -574,13 +574,13 @@ takes_text_lem s t (literal x) h = h
 takes_text_lem s t other h = h
 
 on_text_lem : (p : Place) (v : Bytes) (d : Doc) → Text v → TextDoc d → Always TextStep (X.on_text p v d)
-unfolding X.on_text with_frames if◌then◌else◌ add_xml
+unfolding X.on_text with_frames when◌then◌else◌ add_xml
 on_text_lem outside v d t h = always_require TextStep _ _ _ λ e. (tt, h)
 on_text_lem nodes v d t h = always_require TextStep _ _ _ λ e. (tt, h)
 on_text_lem (properties s li) v d t h = always_require TextStep _ _ _ λ e. (tt, h)
 on_text_lem nodes_or_text v d t h = go (X.is_blank v)
   where
-    go : (b : Bool) → TextStep ([], (if b then d else with_frames (change_value (X.takes_text v) d.frames) d))
+    go : (b : Bool) → TextStep ([], (when b then d else with_frames (change_value (X.takes_text v) d.frames) d))
     go true = (tt, h)
     go false = (tt, (h.0, change_value_lem _ d.frames (takes_text_lem v t) h.1))
 on_text_lem xml v d t h = (tt, (h.0, change_value_lem _ d.frames (takes_xml_lem _ (text_xml_lem v t)) h.1))

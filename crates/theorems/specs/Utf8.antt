@@ -4,7 +4,7 @@ use Rattle.std.specs.Prelude.{◌≡◌, refl, Bool, true, false, ◌&&◌, ◌|
 use Rattle.std.proofs.Common.{sym, ◌∙◌, ap, subst, inl, inr, true≢false, arith, eqb-true, ne_eqb, leb-true, le-leb, ltb-true, ltb-false, le-ltb}
 use Rattle.std.proofs.lemmas.Bool.{false≢true, lt-leb}
 use Rattle.std.proofs.Math.Option.{Option, none, some, none-ne-some, some-injective}
-use Rattle.spec.specs.Bytes.{Bytes, every, if◌then◌else◌, between, onto, concat}
+use Rattle.spec.specs.Bytes.{Bytes, every, when◌then◌else◌, between, onto, concat}
 use Rattle.spec.specs.Utf8 as U
 use Rattle.spec.specs.Utf8.{goes_on, begins_with_one, sequences, fits, least, is_scalar, value, leading_ones, leading_ones_of, character, characters_of, characters, in_front, holds_of, as_characters}
 use Rattle.spec.proofs.Booleans.{and_left, and_right, and_both, or_cases}
@@ -13,10 +13,10 @@ use Rattle.spec.proofs.Booleans.{and_left, and_right, and_both, or_cases}
 
 -- the first sequence begins with the first byte
 first_byte : (b : ℕ) (s : Bytes) → (l : Bytes) × (ls : List Bytes) × (sequences (b ∷ s) ≡ (b ∷ l) ∷ ls)
-unfolding sequences onto if◌then◌else◌
+unfolding sequences onto when◌then◌else◌
 first_byte b s = go (begins_with_one s) (sequences s)
   where
-    go : (g : Bool) (ls : List Bytes) → (l : Bytes) × (ks : List Bytes) × ((if g then onto b ls else ((b ∷ []) ∷ ls)) ≡ (b ∷ l) ∷ ks)
+    go : (g : Bool) (ls : List Bytes) → (l : Bytes) × (ks : List Bytes) × ((when g then onto b ls else ((b ∷ []) ∷ ls)) ≡ (b ∷ l) ∷ ks)
     go true [] = ([], [], refl)
     go true (l ∷ ls) = (l, ls, refl)
     go false ls = ([], ls, refl)
@@ -27,29 +27,29 @@ concat-onto b [] = refl
 concat-onto b (l ∷ ls) = refl
 
 concat-sequences : (s : Bytes) → concat (sequences s) ≡ s
-unfolding concat sequences if◌then◌else◌
+unfolding concat sequences when◌then◌else◌
 concat-sequences [] = refl
 concat-sequences (b ∷ s) = go (begins_with_one s) (concat-sequences s)
   where
-    go : (g : Bool) → concat (sequences s) ≡ s → concat (if g then onto b (sequences s) else ((b ∷ []) ∷ sequences s)) ≡ b ∷ s
+    go : (g : Bool) → concat (sequences s) ≡ s → concat (when g then onto b (sequences s) else ((b ∷ []) ∷ sequences s)) ≡ b ∷ s
     go true ih = concat-onto b (sequences s) ∙ ap (λ (x : Bytes). b ∷ x) ih
     go false ih = ap (λ (x : Bytes). b ∷ x) ih
 
 -- a cut before a byte that does not go on
 sequences-append : (u v : Bytes) → begins_with_one v ≡ false → sequences (u ++ v) ≡ sequences u ++ sequences v
-unfolding sequences if◌then◌else◌ begins_with_one onto
+unfolding sequences when◌then◌else◌ begins_with_one onto
 sequences-append [] v h = refl
 sequences-append (b ∷ []) v h = rw h refl
 sequences-append (b ∷ c ∷ u) v h = go (goes_on c) (first_byte c u) (sequences-append (c ∷ u) v h)
   where
     go : (g : Bool) → (l : Bytes) × (ls : List Bytes) × (sequences (c ∷ u) ≡ (c ∷ l) ∷ ls) → sequences (c ∷ (u ++ v)) ≡ sequences (c ∷ u) ++ sequences v
-        → (if g then onto b (sequences (c ∷ (u ++ v))) else ((b ∷ []) ∷ sequences (c ∷ (u ++ v)))) ≡ (if g then onto b (sequences (c ∷ u)) else ((b ∷ []) ∷ sequences (c ∷ u))) ++ sequences v
+        → (when g then onto b (sequences (c ∷ (u ++ v))) else ((b ∷ []) ∷ sequences (c ∷ (u ++ v)))) ≡ (when g then onto b (sequences (c ∷ u)) else ((b ∷ []) ∷ sequences (c ∷ u))) ++ sequences v
     go true (l, ls, e) ih = rw (ih, e) refl
     go false f ih = rw ih refl
 
 -- bytes that go on make one sequence with the byte before them
 one_sequence : (b : ℕ) (s : Bytes) → every goes_on s ≡ true → sequences (b ∷ s) ≡ (b ∷ s) ∷ []
-unfolding sequences if◌then◌else◌ begins_with_one onto every
+unfolding sequences when◌then◌else◌ begins_with_one onto every
 one_sequence b [] h = refl
 one_sequence b (c ∷ s) h = rw (and_left (goes_on c) (every goes_on s) h, one_sequence c s (and_right (goes_on c) (every goes_on s) h)) refl
 
@@ -60,13 +60,13 @@ Whole ([] ∷ ls) = ⊥
 Whole ((b ∷ l) ∷ ls) = (every goes_on l ≡ true) × Whole ls
 
 whole-sequences : (s : Bytes) → Whole (sequences s)
-unfolding sequences if◌then◌else◌ begins_with_one onto every
+unfolding sequences when◌then◌else◌ begins_with_one onto every
 whole-sequences [] = tt
 whole-sequences (b ∷ []) = (refl, tt)
 whole-sequences (b ∷ c ∷ s) = go (goes_on c) refl (first_byte c s) (whole-sequences (c ∷ s))
   where
     go : (g : Bool) → goes_on c ≡ g → (l : Bytes) × (ls : List Bytes) × (sequences (c ∷ s) ≡ (c ∷ l) ∷ ls) → Whole (sequences (c ∷ s))
-        → Whole (if g then onto b (sequences (c ∷ s)) else ((b ∷ []) ∷ sequences (c ∷ s)))
+        → Whole (when g then onto b (sequences (c ∷ s)) else ((b ∷ []) ∷ sequences (c ∷ s)))
     go true e (l, ls, f) h = let k : Whole ((c ∷ l) ∷ ls) = rw f at h in rw f (and_both (goes_on c) (every goes_on l) e k.0, k.1)
     go false e f h = (refl, h)
 
@@ -76,10 +76,10 @@ unfoldable pub is_ascii : ℕ → Bool
 is_ascii b = ltb b 128
 
 high : (b : ℕ) → goes_on b ≡ true → is_ascii b ≡ false
-unfolding is_ascii goes_on leading_ones leading_ones_of if◌then◌else◌
+unfolding is_ascii goes_on leading_ones leading_ones_of when◌then◌else◌
 high b h = go (leb 128 b) refl h
   where
-    go : (g : Bool) → leb 128 b ≡ g → eqb (if g then 1 + leading_ones_of 7 (2 * b % 256) else 0) 1 ≡ true → ltb b 128 ≡ false
+    go : (g : Bool) → leb 128 b ≡ g → eqb (when g then 1 + leading_ones_of 7 (2 * b % 256) else 0) 1 ≡ true → ltb b 128 ≡ false
     go true e h = le-ltb b 128 (leb-true 128 b e)
     go false e h = absurd (false≢true h)
 
@@ -110,7 +110,7 @@ no_start b n h = go (eqb n 1) (ltb b 128) (leading_ones b) (high b h) (eqb-true 
     go false q m e f = rw f (no_two n)
 
 no_ones : (b : ℕ) → is_ascii b ≡ true → leading_ones b ≡ 0
-unfolding is_ascii leading_ones leading_ones_of if◌then◌else◌
+unfolding is_ascii leading_ones leading_ones_of when◌then◌else◌
 no_ones b h = rw (lt-leb 128 b (ltb-true b 128 h), leading_ones_of) refl
 
 -- no sequence of several bytes begins with one below 128
@@ -128,8 +128,8 @@ no_fit b k h =
 -- ---- characters
 
 -- what an `if` gives that is there, it gives by its first branch
-if_some : {A : Type 0} (b : Bool) (x y : A) → (if b then some x else none) ≡ some y → (b ≡ true) × (x ≡ y)
-unfolding if◌then◌else◌
+if_some : {A : Type 0} (b : Bool) (x y : A) → (when b then some x else none) ≡ some y → (b ≡ true) × (x ≡ y)
+unfolding when◌then◌else◌
 if_some true x y h = (refl, some-injective x y h)
 if_some false x y h = absurd (none-ne-some y h)
 
@@ -153,10 +153,10 @@ read b l c h =
 
 -- a longer sequence is for larger characters
 least-long : (k : ℕ) → 128 ≤ least (suc (suc k))
-unfolding least if◌then◌else◌
+unfolding least when◌then◌else◌
 least-long k = go (eqb (suc (suc k)) 1) (eqb (suc (suc k)) 2) (eqb (suc (suc k)) 3) (ne_eqb (suc (suc k)) 1 λ e. omega arith)
   where
-    go : (p q r : Bool) → p ≡ false → 128 ≤ (if p then 0 else if q then 0x80 else if r then 0x800 else 0x10000)
+    go : (p q r : Bool) → p ≡ false → 128 ≤ (when p then 0 else when q then 0x80 else when r then 0x800 else 0x10000)
     go true q r h = absurd (true≢false h)
     go false true r h = omega arith
     go false false true h = omega arith
@@ -167,18 +167,18 @@ unfolding fits between is_ascii
 fits_one b h = elim (or_cases (ltb b 128) false h) [ inl e ↦ e | inr e ↦ absurd (false≢true e) ]
 
 value-one : (b : ℕ) → is_ascii b ≡ true → value b [] ≡ b
-unfolding value U.joined if◌then◌else◌ is_ascii
+unfolding value U.joined when◌then◌else◌ is_ascii
 value-one b e = rw (e, value) refl
 
 -- a byte below 128 is a character by itself
 single : (b : ℕ) → is_ascii b ≡ true → character (b ∷ []) ≡ some b
-unfolding character fits least is_scalar if◌then◌else◌ is_ascii
+unfolding character fits least is_scalar when◌then◌else◌ is_ascii
 single b h =
     let le : b < 128 = ltb-true b 128 h in
     rw (value-one b h, h, le-leb b 0xD7FF (omega arith), le-leb 0 b (omega arith), character) refl
 
 bad_character : (b : ℕ) (l : Bytes) → goes_on b ≡ true → character (b ∷ l) ≡ none
-unfolding character if◌then◌else◌
+unfolding character when◌then◌else◌
 bad_character b l h = rw (no_start b (suc (length l)) h, character) refl
 
 -- the characters of a row are the first and the others
@@ -257,7 +257,7 @@ pub join : {u v : Bytes} → Text u → Text v → Text (u ++ v)
 join {u} {v} h k = record { chars = h.chars ++ k.chars; are = characters-append u v h.chars k.chars h.are k.are }
 
 pub ascii-characters : (s : Bytes) → every is_ascii s ≡ true → characters s ≡ some s
-unfolding every characters sequences characters_of in_front if◌then◌else◌ begins_with_one
+unfolding every characters sequences characters_of in_front when◌then◌else◌ begins_with_one
 ascii-characters [] h = refl
 ascii-characters (b ∷ s) h =
     characters-append (b ∷ []) s (b ∷ []) s (rw (single b (and_left (is_ascii b) (every is_ascii s) h)) refl) (ascii-characters s (and_right (is_ascii b) (every is_ascii s) h))
@@ -282,12 +282,12 @@ clean_cut u v h t =
 
 -- a cut behind a byte below 128
 behind_byte : (b : ℕ) (s : Bytes) → is_ascii b ≡ true → Text (b ∷ s) → Text s
-unfolding characters sequences if◌then◌else◌ onto begins_with_one character
+unfolding characters sequences when◌then◌else◌ onto begins_with_one character
 behind_byte b [] h t = empty-text
 behind_byte b (c ∷ s) h t = go (goes_on c) refl (first_byte c s) t.are
   where
     go : (g : Bool) → goes_on c ≡ g → (l : Bytes) × (ls : List Bytes) × (sequences (c ∷ s) ≡ (c ∷ l) ∷ ls)
-        → characters_of (if g then onto b (sequences (c ∷ s)) else ((b ∷ []) ∷ sequences (c ∷ s))) ≡ some t.chars → Text (c ∷ s)
+        → characters_of (when g then onto b (sequences (c ∷ s)) else ((b ∷ []) ∷ sequences (c ∷ s))) ≡ some t.chars → Text (c ∷ s)
     go true e (l, ls, f) k =
         let r : Front (b ∷ c ∷ l) ls t.chars = front (b ∷ c ∷ l) ls t.chars (rw f at k) in
         absurd (false≢true (sym (no_fit b (length l) h) ∙ (read b (c ∷ l) r.first r.is_first).fit))

@@ -8,7 +8,7 @@ use Prim.Native.Nat.{ℕ, suc, ◌+◌, ◌*◌, ◌/◌, ◌%◌, ◌≤◌, �
 use native.Mathlib.Omega.{arith}
 use Rattle.std.proofs.Math.Dec.{ltb}
 use borrow.Author.Tests.{ltb-true, ltb-false, le-ltb, le-leb, lt-leb, leb-true}
-use Rattle.spec.specs.Bytes.{Bytes, if◌then◌else◌, between, every}
+use Rattle.spec.specs.Bytes.{Bytes, when◌then◌else◌, between, every}
 use Rattle.spec.specs.Bytes as B
 use Rattle.spec.specs.Utf8.{leading_ones, goes_on, fits, joined, value, least, is_scalar, character, characters}
 use Rattle.spec.specs.Utf8 as U
@@ -19,18 +19,18 @@ use Rattle.theorems.specs.Utf8.{is_ascii, ascii-characters, one-character}
 -- ---- leading ones
 
 further : (c : ℕ) → goes_on (last_bits c) ≡ true
-unfolding goes_on leading_ones U.leading_ones_of last_bits if◌then◌else◌
+unfolding goes_on leading_ones U.leading_ones_of last_bits when◌then◌else◌
 further c =
     let b : ℕ = 0x80 + c % 64 in
     rw (le-leb 128 b (omega arith), lt-leb 128 (2 * b % 256) (omega arith)) refl
 
 two : (b : ℕ) → 0xC0 ≤ b → b < 0xE0 → leading_ones b ≡ 2
-unfolding leading_ones U.leading_ones_of if◌then◌else◌
+unfolding leading_ones U.leading_ones_of when◌then◌else◌
 two b p q =
     rw (le-leb 128 b (omega arith), le-leb 128 (2 * b % 256) (omega arith), lt-leb 128 (2 * (2 * b % 256) % 256) (omega arith)) refl
 
 three : (b : ℕ) → 0xE0 ≤ b → b < 0xF0 → leading_ones b ≡ 3
-unfolding leading_ones U.leading_ones_of if◌then◌else◌
+unfolding leading_ones U.leading_ones_of when◌then◌else◌
 three b p q =
     rw (
       le-leb 128 b (omega arith),
@@ -40,7 +40,7 @@ three b p q =
     ) refl
 
 four : (b : ℕ) → 0xF0 ≤ b → b < 0xF8 → leading_ones b ≡ 4
-unfolding leading_ones U.leading_ones_of if◌then◌else◌
+unfolding leading_ones U.leading_ones_of when◌then◌else◌
 four b p q =
     rw (
       le-leb 128 b (omega arith),
@@ -64,7 +64,7 @@ fourth c le = omega (arith, le)
 
 -- a sequence of the right length, whose value is a character of that length
 read_as : (b : ℕ) (s : Bytes) (c : ℕ) → fits b (suc (length s)) ≡ true → value b s ≡ c → least (suc (length s)) ≤ c → is_scalar c ≡ true → character (b ∷ s) ≡ some c
-unfolding character if◌then◌else◌
+unfolding character when◌then◌else◌
 read_as b s c f v l i = rw (f, v, le-leb (least (suc (length s))) c l, i) refl
 
 module _ (c : ℕ) (scalar : is_scalar c ≡ true) where
@@ -97,7 +97,7 @@ module _ (c : ℕ) (scalar : is_scalar c ≡ true) where
 
   -- the bytes of a character are read as it
   pub utf8-reads : characters (utf8 c) ≡ some (c ∷ [])
-  unfolding utf8 if◌then◌else◌ every is_ascii
+  unfolding utf8 when◌then◌else◌ every is_ascii
   utf8-reads = go (ltb c 0x80) (ltb c 0x800) (ltb c 0x10000) refl refl refl
     where
       go : (p q r : Bool) → ltb c 0x80 ≡ p → ltb c 0x800 ≡ q → ltb c 0x10000 ≡ r → characters (utf8 c) ≡ some (c ∷ [])

@@ -7,7 +7,7 @@ use native.Mathlib.Nat.{not-suc-le-zero, eq-or-lt_of_le, le_of_suc-le-suc}
 use borrow.Author.Tests.{eqb-true, not-true}
 use lib.Dec.{eqb, leb}
 use lib.Count.{count_leading_zeros}
-use Rattle.spec.specs.Bytes.{ascii, byte, if◌then◌else◌, among, between, in_ranges}
+use Rattle.spec.specs.Bytes.{ascii, byte, when◌then◌else◌, among, between, in_ranges}
 use Rattle.spec.specs.Utf8.{leading_ones, leading_ones_of}
 use Rattle.spec.specs.XmlNames.{is_char, start_ranges, further_ranges, is_name_start, is_name_char}
 use Rattle.spec.proofs.Booleans.{and_left, and_right}
@@ -44,7 +44,7 @@ ones : ℕ → Bool
 ones b = eqb (count_leading_zeros 8 (255 - b)) (leading_ones b)
 
 all_ones : all_below ones 256 ≡ true
-unfolding all_below ones leading_ones leading_ones_of if◌then◌else◌ count_leading_zeros
+unfolding all_below ones leading_ones leading_ones_of when◌then◌else◌ count_leading_zeros
 all_ones = refl
 
 pub inverted : (b : ℕ) → b < 256 → count_leading_zeros 8 (255 - b) ≡ leading_ones b

@@ -11,7 +11,7 @@ use lib.ListN.{length, take, drop, get_or, length-take, length-drop, take-append
 use lib.Seq.{drop-cons, length-take-le, take-append_seam}
 use borrow.Author.Tests.{le-ltb, lt-ltb, le-leb, eq-eqb}
 use Rattle.spec.proofs.Booleans.{or_right_lem}
-use Rattle.spec.specs.Bytes.{Bytes, if◌then◌else◌, between, every}
+use Rattle.spec.specs.Bytes.{Bytes, when◌then◌else◌, between, every}
 use Rattle.spec.specs.Utf8.{leading_ones, goes_on, fits, joined, value, least, is_scalar, characters}
 use Rattle.utils.specs.declared.Decoded.{Decoded}
 use Rattle.utils.specs.declared.Decoded.TheVariants.{End, Character, Malformed}
@@ -24,18 +24,18 @@ use Rattle.utils.proofs.Front.{front_some}
 -- ---- the bytes that go on
 
 pub joins_broken : (bits : ℕ) (s : Bytes) → Broken ≡ joins bits s → every goes_on s ≡ false
-unfolding joins if◌then◌else◌
+unfolding joins when◌then◌else◌
 joins_broken bits s e = by (every goes_on s) e
   where
-    by : (t : Bool) → Broken ≡ (if t then Value (joined bits s) else Broken) → t ≡ false
+    by : (t : Bool) → Broken ≡ (when t then Value (joined bits s) else Broken) → t ≡ false
     by true e = absurd (clash (cc))
     by false e = refl
 
 pub joins-value : (bits : ℕ) (s : Bytes) {c : ℕ} → Value c ≡ joins bits s → (every goes_on s ≡ true) × (c ≡ joined bits s)
-unfolding joins if◌then◌else◌
+unfolding joins when◌then◌else◌
 joins-value bits s {c} e = by (every goes_on s) e
   where
-    by : (t : Bool) → Value c ≡ (if t then Value (joined bits s) else Broken) → (t ≡ true) × (c ≡ joined bits s)
+    by : (t : Bool) → Value c ≡ (when t then Value (joined bits s) else Broken) → (t ≡ true) × (c ≡ joined bits s)
     by true e = (refl, cc)
     by false e = absurd (clash (cc))
 
@@ -66,7 +66,7 @@ module _ {bits v i : ℕ} {s : Bytes} (j : Joining bits s v i) where
   joining_small h l = omega (arith, room_small i (omega arith), j.below)
 
   pub joining_broken : i < length s → goes_on (get_or s i 0) ≡ false → Broken ≡ joins bits s
-  unfolding joins every if◌then◌else◌
+  unfolding joins every when◌then◌else◌
   joining_broken h e = sym (j.rest ∙ rw (drop-cons s i 0 h, e))
 
   pub joining_more : i < length s → goes_on (get_or s i 0) ≡ true → Joining bits s (v * 64 + get_or s i 0 % 64) (i + 1)
@@ -76,7 +76,7 @@ module _ {bits v i : ℕ} {s : Bytes} (j : Joining bits s v i) where
       record { within = omega arith; rest = j.rest ∙ rw (drop-cons s i 0 h, e, add-one i, swap); below = rw (add-one i) (omega (arith, j.below)) }
 
   pub joining_done : length s ≤ i → Value v ≡ joins bits s
-  unfolding joins every joined if◌then◌else◌
+  unfolding joins every joined when◌then◌else◌
   joining_done h = sym (j.rest ∙ rw (drop_of_length-le s h))
 
 -- ---- the first byte
@@ -133,7 +133,7 @@ module _ {s : Bytes} {n bits low : ℕ} (h : Begins s n bits low) where
   counts w = omega (arith, length-take-le (n - 1) (drop 1 s) (omega (arith, length-drop 1 s)), h.several)
 
   valued : n ≤ length s → value (get_or s 0 0) (behind s n) ≡ joined bits (behind s n)
-  unfolding value if◌then◌else◌
+  unfolding value when◌then◌else◌
   valued w =
       let e : 6 - length (behind s n) ≡ 7 - n = omega (arith, counts w) in
       rw (le-ltb (get_or s 0 0) 128 high, e, h.bits_of)
@@ -171,7 +171,7 @@ module _ {s : Bytes} {n bits low : ℕ} (h : Begins s n bits low) where
 -- ---- any other first byte
 
 pub front_one : (s : Bytes) → 0 < length s → get_or s 0 0 < 128 → Front (get_or s 0 0) 1 s
-unfolding every fits value joined is_scalar least if◌then◌else◌
+unfolding every fits value joined is_scalar least when◌then◌else◌
 front_one [] h l = absurd (omega arith)
 front_one (b ∷ u) h l =
     let g : Good b b [] = record { fit = rw (lt-ltb b 128 l); low = omega arith; scalar = rw (le-leb b 0xD7FF (omega arith)); is = rw (lt-ltb b 128 l) } in

@@ -9,7 +9,7 @@ use lib.Dec.{eqb, leb}
 use lib.ListN.{length, take, drop, get_or, drop_of_length-le}
 use lib.Seq.{drop-cons}
 use borrow.Author.Tests.{le-leb, lt-leb, ne_eqb, eqb-true, eqb-false}
-use Rattle.spec.specs.Bytes.{Bytes, ascii, byte, if◌then◌else◌, after, among, up_to, from, every, between, in_ranges}
+use Rattle.spec.specs.Bytes.{Bytes, ascii, byte, when◌then◌else◌, after, among, up_to, from, every, between, in_ranges}
 use Rattle.spec.specs.Utf8.{as_characters}
 use Rattle.spec.specs.XmlNames.{is_char, is_name_start, is_name_char, is_name, no_colon, is_nc_name, prefix_of, local_of, is_q_name}
 use Rattle.spec.proofs.Booleans.{and_right}
@@ -121,11 +121,11 @@ scanned_begins s = record { within = omega arith; counted = omega arith }
 
 module _ {s : Bytes} {i : ℕ} (w : Scanned s i) where
   pub scanned_colon : i < length s → get_or s i 0 ≡ 0x3A → i ≡ before s
-  unfolding up_to among ascii if◌then◌else◌
+  unfolding up_to among ascii when◌then◌else◌
   scanned_colon h e = let z : before (drop i s) ≡ 0 = rw (drop-cons s i 0 h, e) in omega (arith, w.counted)
 
   pub scanned_more : i < length s → (get_or s i 0 ≡ 0x3A → ⊥) → Scanned s (i + 1)
-  unfolding up_to among ascii if◌then◌else◌
+  unfolding up_to among ascii when◌then◌else◌
   scanned_more h n =
       let z : before (drop i s) ≡ suc (before (drop (i + 1) s)) = rw (drop-cons s i 0 h, ne_eqb 0x3A (get_or s i 0) (λ e. n (sym e)), add-one i) in
       record { within = omega arith; counted = omega (arith, w.counted) }
@@ -142,7 +142,7 @@ data Colon (s : Bytes) : Type 0 where
   with_one : no_colon s ≡ false → before s < length s → Colon s
 
 colon : (s : Bytes) → Colon s
-unfolding no_colon every byte up_to among ascii if◌then◌else◌
+unfolding no_colon every byte up_to among ascii when◌then◌else◌
 colon [] = without refl refl
 colon (b ∷ s) = by (eqb b 0x3A) refl (colon s)
   where
@@ -152,11 +152,11 @@ colon (b ∷ s) = by (eqb b 0x3A) refl (colon s)
     by false e (with_one n l) = with_one (rw (e, n)) (rw (ne_eqb 0x3A b (λ d. eqb-false b 0x3A e (sym d))) (omega arith))
 
 from-drop : (p : ℕ → Bool) (s : Bytes) → from p s ≡ drop (length (up_to p s)) s
-unfolding from up_to if◌then◌else◌
+unfolding from up_to when◌then◌else◌
 from-drop p [] = refl
 from-drop p (a ∷ s) = by (p a) (from-drop p s)
   where
-    by : (t : Bool) → from p s ≡ drop (length (up_to p s)) s → (if t then (a ∷ s) else from p s) ≡ drop (length (if t then [] else (a ∷ up_to p s))) (a ∷ s)
+    by : (t : Bool) → from p s ≡ drop (length (up_to p s)) s → (when t then (a ∷ s) else from p s) ≡ drop (length (when t then [] else (a ∷ up_to p s))) (a ∷ s)
     by true h = refl
     by false h = h
 
@@ -176,24 +176,24 @@ module _ (s : Bytes) {k : ℕ} (e : k ≡ before s) where
       by (with_one n l) = n
 
   pub prefix_is : k < length s → prefix_of s ≡ take k s
-  unfolding prefix_of if◌then◌else◌
+  unfolding prefix_of when◌then◌else◌
   prefix_is h = rw (some-colon h, e) (sym (take_up_to (among (ascii ":")) s))
 
   pub local_is : k < length s → local_of s ≡ drop (k + 1) s
-  unfolding local_of if◌then◌else◌ after ascii
+  unfolding local_of when◌then◌else◌ after ascii
   local_is h = rw (some-colon h, from-drop (among (ascii ":")) s, ← e, drop-cons s k 0 h, add-one k)
 
   module _ (h : length s ≤ k) where
     whole_is : is_q_name s ≡ is_nc_name s
-    unfolding is_q_name local_of if◌then◌else◌
+    unfolding is_q_name local_of when◌then◌else◌
     whole_is = rw (none_colon h)
 
     pub name_local : true ≡ is_nc_name s → Local ≡ name_of s
-    unfolding name_of if◌then◌else◌
+    unfolding name_of when◌then◌else◌
     name_local q = rw (whole_is, ← q, none_colon h)
 
     pub name_none : false ≡ is_nc_name s → NotName ≡ name_of s
-    unfolding name_of if◌then◌else◌
+    unfolding name_of when◌then◌else◌
     name_none q = rw (whole_is, ← q)
 
   module _ (h : k < length s) where
@@ -202,15 +202,15 @@ module _ (s : Bytes) {k : ℕ} (e : k ≡ before s) where
     parts_are = rw (some-colon h, prefix_is h, local_is h)
 
     pub name_prefixed : true ≡ is_nc_name (take k s) → true ≡ is_nc_name (drop (k + 1) s) → Prefixed k ≡ name_of s
-    unfolding name_of if◌then◌else◌
+    unfolding name_of when◌then◌else◌
     name_prefixed p q = rw (parts_are, ← p, ← q, some-colon h, e)
 
     pub name_no_prefix : false ≡ is_nc_name (take k s) → NotName ≡ name_of s
-    unfolding name_of if◌then◌else◌
+    unfolding name_of when◌then◌else◌
     name_no_prefix p = rw (parts_are, ← p)
 
     pub name_no_local : true ≡ is_nc_name (take k s) → false ≡ is_nc_name (drop (k + 1) s) → NotName ≡ name_of s
-    unfolding name_of if◌then◌else◌
+    unfolding name_of when◌then◌else◌
     name_no_local p q = rw (parts_are, ← p, ← q)
 
 -- ---- a name by its parts
@@ -222,7 +222,7 @@ nc_colon s h = and_right (as_characters is_name s) (no_colon s) h
 
 -- the colon behind bytes that have none is the first
 first_colon : (s : Bytes) (k : ℕ) → k < length s → no_colon (take k s) ≡ true → get_or s k 0 ≡ 0x3A → k ≡ before s
-unfolding no_colon every byte up_to among ascii if◌then◌else◌
+unfolding no_colon every byte up_to among ascii when◌then◌else◌
 first_colon [] k l n e = absurd (omega arith)
 first_colon (b ∷ s) zero l n e = rw e
 first_colon (b ∷ s) (suc k) l n e = by (eqb b 0x3A) refl (λ m. first_colon s k (omega arith) m e)
@@ -258,10 +258,10 @@ pub record HasPrefix (k : ℕ) (s : Bytes) : Type 0 where
 
 -- by whether it is a name, and has no colon
 shape : Bool → Bool → ℕ → Name
-shape q n k = if q then if n then Local else Prefixed k else NotName
+shape q n k = when q then when n then Local else Prefixed k else NotName
 
 pub not_name : (s : Bytes) → NotName ≡ name_of s → is_q_name s ≡ false
-unfolding name_of shape if◌then◌else◌
+unfolding name_of shape when◌then◌else◌
 not_name s e = by (is_q_name s) (no_colon s) e
   where
     by : (q n : Bool) → NotName ≡ shape q n (before s) → q ≡ false
@@ -270,7 +270,7 @@ not_name s e = by (is_q_name s) (no_colon s) e
     by false n e = refl
 
 pub no_prefix : (s : Bytes) → Local ≡ name_of s → NoPrefix s
-unfolding name_of shape prefix_of local_of if◌then◌else◌
+unfolding name_of shape prefix_of local_of when◌then◌else◌
 no_prefix s e =
     let p = by (is_q_name s) (no_colon s) e in
     record { name = p.0; colon = p.1; prefix = rw p.1; local = rw p.1 }
@@ -281,7 +281,7 @@ no_prefix s e =
     by false n e = absurd (clash (cc))
 
 pub has_prefix : (s : Bytes) {k : ℕ} → Prefixed k ≡ name_of s → HasPrefix k s
-unfolding name_of shape if◌then◌else◌
+unfolding name_of shape when◌then◌else◌
 has_prefix s {k} e = of (by (is_q_name s) (no_colon s) e) (colon s)
   where
     by : (q n : Bool) → Prefixed k ≡ shape q n (before s) → (q ≡ true) × (n ≡ false) × (k ≡ before s)

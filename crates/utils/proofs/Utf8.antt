@@ -9,7 +9,7 @@ use native.Mathlib.Omega.{arith}
 use lib.Dec.{eqb, leb, ltb}
 use lib.ListN.{length, take, length-append}
 use borrow.Author.Tests.{le-leb, lt-leb, lt-ltb, le-ltb, ne_eqb, leb-true, ltb-true, ltb-false, eqb-true}
-use Rattle.spec.specs.Bytes.{Bytes, if◌then◌else◌, between, onto, up_to, from, every}
+use Rattle.spec.specs.Bytes.{Bytes, when◌then◌else◌, between, onto, up_to, from, every}
 use Rattle.spec.specs.Utf8.{leading_ones, leading_ones_of, goes_on, begins_with_one, sequences, fits, joined, value, least, is_scalar, character, in_front, characters_of, characters}
 use Rattle.spec.proofs.Booleans.{or_cases, and_left, and_right}
 use Rattle.utils.proofs.Tools.{clash}
@@ -21,12 +21,12 @@ unfolding goes_on
 goes_one b h = eqb-true (leading_ones b) 1 h
 
 pub ones_low : (b : ℕ) → b < 128 → leading_ones b ≡ 0
-unfolding leading_ones leading_ones_of if◌then◌else◌
+unfolding leading_ones leading_ones_of when◌then◌else◌
 ones_low b h = rw (lt-leb 128 b h)
 
 -- the one length that fits a first byte
 unfoldable pub size : ℕ → ℕ
-size b = if ltb b 128 then 1 else leading_ones b
+size b = when ltb b 128 then 1 else leading_ones b
 
 -- how a length comes to fit
 pub data Fit (b n : ℕ) : Type 0 where
@@ -44,11 +44,11 @@ fits_fit b n h =
     (or_cases (eqb n 1 && ltb b 128) ((leb 2 n && leb n 4) && eqb (leading_ones b) n) h)
 
 pub size_low : (b : ℕ) → b < 128 → size b ≡ 1
-unfolding size if◌then◌else◌
+unfolding size when◌then◌else◌
 size_low b h = rw (lt-ltb b 128 h)
 
 pub size_high : (b : ℕ) → 128 ≤ b → size b ≡ leading_ones b
-unfolding size if◌then◌else◌
+unfolding size when◌then◌else◌
 size_high b h = rw (le-ltb b 128 h)
 
 pub ones_high : (b : ℕ) → 0 < leading_ones b → 128 ≤ b
@@ -74,10 +74,10 @@ on_never b n g h = by (goes_one b g) (fits_fit b n h)
     by e (several l m q) = omega arith
 
 least_high : (n : ℕ) → 2 ≤ n → 128 ≤ least n
-unfolding least if◌then◌else◌
+unfolding least when◌then◌else◌
 least_high n h = rw (ne_eqb n 1 (λ e. omega arith)) (by (eqb n 2) (eqb n 3))
   where
-    by : (a b : Bool) → 128 ≤ (if a then 0x80 else if b then 0x800 else 0x10000)
+    by : (a b : Bool) → 128 ≤ (when a then 0x80 else when b then 0x800 else 0x10000)
     by true b = omega arith
     by false true = omega arith
     by false false = omega arith
@@ -92,11 +92,11 @@ pub record Good (c b : ℕ) (u : Bytes) : Type 0 where
   pub is : value b u ≡ c
 
 pub good_character : {c b : ℕ} {u : Bytes} → Good c b u → character (b ∷ u) ≡ some c
-unfolding character if◌then◌else◌
+unfolding character when◌then◌else◌
 good_character {c} {b} {u} g = rw (g.fit, g.is, le-leb (least (suc (length u))) c g.low, g.scalar)
 
-chosen : {A : Type 0} {a c : A} (t : Bool) → (if t then some a else none) ≡ some c → (t ≡ true) × (a ≡ c)
-unfolding if◌then◌else◌
+chosen : {A : Type 0} {a c : A} (t : Bool) → (when t then some a else none) ≡ some c → (t ≡ true) × (a ≡ c)
+unfolding when◌then◌else◌
 chosen true e = (refl, cc)
 chosen false e = absurd (clash (cc))
 
@@ -111,7 +111,7 @@ character_good {c} {b} {u} e =
     record { fit = and_left (fits b n) (leb (least n) v && is_scalar v) p.0; low = rw (← p.1) l; scalar = rw (← p.1) (and_right (leb (least n) v) (is_scalar v) q); is = p.1 }
 
 pub misfit : (b : ℕ) (u : Bytes) → (fits b (suc (length u)) ≡ true → ⊥) → character (b ∷ u) ≡ none
-unfolding character if◌then◌else◌
+unfolding character when◌then◌else◌
 misfit b u h = by (fits b (suc (length u))) refl
   where
     by : (t : Bool) → fits b (suc (length u)) ≡ t → character (b ∷ u) ≡ none
@@ -126,7 +126,7 @@ ends b = not (goes_on b)
 
 -- the first sequence is the first byte with those that go on behind it
 sequences_cons : (b : ℕ) (s : Bytes) → sequences (b ∷ s) ≡ (b ∷ up_to ends s) ∷ sequences (from ends s)
-unfolding sequences begins_with_one if◌then◌else◌ up_to from onto ends
+unfolding sequences begins_with_one when◌then◌else◌ up_to from onto ends
 sequences_cons b [] = refl
 sequences_cons b (a ∷ s) = by (goes_on a) refl (sequences_cons a s)
   where
@@ -160,39 +160,39 @@ none_left (b ∷ s) e = absurd (in_some (character (b ∷ up_to ends s)) (charac
 
 -- bytes that all go on are cut nowhere
 on_up_to : (u r : Bytes) → every goes_on u ≡ true → up_to ends (u ++ r) ≡ u ++ up_to ends r
-unfolding every up_to ends if◌then◌else◌
+unfolding every up_to ends when◌then◌else◌
 on_up_to [] r h = refl
 on_up_to (a ∷ u) r h = rw (and_left (goes_on a) (every goes_on u) h, on_up_to u r (and_right (goes_on a) (every goes_on u) h))
 
 on_from : (u r : Bytes) → every goes_on u ≡ true → from ends (u ++ r) ≡ from ends r
-unfolding every from ends if◌then◌else◌
+unfolding every from ends when◌then◌else◌
 on_from [] r h = refl
 on_from (a ∷ u) r h = rw (and_left (goes_on a) (every goes_on u) h) (on_from u r (and_right (goes_on a) (every goes_on u) h))
 
 pub up_to_on : (s : Bytes) → every goes_on (up_to ends s) ≡ true
-unfolding every up_to ends if◌then◌else◌
+unfolding every up_to ends when◌then◌else◌
 up_to_on [] = refl
 up_to_on (a ∷ s) = by (goes_on a) refl (up_to_on s)
   where
-    by : (t : Bool) → goes_on a ≡ t → every goes_on (up_to ends s) ≡ true → every goes_on (if not t then [] else (a ∷ up_to ends s)) ≡ true
+    by : (t : Bool) → goes_on a ≡ t → every goes_on (up_to ends s) ≡ true → every goes_on (when not t then [] else (a ∷ up_to ends s)) ≡ true
     by true e h = rw e h
     by false e h = refl
 
 pub take_up_to : (p : ℕ → Bool) (s : Bytes) → take (length (up_to p s)) s ≡ up_to p s
-unfolding up_to if◌then◌else◌
+unfolding up_to when◌then◌else◌
 take_up_to p [] = refl
 take_up_to p (a ∷ s) = by (p a) (take_up_to p s)
   where
-    by : (t : Bool) → take (length (up_to p s)) s ≡ up_to p s → take (length (if t then [] else (a ∷ up_to p s))) (a ∷ s) ≡ (if t then [] else (a ∷ up_to p s))
+    by : (t : Bool) → take (length (up_to p s)) s ≡ up_to p s → take (length (when t then [] else (a ∷ up_to p s))) (a ∷ s) ≡ (when t then [] else (a ∷ up_to p s))
     by true h = refl
     by false h = ap (◌∷◌ a) h
 
 from_none : (s : Bytes) → from ends s ≡ [] → up_to ends s ≡ s
-unfolding up_to from if◌then◌else◌
+unfolding up_to from when◌then◌else◌
 from_none [] h = refl
 from_none (a ∷ s) h = by (ends a) (from_none s) h
   where
-    by : (t : Bool) → (from ends s ≡ [] → up_to ends s ≡ s) → (if t then (a ∷ s) else from ends s) ≡ [] → (if t then [] else (a ∷ up_to ends s)) ≡ a ∷ s
+    by : (t : Bool) → (from ends s ≡ [] → up_to ends s ≡ s) → (when t then (a ∷ s) else from ends s) ≡ [] → (when t then [] else (a ∷ up_to ends s)) ≡ a ∷ s
     by true f q = absurd (clash (cc))
     by false f q = ap (◌∷◌ a) (f q)
 
@@ -217,7 +217,7 @@ alone_sequence {c} {b} {u} e =
 
 -- a character below 128 is its one byte
 pub low_byte : {c b : ℕ} {u : Bytes} → Sequence c b u → b < 128 → (u ≡ []) × (b ≡ c)
-unfolding value joined if◌then◌else◌
+unfolding value joined when◌then◌else◌
 low_byte {c} {b} {u = []} q h = (refl, rw (lt-ltb b 128 h) at q.good.is)
 low_byte {c} {b} {u = a ∷ u} q h = absurd (omega (arith, fits-size b _ q.good.fit, size_low b h))
 
@@ -231,7 +231,7 @@ high_byte {c} {b} {u} q h = by (fits_fit b _ q.good.fit)
 
 -- behind a good sequence the rest is read by itself, also where it begins with a byte that goes on: then neither is UTF-8
 pub front : {c b : ℕ} {u : Bytes} (r : Bytes) → Sequence c b u → characters (b ∷ (u ++ r)) ≡ in_front (some c) (characters r)
-unfolding up_to from in_front if◌then◌else◌ ends
+unfolding up_to from in_front when◌then◌else◌ ends
 front {c} {b} {u} [] q = rw (append-nil, no_bytes) (sequence_alone q)
 front {c} {b} {u} (a ∷ r) q = characters_cons b (u ++ a ∷ r) ∙ rw (on_up_to u (a ∷ r) q.on, on_from u (a ∷ r) q.on) (by (goes_on a) refl)
   where

@@ -1,7 +1,7 @@
 -- What some bytes begin with: the answers of `decode`.
 use Rattle.std.specs.Prelude.{◌≡◌, [], ◌∷◌, ℕ, ◌-◌, ◌^◌, ◌%◌, ◌<◌, ◌≤◌, length, take, get_or}
 use Rattle.std.proofs.Math.Option.{some}
-use Rattle.spec.specs.Bytes.{Bytes, if◌then◌else◌, every}
+use Rattle.spec.specs.Bytes.{Bytes, when◌then◌else◌, every}
 use Rattle.spec.specs.Utf8.{leading_ones, goes_on, joined, least, characters}
 use Rattle.utils.specs.declared.Decoded.{Decoded}
 use Rattle.utils.specs.declared.Decoded.TheVariants.{End, Character, Malformed}
@@ -36,4 +36,4 @@ pub record Begins (s : Bytes) (n bits low : ℕ) : Type 0 where
 
 -- the bits of bytes that all go on, behind those of the first byte
 unfoldable pub joins : ℕ → Bytes → Joined
-joins bits s = if every goes_on s then Value (joined bits s) else Broken
+joins bits s = when every goes_on s then Value (joined bits s) else Broken

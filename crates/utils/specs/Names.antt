@@ -1,6 +1,6 @@
 -- What a name as written is, and the parts of an NCName.
 use Rattle.std.specs.Prelude.{◌≡◌, Bool, true, ◌&&◌, not, ℕ, ◌<◌, eqb, length, get_or}
-use Rattle.spec.specs.Bytes.{Bytes, ascii, byte, if◌then◌else◌, among, up_to, every}
+use Rattle.spec.specs.Bytes.{Bytes, ascii, byte, when◌then◌else◌, among, up_to, every}
 use Rattle.spec.specs.Utf8.{as_characters}
 use Rattle.spec.specs.XmlNames.{is_name_start, is_name_char, no_colon, is_q_name}
 use Rattle.utils.specs.Plain.{plain}
@@ -9,7 +9,7 @@ use Rattle.utils.specs.declared.Name.TheVariants.{NotName, Local, Prefixed}
 
 -- no name; NCName; or NCName:NCName, with what stands before the colon counted
 unfoldable pub name_of : Bytes → Name
-name_of s = if is_q_name s then if no_colon s then Local else Prefixed (length (up_to (among (ascii ":")) s)) else NotName
+name_of s = when is_q_name s then when no_colon s then Local else Prefixed (length (up_to (among (ascii ":")) s)) else NotName
 
 -- a character other than the colon
 unfoldable pub other : ℕ → Bool

@@ -4,7 +4,7 @@ use Rattle.std.proofs.Common.{sym, ◌∙◌, inl, inr, ⊎_elim, eq-or-lt_of_le
 use Rattle.std.proofs.lemmas.Bool.{false≢true, lt-leb}
 use types.Run.{OneOf}
 use Rattle.std.specs.Int.Bits.{bit_and}
-use Rattle.spec.specs.Bytes.{Bytes, ascii, byte, if◌then◌else◌, among, every}
+use Rattle.spec.specs.Bytes.{Bytes, ascii, byte, when◌then◌else◌, among, every}
 use Rattle.spec.specs.NTriples.{literal_byte, iri_byte, hex_digit, forbidden}
 use Rattle.spec.specs.XmlLiteral.{text_byte, value_byte}
 use Rattle.spec.proofs.Booleans.{and_left, and_right}
@@ -13,37 +13,37 @@ use Rattle.writer.specs.Put.{compare}
 -- ---- bytes that stand for themselves
 
 pub literal-same : {c : ℕ} → (c ≡ 34 → ⊥) → (c ≡ 92 → ⊥) → (c ≡ 10 → ⊥) → (c ≡ 13 → ⊥) → literal_byte c ≡ c ∷ []
-unfolding literal_byte if◌then◌else◌ byte
+unfolding literal_byte when◌then◌else◌ byte
 literal-same {c} a b d e = rw (ne_eqb c 34 a, ne_eqb c 92 b, ne_eqb c 10 d, ne_eqb c 13 e)
 
 pub text_same : {c : ℕ} → (c ≡ 38 → ⊥) → (c ≡ 60 → ⊥) → (c ≡ 62 → ⊥) → (c ≡ 34 → ⊥) → (c ≡ 39 → ⊥) → text_byte c ≡ c ∷ []
-unfolding text_byte if◌then◌else◌ byte
+unfolding text_byte when◌then◌else◌ byte
 text_same {c} a b d e f = rw (ne_eqb c 38 a, ne_eqb c 60 b, ne_eqb c 62 d, ne_eqb c 34 e, ne_eqb c 39 f)
 
 pub value_same : {c : ℕ} → (c ≡ 38 → ⊥) → (c ≡ 60 → ⊥) → (c ≡ 34 → ⊥) → (c ≡ 9 → ⊥) → (c ≡ 10 → ⊥) → (c ≡ 13 → ⊥) → value_byte c ≡ c ∷ []
-unfolding value_byte if◌then◌else◌ byte
+unfolding value_byte when◌then◌else◌ byte
 value_same {c} a b d e f g = rw (ne_eqb c 38 a, ne_eqb c 60 b, ne_eqb c 34 d, ne_eqb c 9 e, ne_eqb c 10 f, ne_eqb c 13 g)
 
 pub iri_same : {c : ℕ} → forbidden c ≡ false → iri_byte c ≡ c ∷ []
-unfolding iri_byte if◌then◌else◌
+unfolding iri_byte when◌then◌else◌
 iri_same h = rw h
 
 -- a forbidden byte is its two hex digits
 pub iri_digits : (c : ℕ) → forbidden c ≡ true → 92 ∷ 117 ∷ 48 ∷ 48 ∷ hex_digit (c / 16) ∷ hex_digit (c % 16) ∷ [] ≡ iri_byte c
-unfolding iri_byte if◌then◌else◌ ascii
+unfolding iri_byte when◌then◌else◌ ascii
 iri_digits c h = rw h
 
 -- ---- how long a word is
 
-short_if_lem : (t : Bool) (s r : Bytes) (k : ℕ) → length s ≤ k → length r ≤ k → length (if t then s else r) ≤ k
-unfolding if◌then◌else◌
+short_if_lem : (t : Bool) (s r : Bytes) (k : ℕ) → length s ≤ k → length r ≤ k → length (when t then s else r) ≤ k
+unfolding when◌then◌else◌
 short_if_lem true s r k a b = a
 short_if_lem false s r k a b = b
 
 pub length-literal-byte : (c : ℕ) → length (literal_byte c) ≤ 2
 unfolding literal_byte ascii
 length-literal-byte c =
-    let two : (t : Bool) (a b : ℕ) (r : Bytes) → length r ≤ 2 → length (if t then a ∷ b ∷ [] else r) ≤ 2 =
+    let two : (t : Bool) (a b : ℕ) (r : Bytes) → length r ≤ 2 → length (when t then a ∷ b ∷ [] else r) ≤ 2 =
     λ t a b r. short_if_lem t (a ∷ b ∷ []) r 2 (omega arith) in
     two _ _ _ _ (two _ _ _ _ (two _ _ _ _ (two _ _ _ (c ∷ []) (omega arith))))
 

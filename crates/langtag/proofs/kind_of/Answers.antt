@@ -1,5 +1,5 @@
 -- `langtag::kind_of` is `kind`, length by length.
-use Rattle.spec.specs.Bytes.{if◌then◌else◌}
+use Rattle.spec.specs.Bytes.{when◌then◌else◌}
 use mathlib.Core.Path.{sym}
 use native.Mathlib.Omega.{arith}
 use borrow.Author.Tests.{not-true}
@@ -8,7 +8,7 @@ use Rattle.langtag.proofs.Subtags.{kind_none, kind-one, kind-two, kind_three, ki
 use Rattle.langtag.proofs.kind_of.Goals as goal
 
 pub returns-then-not-u : goal.returns-then-not-u
-unfolding kind if◌then◌else◌
+unfolding kind when◌then◌else◌
 returns-then-not-u c = rw (not-true c.args.u.alphanum c.if-not-u.true)
 
 pub returns-then-n-eq1 : goal.returns-then-n-eq1

@@ -1,29 +1,29 @@
 -- `content::spell` meets its contract, key by key.
 use mathlib.Core.Path.{sym}
-use Rattle.spec.specs.Bytes.{ascii, byte, if◌then◌else◌}
+use Rattle.spec.specs.Bytes.{ascii, byte, when◌then◌else◌}
 use Rattle.spec.specs.XmlLiteral.{text_byte}
 use Rattle.writer.specs.Words.{text_same}
 use native.Mathlib.Omega.{arith}
 use Rattle.writer.proofs.content.spell.Goals as goal
 
 pub returns-in-38 : goal.returns-in-38
-unfolding text_byte if◌then◌else◌ ascii byte
+unfolding text_byte when◌then◌else◌ ascii byte
 returns-in-38 c = record { within = omega arith; is = rw c.in-38.is }
 
 pub returns-in-60 : goal.returns-in-60
-unfolding text_byte if◌then◌else◌ ascii byte
+unfolding text_byte when◌then◌else◌ ascii byte
 returns-in-60 c = record { within = omega arith; is = rw c.in-60.is }
 
 pub returns-in-62 : goal.returns-in-62
-unfolding text_byte if◌then◌else◌ ascii byte
+unfolding text_byte when◌then◌else◌ ascii byte
 returns-in-62 c = record { within = omega arith; is = rw c.in-62.is }
 
 pub returns-in-34 : goal.returns-in-34
-unfolding text_byte if◌then◌else◌ ascii byte
+unfolding text_byte when◌then◌else◌ ascii byte
 returns-in-34 c = record { within = omega arith; is = rw c.in-34.is }
 
 pub returns-in-39 : goal.returns-in-39
-unfolding text_byte if◌then◌else◌ ascii byte
+unfolding text_byte when◌then◌else◌ ascii byte
 returns-in-39 c = record { within = omega arith; is = rw c.in-39.is }
 
 pub returns-in_default : goal.returns-in_default

@@ -1,25 +1,25 @@
 -- `quoted::spell` meets its contract, key by key.
 use mathlib.Core.Path.{sym}
-use Rattle.spec.specs.Bytes.{ascii, byte, if◌then◌else◌}
+use Rattle.spec.specs.Bytes.{ascii, byte, when◌then◌else◌}
 use Rattle.spec.specs.NTriples.{literal_byte}
 use Rattle.writer.specs.Words.{literal-same}
 use native.Mathlib.Omega.{arith}
 use Rattle.writer.proofs.quoted.spell.Goals as goal
 
 pub returns-in-34 : goal.returns-in-34
-unfolding literal_byte if◌then◌else◌ ascii byte
+unfolding literal_byte when◌then◌else◌ ascii byte
 returns-in-34 c = record { within = omega arith; is = rw c.in-34.is }
 
 pub returns-in-92 : goal.returns-in-92
-unfolding literal_byte if◌then◌else◌ ascii byte
+unfolding literal_byte when◌then◌else◌ ascii byte
 returns-in-92 c = record { within = omega arith; is = rw c.in-92.is }
 
 pub returns-in-10 : goal.returns-in-10
-unfolding literal_byte if◌then◌else◌ ascii byte
+unfolding literal_byte when◌then◌else◌ ascii byte
 returns-in-10 c = record { within = omega arith; is = rw c.in-10.is }
 
 pub returns-in-13 : goal.returns-in-13
-unfolding literal_byte if◌then◌else◌ ascii byte
+unfolding literal_byte when◌then◌else◌ ascii byte
 returns-in-13 c = record { within = omega arith; is = rw c.in-13.is }
 
 pub returns-in_default : goal.returns-in_default
