@@ -1,6 +1,5 @@
 -- `convert::document` meets its contract: what it lends has the lengths that `run` asks for, and the start left a fresh document in it.
 use native.Mathlib.Omega.{arith}
-use borrow.Author.Rules.{rules}
 use Rattle.reader.specs.Asked.{roomy}
 use Rattle.convert.specs.Running.{own_ready, document_went, document-refused}
 use Rattle.convert.proofs.document.Goals as goal

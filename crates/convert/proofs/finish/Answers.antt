@@ -1,6 +1,5 @@
 -- `convert::finish` meets its contract, by whether the document may be finished.
 use mathlib.Core.Path.{sym, ◌∙◌}
-use borrow.Author.Rules.{rules}
 use Rattle.convert.specs.Turning.{finish_done, finish_open}
 use Rattle.convert.proofs.finish.Goals as goal
 

@@ -1,5 +1,4 @@
 -- `convert::follow` meets its contract: a way on, or the end, for each pause.
-use borrow.Author.Rules.{rules}
 use Rattle.convert.specs.Turning.{follow_on, follow-refused, waiting, follow_over, follow_more}
 use Rattle.convert.proofs.follow.Goals as goal
 

@@ -1,6 +1,4 @@
 -- `convert::go_on` meets its contract, by whether the print took all of the lines.
-use borrow.Author.Tests.{not-true, not-false}
-use borrow.Author.Rules.{rules}
 use Rattle.convert.specs.Turning.{follows-room, print-cut, print-whole}
 use Rattle.convert.proofs.go_on.Goals as goal
 

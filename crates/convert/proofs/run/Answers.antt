@@ -1,12 +1,8 @@
 -- `convert::run` meets its contract.
 use mathlib.Core.Path.{refl, ◌∙◌}
 use native.Mathlib.Omega.{arith}
-use borrow.Author.Rules.{rules}
-use Rattle.event.specs.Progress.{lent, doc_in}
-use Rattle.reader.specs.Asked.{Areas}
 use Rattle.reader.specs.Goes.{areas_then, still_roomy}
-use Rattle.convert.specs.Places.{Lengths}
-use Rattle.convert.specs.Running.{Running, lengths_here, lengths_then, running_begins, running_stands, running_on, running_ends, running_spent}
+use Rattle.convert.specs.Running.{lengths_here, lengths_then, running_begins, running_stands, running_on, running_ends, running_spent}
 use Rattle.convert.proofs.run.Goals as goal
 
 pub loop-turns-init : goal.loop-turns-init

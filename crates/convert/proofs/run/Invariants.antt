@@ -1,13 +1,9 @@
 -- `convert::run` meets its contract. The loop's invariant: the program is on its way from the start, and all that is lent has its lengths. The measure
 -- is the number of turns that are left.
-use mathlib.Core.Path.{refl, ◌∙◌}
-use native.Mathlib.Omega.{arith}
-use borrow.Author.Rules.{rules}
 use Rattle.event.specs.Progress.{lent, doc_in}
 use Rattle.reader.specs.Asked.{Areas}
-use Rattle.reader.specs.Goes.{areas_then, still_roomy}
 use Rattle.convert.specs.Places.{Lengths}
-use Rattle.convert.specs.Running.{Running, lengths_here, lengths_then, running_begins, running_stands, running_on, running_ends, running_spent}
+use Rattle.convert.specs.Running.{Running}
 use Rattle.convert.proofs.run.Given as goal
 
 abbrev pub invariant-loop-turns : goal.invariant-loop-turns

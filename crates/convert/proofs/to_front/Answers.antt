@@ -1,9 +1,7 @@
 -- `convert::to_front` meets its contract.
-use Prim.Native.Nat.{◌-◌}
-use mathlib.Core.Path.{◌≡◌, refl}
+use mathlib.Core.Path.{refl}
 use native.Mathlib.Omega.{arith}
-use borrow.Author.Rules.{rules}
-use Rattle.convert.specs.Reading.{Moving, moving_begins, moving_more, moves}
+use Rattle.convert.specs.Reading.{moving_begins, moving_more, moves}
 use Rattle.convert.proofs.to_front.Goals as goal
 
 pub loop-i-init : goal.loop-i-init

@@ -1,9 +1,7 @@
 -- `convert::to_front` meets its contract. The loop's invariant: so many bytes are at the front, and those behind them are as they were.
 use Prim.Native.Nat.{◌-◌}
-use mathlib.Core.Path.{◌≡◌, refl}
-use native.Mathlib.Omega.{arith}
-use borrow.Author.Rules.{rules}
-use Rattle.convert.specs.Reading.{Moving, moving_begins, moving_more, moves}
+use mathlib.Core.Path.{◌≡◌}
+use Rattle.convert.specs.Reading.{Moving}
 use Rattle.convert.proofs.to_front.Given as goal
 
 abbrev pub invariant-loop-i : goal.invariant-loop-i

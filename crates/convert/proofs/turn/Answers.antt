@@ -1,5 +1,4 @@
 -- `convert::turn` meets its contract: the events that `feed` did, their lines printed, and what follows.
-use borrow.Author.Rules.{rules}
 use Rattle.convert.specs.Turning.{turn-written, turn-printed, turn-counted, turns}
 use Rattle.convert.proofs.turn.Goals as goal
 

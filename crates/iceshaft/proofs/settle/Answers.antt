@@ -1,6 +1,5 @@
 -- `settle` meets its contract.
 use borrow.Author.Tests.{not-false}
-use borrow.Author.Rules.{rules}
 use Rattle.iceshaft.proofs.settle.Goals as goal
 
 pub returns : goal.returns

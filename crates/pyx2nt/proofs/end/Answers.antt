@@ -1,5 +1,4 @@
 -- `pyx2nt::end` is safe: each end is one of a way from the start, behind which an event can be counted.
-use borrow.Author.Rules.{rules}
 use Rattle.convert.specs.Running.{end_event}
 use Rattle.pyx2nt.proofs.end.Goals as goal
 

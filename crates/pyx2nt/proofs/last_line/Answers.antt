@@ -1,6 +1,5 @@
 -- `pyx2nt::last_line` meets its contract: two texts with their numbers, and a line end.
 use mathlib.Core.Path.{refl}
-use borrow.Author.Rules.{rules}
 use Rattle.spec.specs.Bytes.{ascii}
 use Rattle.pyx2nt.specs.LastLine.{no_line, line_goes_on, line_made}
 use Rattle.pyx2nt.proofs.last_line.Goals as goal

@@ -1,5 +1,4 @@
 -- `pyx2nt::main` is safe: without a base the document was started.
-use borrow.Author.Rules.{rules}
 use Rattle.spec.specs.Modes.{base_mode}
 use Rattle.convert.specs.Running.{without-base}
 use Rattle.pyx2nt.proofs.main.Goals as goal

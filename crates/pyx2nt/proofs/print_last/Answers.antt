@@ -1,6 +1,5 @@
 -- `pyx2nt::print_last` is safe: the line is no longer than what is lent for it, and its bytes can be counted.
 use mathlib.Core.Path.{refl}
-use borrow.Author.Rules.{rules}
 use Rattle.streams.specs.Telling.{line-size}
 use Rattle.pyx2nt.specs.LastLine.{last-counted}
 use Rattle.pyx2nt.proofs.print_last.Goals as goal

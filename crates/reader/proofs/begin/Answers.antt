@@ -2,7 +2,6 @@
 use mathlib.Core.Path.{sym}
 use native.Mathlib.Omega.{arith}
 use lib.Seq.{length-take-le}
-use borrow.Author.Rules.{rules}
 use Rattle.spec.specs.Limits.{work_store_bytes, id_store_bytes}
 use Rattle.reader.specs.Starting.{begin_refused, begin_done, size-within}
 use Rattle.reader.proofs.begin.Goals as goal

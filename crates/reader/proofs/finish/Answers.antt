@@ -1,7 +1,5 @@
 -- `reader::finish` meets its contract: 3, 4, 6, and else the mark.
 use mathlib.Core.Path.{sym, ◌∙◌}
-use borrow.Author.Tests.{not-true, not-false}
-use borrow.Author.Rules.{rules}
 use Rattle.reader_contract.specs.Meaning.{lawful_as_parts}
 use Rattle.reader.specs.Starting.{finish_unlawful, finish-closed, finish_open, finish_done}
 use Rattle.reader.proofs.finish.Goals as goal

@@ -1,7 +1,5 @@
 -- `reader::is_lawful` meets its contract: the test of the state, and then that of the ID table.
 use mathlib.Core.Path.{sym, ◌∙◌}
-use borrow.Author.Tests.{not-true, not-false}
-use borrow.Author.Rules.{rules}
 use Rattle.reader_contract.specs.Meaning.{not_valid, table_decides}
 use Rattle.reader.proofs.is_lawful.Goals as goal
 

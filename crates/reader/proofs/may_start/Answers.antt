@@ -1,7 +1,5 @@
 -- `reader::may_start` meets its contract: the tests in the definition's order.
 use mathlib.Core.Path.{sym, ◌∙◌}
-use borrow.Author.Tests.{not-true, not-false}
-use borrow.Author.Rules.{rules}
 use Rattle.reader.specs.Starting.{no_lengths, no_base, no_iri, base-long, base_good}
 use Rattle.reader.proofs.may_start.Goals as goal
 

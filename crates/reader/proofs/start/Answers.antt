@@ -1,5 +1,4 @@
 -- `reader::start` meets its contract: refused, nothing is changed; accepted, the base stands at the front of the work store, and all else is fresh.
-use borrow.Author.Rules.{rules}
 use Rattle.reader.specs.Starting.{start_refused, start_done}
 use Rattle.reader.proofs.start.Goals as goal
 

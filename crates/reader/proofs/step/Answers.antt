@@ -1,7 +1,5 @@
 -- `reader::step` meets its contract: 3, 4, and else what `core` answers.
-use mathlib.Core.Path.{sym, ◌∙◌, refl}
-use borrow.Author.Tests.{not-true, not-false}
-use borrow.Author.Rules.{rules}
+use mathlib.Core.Path.{◌∙◌, refl}
 use Rattle.reader.specs.Asked.{roomy}
 use Rattle.reader_contract.specs.Meaning.{lawful_facts, lawful_as_parts}
 use Rattle.reader.specs.Stepping.{step_unlawful, step-closed, step_stop, step_did}

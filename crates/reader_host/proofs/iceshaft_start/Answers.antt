@@ -1,6 +1,5 @@
 -- `reader_host::iceshaft_start` meets its contract.
 use Rattle.reader_host.specs.Calling.{start_bad, start_unknown, start_refused, start_done}
-use borrow.Author.Rules.{rules}
 use Rattle.reader_host.proofs.iceshaft_start.Goals as goal
 
 pub returns-then-state-ne-BYTES : goal.returns-then-state-ne-BYTES

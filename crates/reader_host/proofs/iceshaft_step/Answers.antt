@@ -2,7 +2,6 @@
 use borrow.Author.Tests.{not-true, not-false}
 use Rattle.reader_host.specs.Image.{decode-size}
 use Rattle.reader_host.specs.Calling.{step_bad, step_good}
-use borrow.Author.Rules.{rules}
 use Rattle.reader_host.proofs.iceshaft_step.Goals as goal
 
 pub returns-then-not-image : goal.returns-then-not-image

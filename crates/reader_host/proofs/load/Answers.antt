@@ -1,10 +1,8 @@
 -- `reader_host::load` meets its contract.
 use mathlib.Core.Path.{sym, ◌∙◌}
-use borrow.Author.Tests.{not-true, not-false}
 use Rattle.reader_host.specs.Image.{decode_short, decode_flags}
 use Rattle.reader_host.specs.Saving.{loads_none, loads_some}
 use native.Mathlib.Omega.{arith}
-use borrow.Author.Rules.{rules}
 use Rattle.reader_host.proofs.load.Goals as goal
 
 pub returns-then-b-ne-BYTES : goal.returns-then-b-ne-BYTES

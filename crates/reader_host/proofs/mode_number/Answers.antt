@@ -1,6 +1,5 @@
 -- `reader_host::mode_number` meets its contract, by the mode.
 use Rattle.reader_host.specs.Image.{profile_number}
-use borrow.Author.Rules.{rules}
 use Rattle.reader_host.proofs.mode_number.Goals as goal
 
 pub returns-then-mode : goal.returns-then-mode

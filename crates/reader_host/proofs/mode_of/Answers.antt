@@ -1,5 +1,4 @@
 -- `reader_host::mode_of` meets its contract. By the test that was made.
-use borrow.Author.Rules.{rules}
 use borrow.Author.Tests.{eq-eqb, ne_eqb}
 use Rattle.reader_host.specs.Image.{mode_of}
 use Rattle.reader_host.proofs.mode_of.Goals as goal

@@ -1,7 +1,6 @@
 -- `reader_host::read_number` meets its contract.
 use Rattle.reader_host.specs.Rows.{eight_read}
 use native.Mathlib.Omega.{arith}
-use borrow.Author.Rules.{rules}
 use Rattle.reader_host.proofs.read_number.Goals as goal
 
 pub returns : goal.returns

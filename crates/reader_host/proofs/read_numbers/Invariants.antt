@@ -1,9 +1,7 @@
 -- `reader_host::read_numbers` meets its contract. The loop's invariant: the first `i` numbers are read.
 use Prim.Native.Nat.{◌-◌}
 use lib.ListN.{length}
-use Rattle.reader_host.specs.Rows.{Reading, reading_begins, reading_more, reading_done}
-use native.Mathlib.Omega.{arith}
-use borrow.Author.Rules.{rules}
+use Rattle.reader_host.specs.Rows.{Reading}
 use Rattle.reader_host.proofs.read_numbers.Given as goal
 
 abbrev pub invariant-loop-i : goal.invariant-loop-i

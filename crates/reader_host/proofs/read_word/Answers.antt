@@ -2,7 +2,6 @@
 use mathlib.Core.Path.{ap, ◌∙◌}
 use Rattle.reader_host.specs.Little.{value_of}
 use Rattle.reader_host.specs.Rows.{four_read}
-use borrow.Author.Rules.{rules}
 use Rattle.reader_host.proofs.read_word.Goals as goal
 
 pub returns : goal.returns

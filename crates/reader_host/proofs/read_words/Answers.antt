@@ -1,9 +1,6 @@
 -- `reader_host::read_words` meets its contract.
-use Prim.Native.Nat.{◌-◌}
-use lib.ListN.{length}
-use Rattle.reader_host.specs.Rows.{Reading, reading_begins, reading_more, reading_done}
+use Rattle.reader_host.specs.Rows.{reading_begins, reading_more, reading_done}
 use native.Mathlib.Omega.{arith}
-use borrow.Author.Rules.{rules}
 use Rattle.reader_host.proofs.read_words.Goals as goal
 
 pub loop-i-init : goal.loop-i-init

@@ -1,6 +1,5 @@
 -- `reader_host::registers_of` meets its contract.
 use Rattle.reader_host.specs.Image.{registers_of}
-use borrow.Author.Rules.{rules}
 use Rattle.reader_host.proofs.registers_of.Goals as goal
 
 pub returns : goal.returns

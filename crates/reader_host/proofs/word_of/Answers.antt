@@ -1,7 +1,6 @@
 -- `reader_host::word_of` meets its contract.
 use Rattle.reader_host.specs.Little.{value_of}
 use native.Mathlib.Omega.{arith}
-use borrow.Author.Rules.{rules}
 use Rattle.reader_host.proofs.word_of.Goals as goal
 
 pub returns : goal.returns

@@ -1,8 +1,6 @@
 -- `reader_host::write_ids` meets its contract.
-use mathlib.Core.Path.{sym}
 use Rattle.reader_host.specs.Saving.{write_both}
 use native.Mathlib.Omega.{arith}
-use borrow.Author.Rules.{rules}
 use Rattle.reader_host.proofs.write_ids.Goals as goal
 
 pub returns : goal.returns

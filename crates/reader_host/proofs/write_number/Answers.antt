@@ -1,7 +1,6 @@
 -- `reader_host::write_number` meets its contract.
 use Rattle.reader_host.specs.Rows.{eight_put}
 use native.Mathlib.Omega.{arith}
-use borrow.Author.Rules.{rules}
 use Rattle.reader_host.proofs.write_number.Goals as goal
 
 pub returns : goal.returns

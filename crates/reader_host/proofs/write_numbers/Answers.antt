@@ -1,9 +1,6 @@
 -- `reader_host::write_numbers` meets its contract.
-use Prim.Native.Nat.{◌-◌}
-use lib.ListN.{length}
-use Rattle.reader_host.specs.Rows.{Writing, writing_begins, writing_more, writing_done}
+use Rattle.reader_host.specs.Rows.{writing_begins, writing_more, writing_done}
 use native.Mathlib.Omega.{arith}
-use borrow.Author.Rules.{rules}
 use Rattle.reader_host.proofs.write_numbers.Goals as goal
 
 pub loop-i-init : goal.loop-i-init

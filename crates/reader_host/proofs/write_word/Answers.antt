@@ -3,7 +3,6 @@ use lib.ListN.{length-set}
 use Rattle.reader_host.specs.Little.{little}
 use Rattle.reader_host.specs.Rows.{four_put}
 use native.Mathlib.Omega.{arith}
-use borrow.Author.Rules.{rules}
 use Rattle.reader_host.proofs.write_word.Goals as goal
 
 pub bounds-b-at-2 : goal.bounds-b-at-2

@@ -1,9 +1,7 @@
 -- `reader_host::write_words` meets its contract. The loop's invariant: the first `i` numbers stand in their places, and all of them fit.
 use Prim.Native.Nat.{◌-◌}
 use lib.ListN.{length}
-use Rattle.reader_host.specs.Rows.{Writing, writing_begins, writing_more, writing_done}
-use native.Mathlib.Omega.{arith}
-use borrow.Author.Rules.{rules}
+use Rattle.reader_host.specs.Rows.{Writing}
 use Rattle.reader_host.proofs.write_words.Given as goal
 
 abbrev pub invariant-loop-i : goal.invariant-loop-i

@@ -1,5 +1,4 @@
 -- `Place::resumed` meets its contract: a case for each thing that a read can come to.
-use borrow.Author.Rules.{rules}
 use Rattle.convert.proofs.Place.resumed.Goals as goal
 
 pub with-requires : goal.with-requires

@@ -2,7 +2,6 @@
 use native.Mathlib.Omega.{arith}
 use Rattle.spec.specs.Bytes.{ascii}
 use Rattle.iceshaft.specs.Telling.{long_line, number-told}
-use borrow.Author.Rules.{rules}
 use Rattle.iceshaft.proofs.telling.long_line.Goals as goal
 
 pub returns : goal.returns

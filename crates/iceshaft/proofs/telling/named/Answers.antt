@@ -1,7 +1,6 @@
 -- `telling::named` meets its contract: one text behind the other.
 use native.Mathlib.Omega.{arith}
 use Rattle.iceshaft.specs.Telling.{both_put}
-use borrow.Author.Rules.{rules}
 use Rattle.iceshaft.proofs.telling.named.Goals as goal
 
 pub returns : goal.returns

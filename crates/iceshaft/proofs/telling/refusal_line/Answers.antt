@@ -2,7 +2,6 @@
 use mathlib.Core.Path.{refl}
 use Rattle.spec.specs.Bytes.{ascii}
 use Rattle.iceshaft.specs.Telling.{refusal_goes_on, refusal_made}
-use borrow.Author.Rules.{rules}
 use Rattle.iceshaft.proofs.telling.refusal_line.Goals as goal
 
 pub put_number-m-requires : goal.put_number-m-requires

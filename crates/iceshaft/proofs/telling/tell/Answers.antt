@@ -1,6 +1,5 @@
 -- `telling::tell` is safe: behind a failure an event can be counted.
 use Rattle.iceshaft.specs.Telling.{cut_event, unread_event}
-use borrow.Author.Rules.{rules}
 use Rattle.iceshaft.proofs.telling.tell.Goals as goal
 
 pub overflow_sub-event : goal.overflow_sub-event

@@ -1,6 +1,5 @@
 -- `telling::tell_long` is safe: the line is no longer than what is lent for it.
 use Rattle.streams.specs.Telling.{line-size}
-use borrow.Author.Rules.{rules}
 use Rattle.iceshaft.proofs.telling.tell_long.Goals as goal
 
 pub slice_bounds-tell_line-end : goal.slice_bounds-tell_line-end

@@ -1,5 +1,4 @@
 -- `telling::tell_unknown` is safe: the line is no longer than what is lent for it.
-use borrow.Author.Rules.{rules}
 use Rattle.streams.specs.Telling.{line-size}
 use Rattle.iceshaft.proofs.telling.tell_unknown.Goals as goal
 

@@ -1,5 +1,4 @@
 -- `telling::unknown_line` meets its contract: a word between two texts.
-use borrow.Author.Rules.{rules}
 use Rattle.spec.specs.Bytes.{ascii}
 use Rattle.iceshaft.specs.Telling.{unknown_made}
 use Rattle.iceshaft.proofs.telling.unknown_line.Goals as goal

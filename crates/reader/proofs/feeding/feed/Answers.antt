@@ -1,12 +1,7 @@
 -- `feeding::feed` meets its contract.
-use Prim.Native.Nat.{◌-◌}
 use mathlib.Core.Path.{refl, ◌∙◌}
 use native.Mathlib.Omega.{arith}
-use lib.ListN.{length}
-use borrow.Author.Rules.{rules}
-use Rattle.event.specs.Progress.{lent}
-use Rattle.reader.specs.Asked.{Areas}
-use Rattle.reader.specs.Goes.{areas_then, still_roomy, Going, going_begins, going_asks, going_further, goes_full, goes_from, goes_stop, back_room, further_counts, further_less}
+use Rattle.reader.specs.Goes.{areas_then, still_roomy, going_begins, going_asks, going_further, goes_full, goes_from, goes_stop, back_room, further_counts, further_less}
 use Rattle.reader.proofs.feeding.feed.Goals as goal
 
 pub loop-out-init : goal.loop-out-init

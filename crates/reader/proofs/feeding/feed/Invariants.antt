@@ -1,13 +1,10 @@
 -- `feeding::feed` meets its contract. The loop's invariant: the events so far were done, and the scratch has its lengths. The measure is what
 -- is left of the input.
 use Prim.Native.Nat.{◌-◌}
-use mathlib.Core.Path.{refl, ◌∙◌}
-use native.Mathlib.Omega.{arith}
 use lib.ListN.{length}
-use borrow.Author.Rules.{rules}
 use Rattle.event.specs.Progress.{lent}
 use Rattle.reader.specs.Asked.{Areas}
-use Rattle.reader.specs.Goes.{areas_then, still_roomy, Going, going_begins, going_asks, going_further, goes_full, goes_from, goes_stop, back_room, further_counts, further_less}
+use Rattle.reader.specs.Goes.{Going}
 use Rattle.reader.proofs.feeding.feed.Given as goal
 
 abbrev pub invariant-loop-out : goal.invariant-loop-out

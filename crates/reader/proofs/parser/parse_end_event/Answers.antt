@@ -1,5 +1,4 @@
 -- `parser::parse_end_event` meets its contract, by what its two sides promise.
-use borrow.Author.Rules.{rules}
 use Rattle.reader.proofs.parser.parse_end_event.Goals as goal
 
 pub shape_of-frames-then-r-gt0 : goal.shape_of-frames-then-r-gt0

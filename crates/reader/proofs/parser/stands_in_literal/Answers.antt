@@ -1,6 +1,5 @@
 -- `parser::stands_in_literal` meets its contract by cases.
 use Rattle.reader.specs.Tags.{told}
-use borrow.Author.Rules.{rules}
 use Rattle.reader.proofs.parser.stands_in_literal.Goals as goal
 
 pub returns-in-Outside : goal.returns-in-Outside

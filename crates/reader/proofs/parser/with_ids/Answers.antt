@@ -1,7 +1,5 @@
 -- `parser::with_ids` meets its contract by cases.
 use Rattle.reader.specs.Dispatch.{ids_stop, ids_did}
-use native.Mathlib.Omega.{arith}
-use borrow.Author.Rules.{rules}
 use Rattle.reader.proofs.parser.with_ids.Goals as goal
 
 pub returns-in-Stop : goal.returns-in-Stop

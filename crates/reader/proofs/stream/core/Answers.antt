@@ -1,6 +1,5 @@
 -- `stream::core` meets its contract: no event, or what `parse_event` answers of the first one.
 use mathlib.Core.Path.{refl, sym}
-use borrow.Author.Rules.{rules}
 use Rattle.reader.specs.Core.{take_wait, take_unended, take_long, take-size, take_read, take-parsed}
 use Rattle.reader.proofs.stream.core.Goals as goal
 

@@ -1,6 +1,5 @@
 -- `stream::took` meets its contract by cases.
 use Rattle.reader.specs.Core.{taken_stop, taken_did}
-use borrow.Author.Rules.{rules}
 use Rattle.reader.proofs.stream.took.Goals as goal
 
 pub returns-in-Stop : goal.returns-in-Stop

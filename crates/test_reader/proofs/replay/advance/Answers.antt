@@ -1,5 +1,4 @@
 -- `replay::advance` meets its contract: each field is the definition's.
-use borrow.Author.Rules.{rules}
 use Rattle.test_reader.specs.Ways.{advance_is}
 use Rattle.test_reader.proofs.replay.advance.Goals as goal
 

@@ -1,5 +1,4 @@
 -- `replay::end` meets its contract: the way stops as finish reports.
-use borrow.Author.Rules.{rules}
 use Rattle.test_reader.proofs.replay.end.Goals as goal
 
 pub returns : goal.returns

@@ -4,7 +4,7 @@ use mathlib.Core.Path.{ap}
 use borrow.Author.Tests.{not-true, not-false}
 use borrow.Author.Rules.{rules}
 use Rattle.test_reader.specs.declared.replay.Way.{Way}
-use Rattle.test_reader.specs.Ways.{left_in, Going, going_first, going_on, going_less, going_ended}
+use Rattle.test_reader.specs.Ways.{going_first, going_on, going_less, going_ended}
 use Rattle.test_reader.proofs.replay.go_on.Goals as goal
 
 pub loop-way-init : goal.loop-way-init

@@ -1,10 +1,6 @@
 -- `replay::go_on` meets its contract. The invariant: the way leads to where the definitions' run comes to, and what is lent keeps its length. The
 -- measure is how many turns are left at most.
-use mathlib.Core.Path.{ap}
-use borrow.Author.Tests.{not-true, not-false}
-use borrow.Author.Rules.{rules}
-use Rattle.test_reader.specs.declared.replay.Way.{Way}
-use Rattle.test_reader.specs.Ways.{left_in, Going, going_first, going_on, going_less, going_ended}
+use Rattle.test_reader.specs.Ways.{left_in, Going}
 use Rattle.test_reader.proofs.replay.go_on.Given as goal
 
 abbrev pub invariant-loop-way : goal.invariant-loop-way

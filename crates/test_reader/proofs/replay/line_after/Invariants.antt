@@ -1,10 +1,6 @@
 -- `replay::line_after` meets its contract. The invariant: the place looked at is not before the first one; the measure is what is left.
 use Prim.Native.Nat.{◌-◌, ◌≤◌}
-use mathlib.Core.Path.{refl}
-use mathlib.Core.Logic.{inl, inr}
-use native.Mathlib.Omega.{arith}
 use lib.ListN.{length}
-use borrow.Author.Rules.{rules}
 use Rattle.test_reader.proofs.replay.line_after.Given as goal
 
 abbrev pub invariant-loop-i : goal.invariant-loop-i

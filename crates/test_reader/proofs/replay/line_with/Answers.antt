@@ -1,10 +1,7 @@
 -- `replay::line_with` meets its contract. The invariant: the line looked at is not before the first one; the measure is what is left.
-use Prim.Native.Nat.{◌-◌, ◌≤◌}
 use mathlib.Core.Path.{refl}
 use mathlib.Core.Logic.{inl, inr, ⊎_elim}
 use native.Mathlib.Omega.{arith}
-use lib.ListN.{length}
-use borrow.Author.Rules.{rules}
 use Rattle.test_reader.proofs.replay.line_with.Goals as goal
 
 pub returns-then-s-i : goal.returns-then-s-i

@@ -1,6 +1,5 @@
 -- `replay::part` meets its contract: each test decides the definition's.
 use borrow.Author.Tests.{le-leb, lt-leb}
-use borrow.Author.Rules.{rules}
 use Rattle.test_reader.specs.Lines.{part_of}
 use Rattle.test_reader.proofs.replay.part.Goals as goal
 

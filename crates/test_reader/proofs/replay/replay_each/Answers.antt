@@ -1,9 +1,6 @@
 -- `replay::replay_each` ends. The invariant: no more documents are the same than there were, and no more than bytes were passed; what is lent
 -- keeps its length. The measure is what is left of the text.
-use Prim.Native.Nat.{◌-◌, ◌≤◌}
-use mathlib.Core.Path.{◌≡◌}
 use native.Mathlib.Omega.{arith}
-use lib.ListN.{length}
 use borrow.Author.Rules.{rules}
 use Rattle.test_reader.specs.Lines.{goes_on_lem}
 use Rattle.test_reader.proofs.replay.replay_each.Goals as goal

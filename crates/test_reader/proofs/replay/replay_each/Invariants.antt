@@ -2,10 +2,7 @@
 -- keeps its length. The measure is what is left of the text.
 use Prim.Native.Nat.{◌-◌, ◌≤◌}
 use mathlib.Core.Path.{◌≡◌}
-use native.Mathlib.Omega.{arith}
 use lib.ListN.{length}
-use borrow.Author.Rules.{rules}
-use Rattle.test_reader.specs.Lines.{goes_on_lem}
 use Rattle.test_reader.proofs.replay.replay_each.Given as goal
 
 abbrev pub invariant-loop-at : goal.invariant-loop-at

@@ -1,6 +1,5 @@
 -- `replay::run` meets its contract: start is refused, or the document goes on from it.
 use mathlib.Core.Path.{◌∙◌, refl}
-use borrow.Author.Rules.{rules}
 use Rattle.test_reader.specs.Ways.{run-refused, run_done}
 use Rattle.test_reader.proofs.replay.run.Goals as goal
 

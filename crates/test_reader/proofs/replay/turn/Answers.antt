@@ -1,5 +1,4 @@
 -- `replay::turn` meets its contract, by the answer of its step: an event is done, or refused, or none is left.
-use borrow.Author.Rules.{rules}
 use Rattle.test_reader.specs.Ways.{turn_done, turn-refused, turn_over}
 use Rattle.test_reader.proofs.replay.turn.Goals as goal
 

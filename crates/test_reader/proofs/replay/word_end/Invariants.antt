@@ -1,7 +1,6 @@
 -- `replay::word_end` ends. The invariant says nothing; the measure is what is left.
 use Prim.Native.Nat.{◌-◌}
 use lib.ListN.{length}
-use borrow.Author.Rules.{rules}
 use Rattle.test_reader.proofs.replay.word_end.Given as goal
 
 abbrev pub invariant-loop-i : goal.invariant-loop-i

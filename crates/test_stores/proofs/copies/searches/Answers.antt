@@ -1,5 +1,5 @@
 -- `copies::searches`: each check follows from what `copy` ensures of the call.
-use Rattle.spec.specs.Bytes.{up_to, when◌then◌else◌}
+use Rattle.spec.specs.Bytes.{up_to}
 use Rattle.std.proofs.Common.{eq-eqb}
 use Rattle.test_stores.proofs.copies.searches.Goals as goal
 

@@ -1,9 +1,7 @@
 -- `Chosen::look` meets its contract: a law for each return.
 use mathlib.Core.Path.{sym, ◌∙◌}
 use Rattle.spec.specs.Bytes.{ascii}
-use borrow.Author.Tests.{not-true, not-false}
 use Rattle.iceshaft.specs.Arguments.{look_base, look_file, look_late, look_pyx, look_xmp, look_awaits, look_unknown}
-use borrow.Author.Rules.{rules}
 use Rattle.iceshaft.proofs.arguments.Chosen.look.Goals as goal
 
 pub returns-then-self : goal.returns-then-self

@@ -1,5 +1,4 @@
 -- `Chosen::mode` meets its contract: by what was chosen.
-use borrow.Author.Rules.{rules}
 use Rattle.iceshaft.specs.Arguments.{packets_chosen, base_chosen}
 use Rattle.iceshaft.proofs.arguments.Chosen.mode.Goals as goal
 
