@@ -39,7 +39,7 @@ OTHER_IN = {
 # Plain words of a name, though some definition is named by them alone.
 PLAIN = set("of all is on in at as to by top then next read start before behind after known kept first further front back out own".split())
 # Two names that are never in one file: a field of the Rust's rendering, and a word of section 7 or of document 01.
-APART = {"about_attr", "datatype_attr", "id_attr", "node_id_attr", "resource_attr", "parse_type_attr", "is_name", "object_of", "text_in"}
+APART = {"about_attr", "datatype_attr", "id_attr", "node_id_attr", "resource_attr", "parse_type_attr", "is_name", "object_of", "text_in", "name_size"}
 # Lemmas that had this spelling already, and a definition has it now.
 LEMMAS = {n: n + "_lem" for n in ("all_known", "all_short", "goes_on", "held_with", "in_scope", "left_in", "load_row", "of_length",
                                   "on_value", "one_more", "or_right", "same_kind", "same_bytes", "front_of", "held_by",
