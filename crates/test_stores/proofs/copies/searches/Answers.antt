@@ -1,6 +1,7 @@
 -- `copies::searches`: each check follows from what `copy` ensures of the call.
 use Rattle.spec.specs.Bytes.{up_to}
 use Rattle.std.proofs.Common.{eq-eqb}
+use Rattle.spec.specs.Bytes.{when◌then◌else◌}
 use Rattle.test_stores.proofs.copies.searches.Goals as goal
 
 pub expect-requires : goal.expect-requires
