@@ -51,13 +51,13 @@ def attempt(room, crates, edit):
                 return None, f"the old text stands {text.count(old)} times in {file}"
             with open(path, "w", encoding="utf-8") as f:
                 f.write(text.replace(old, new))
-        done = subprocess.run(["rt", "check", *crates], cwd=room, text=True, timeout=LONGEST,
-                              stdout=subprocess.PIPE, stderr=subprocess.STDOUT)
-        refused = re.search(r"^rt: (\S+) NOT PROVED", done.stdout, re.M)
-        if not refused:
-            return None, "every theorem still holds" if done.returncode == 0 else done.stdout.strip()[-200:]
-        error = re.search(r"^\S*/crates/(\S+: error: .*)$", done.stdout, re.M)
-        return refused.group(1), error.group(1)[:160] if error else "no error is told"
+        for crate in crates:
+            done = subprocess.run(["rt", "check", crate], cwd=room, text=True, timeout=LONGEST,
+                                  stdout=subprocess.PIPE, stderr=subprocess.STDOUT)
+            if done.returncode != 0:
+                error = re.search(r"^(\S+: error: .*)$", done.stdout, re.M)
+                return crate, error.group(1)[:160] if error else done.stdout.strip()[-200:]
+        return None, "every theorem still holds"
     finally:
         for path, text in kept.items():
             with open(path, "w", encoding="utf-8") as f:
@@ -70,7 +70,7 @@ def main():
     crates = [c for c in CRATES if os.path.isdir(os.path.join(ROOT, "crates", c))]
     failed = 0
     with tempfile.TemporaryDirectory() as room:
-        for part in ["crates", "crates.txt", "target"]:
+        for part in ["crates", "crates.txt"]:
             source = os.path.join(ROOT, part)
             if os.path.isdir(source):
                 shutil.copytree(source, os.path.join(room, part), symlinks=True)
