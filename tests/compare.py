@@ -3,7 +3,7 @@
 
 pyx2nt against the Rust on generated documents. The Rust reads a document as XML, pyx2nt the same document as PYX.
 
-  --pyx2nt     the program of this repository (target/bin/pyx2nt once it is proved)
+  --pyx2nt     the program of this repository (crates/pyx2nt/out/pyx2nt once rt run has built it)
   --rust       reads XML from standard input, a start base as its argument; writes rio's triples, on an error a last line "# error: .."
   --generator  a Python file with generate(seed, damage) -> (document, start base or None, kind of damage or None, expected number)
   --converter  a Python file with convert(document, lax) -> PYX
