@@ -26,7 +26,7 @@ use Rattle.rio.specs.Parser.{Result, Err, Ok, Emits, RdfXmlReader, new, parse_st
 use Rattle.rio.specs.Parser as P
 use Rattle.rio.specs.Domain.{InDomain}
 use Rattle.rio.specs.Related.{Related, Both, Same}
-use Rattle.rio.specs.SameAsRust.{NeverCleared, event_same, accepted-same, begins_related, at_end, parse_more, parse_fails}
+use Rattle.rio.proofs.SameAsRust.{NeverCleared, event_same, accepted-same, begins_related, at_end, parse_more, parse_fails}
 use Rattle.reader_contract.specs.declared.State.{State}
 use Rattle.reader_contract.specs.declared.Report.{Report}
 use Rattle.reader_contract.specs.declared.Answer.TheVariants.{Done, Refused}

@@ -16,8 +16,8 @@ use Rattle.spec.specs.Document.{fresh}
 use Rattle.section7.specs.Events.{Content, end, characters, instruction, comment, element, events, Context, inside}
 use Rattle.section7.specs.Grammar.{StartElement, Identifier, Used, property_elt_list, Matches, no_node, no_property, node_element, literal_property_elt, parse_type_literal_property_elt, parse_type_other_property_elt, empty_property_elt_blank, outermost, Accepts, RDF, alone}
 use Rattle.section7.specs.Reading.{run}
-use Rattle.section7.specs.Deriving.{start}
-use Rattle.section7.specs.Deriving as D
+use Rattle.section7.proofs.Deriving.{start}
+use Rattle.section7.proofs.Deriving as D
 
 -- the lines that the reader gives
 unfoldable pub lines : Option Bytes → Content → Answer (List Triple)

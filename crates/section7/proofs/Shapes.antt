@@ -18,10 +18,10 @@ use Rattle.section7.specs.Grammar.{value, property_attribute_ur_is, attrs, node_
 use Rattle.section7.specs.Differences.{parse_type, Place, document, nodes, properties, xml, by_parse_type, place_under, element_uri}
 use Rattle.section7.specs.Differences as D
 use Rattle.section7.specs.Reading.{place_of}
-use Rattle.section7.specs.Productions.{only-parse_type, datatype_parse_type, object-parse_type, blank_parse_type}
-use Rattle.section7.specs.Section7.{inside_resource, inside_collection, inside_default}
-use Rattle.section7.specs.Documents.{uri_same, not_root, inside-rdf, inside-node}
-use Rattle.section7.specs.OtherEvents.{before_some, no_text}
+use Rattle.section7.proofs.Productions.{only-parse_type, datatype_parse_type, object-parse_type, blank_parse_type}
+use Rattle.section7.proofs.Section7.{inside_resource, inside_collection, inside_default}
+use Rattle.section7.proofs.Documents.{uri_same, not_root, inside-rdf, inside-node}
+use Rattle.section7.proofs.OtherEvents.{before_some, no_text}
 
 -- ---- the test
 

@@ -36,8 +36,8 @@ use Rattle.section7.specs.Events.{Context, written, target, language_under, insi
 use Rattle.section7.specs.Grammar.{value, values, is_rdf_id, all_resolved, type_triple, type_triples, Identifier, under, identifier, entered, fragment, iri_of_identifier, StartElement, Used, attrs, node_id}
 use Rattle.section7.specs.Differences.{says, is_free_label, NoDifferenceInTag, OneIriEach}
 use Rattle.section7.specs.Reading.{Gives, Steps, doc, context}
-use Rattle.section7.specs.Giving.{gives-limit, gives_pass, gives-within, Produces}
-use Rattle.section7.specs.Attributes.{Fine, Accepted, AcceptedEvent, no_attributes, says_then, fine_all, fine_meanings, RdfRole, once_among, first_value, is_property, property-events, first_lang, first_base}
+use Rattle.section7.proofs.Giving.{gives-limit, gives_pass, gives-within, Produces}
+use Rattle.section7.proofs.Attributes.{Fine, Accepted, AcceptedEvent, no_attributes, says_then, fine_all, fine_meanings, RdfRole, once_among, first_value, is_property, property-events, first_lang, first_base}
 
 -- ---- the roles
 

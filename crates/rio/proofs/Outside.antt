@@ -19,7 +19,7 @@ use Rattle.spec.specs.RdfXml as X
 use Rattle.rio.specs.Parser.{Ok, RdfXmlReader, new, parse_step, parse_all}
 use Rattle.rio.specs.Parser as P
 use Rattle.rio.specs.Related.{object_of_rust, value_state, above, states, depth, scopes, reader_of}
-use Rattle.rio.specs.SameAsRust.{then_read, read_all}
+use Rattle.rio.proofs.SameAsRust.{then_read, read_all}
 
 -- document 01 refuses the last of these events by this number; the Rust accepts them all, and gives these triples
 abbrev Differs : List Event → Refusal → List Triple → Type 0

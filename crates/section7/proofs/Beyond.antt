@@ -15,9 +15,9 @@ use Rattle.section7.specs.Events.{Content, end, characters, element}
 use Rattle.section7.specs.Grammar.{Used, outermost, Accepts}
 use Rattle.section7.specs.Differences.{document}
 use Rattle.section7.specs.Reading.{run}
-use Rattle.section7.specs.Shapes.{is_shaped, accepted_shaped}
-use Rattle.section7.specs.Shapes as S
-use Rattle.section7.specs.Differing.{lines, names, p_attributes, q_with, only, p, q, type_of_p}
+use Rattle.section7.proofs.Shapes.{is_shaped, accepted_shaped}
+use Rattle.section7.proofs.Shapes as S
+use Rattle.section7.proofs.Differing.{lines, names, p_attributes, q_with, only, p, q, type_of_p}
 
 pub record Beyond (x : Content) (ts : List Triple) : Type 0 where
   pub not_accepted : (u : Used) (us : List Triple) → Accepts none x u us → ⊥

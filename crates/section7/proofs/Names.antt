@@ -13,7 +13,7 @@ use Rattle.spec.proofs.Booleans.{or_cases, or_left, and_left, and_right, no_true
 use Rattle.spec.proofs.Bytes.{same_true}
 use Rattle.section7.specs.Events.{AttributeEvent}
 use Rattle.section7.specs.Grammar.{core_syntax_terms, old_terms, node_element_ur_is, property_element_ur_is, property_attribute_ur_is, literal_attribute, Only, OrProperties, is_space_text}
-use Rattle.section7.specs.Attributes.{is_property, no_attributes}
+use Rattle.section7.proofs.Attributes.{is_property, no_attributes}
 
 -- a list of names inside another
 unfoldable pub within : List Bytes → List Bytes → Bool

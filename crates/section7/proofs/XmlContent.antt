@@ -26,7 +26,7 @@ use Rattle.section7.specs.Events.{Content, end, characters, instruction, comment
 use Rattle.section7.specs.Grammar.{WellFormedTag, XmlContent, Used}
 use Rattle.section7.specs.Differences.{xml_text}
 use Rattle.section7.specs.Reading.{Gives, Steps, Runs, doc}
-use Rattle.section7.specs.Giving.{◌first◌, ◌before◌, no_event, gives-limit, gives_pass, gives-within, instruction-gives}
+use Rattle.section7.proofs.Giving.{◌first◌, ◌before◌, no_event, gives-limit, gives_pass, gives-within, instruction-gives}
 
 -- ---- names as written
 

@@ -12,9 +12,9 @@ use Rattle.section7.specs.Events.{Content, end, characters, element, events, Con
 use Rattle.section7.specs.Grammar.{StartElement, Used, no_node, no_property, node_element, literal_property_elt, outermost, Accepts, alone}
 use Rattle.section7.specs.Differences.{NoDifferenceInTag, NoDifferenceInProperty, NoDifferences}
 use Rattle.section7.specs.Reading.{Runs, doc}
-use Rattle.section7.specs.Documents.{document-reads}
-use Rattle.section7.specs.Deriving.{start}
-use Rattle.section7.specs.Deriving as D
+use Rattle.section7.proofs.Documents.{document-reads}
+use Rattle.section7.proofs.Deriving.{start}
+use Rattle.section7.proofs.Deriving as D
 
 -- ---- the document: <e:P .. xml:lang="en" rdf:about="http://e/p" e:a="v"><e:q xml:lang="">x</e:q></e:P>
 
