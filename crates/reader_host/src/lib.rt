@@ -72,7 +72,8 @@ pub fn iceshaft_start(
     if state.len() != Image::BYTES {
         return 3;
     }
-    if mode > 1 {
+    let unknown = mode > 1;
+    if unknown {
         return 3;
     }
     let before = State::none();
