@@ -1,3 +1,4 @@
+-- Demand 2, the Rust: the theorem that the reader of document 01 does the same, and the way to it.
 -- ---- tools
 pub mod DomainLaws
 pub mod Agreeing

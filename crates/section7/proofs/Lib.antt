@@ -1,3 +1,4 @@
+-- Demand 2, the Recommendation: the theorem that the reader of document 01 gives its triples, and the way to it.
 -- ---- limits, and events one after the other
 pub mod Passing
 pub mod Giving
