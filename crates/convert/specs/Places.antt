@@ -1,11 +1,11 @@
 -- The contracts of the program's functions.
-use Rattle.std.specs.Prelude.{ℕ, ◌+◌, ◌-◌, ◌≤◌, ◌<◌, ◌≡◌, true, false, List, eqb, length, take}
-use Rattle.std.proofs.Math.Option.{Option}
+use Rattle.std.specs.Prelude.{ℕ, ◌+◌, ◌-◌, ◌≤◌, ◌<◌, ◌≡◌, true, false, List, eqb, length, take, Result, Ok, Err}
+use Rattle.std.proofs.Math.Option as option
 use Rattle.spec.specs.Bytes.{Bytes}
-use Rattle.spec.specs.Numbers.{number, refuse}
+use Rattle.spec.specs.Numbers.{refuse}
 use Rattle.spec.specs.declared.Refusal.{Refusal}
 use Rattle.spec.specs.declared.Mode.{Mode}
-use Rattle.spec.specs.declared.Refusal.TheVariants.{Incomplete}
+use Rattle.spec.specs.declared.Refusal.TheVariants.{Incomplete, NotWellFormed}
 use Rattle.spec.specs.Document.{Doc}
 use Rattle.spec.specs.Calls.{may_start}
 use Rattle.copy.specs.Copy.{part}
@@ -13,20 +13,19 @@ use Rattle.state_words.specs.Words.{pick}
 use Rattle.state.specs.declared.Registers.{Registers}
 use Rattle.event.specs.Progress.{Lent, doc_in}
 use Rattle.reader.specs.Asked.{Asks}
-use Rattle.reader_contract.specs.declared.fed.Pause.{Pause}
-use Rattle.reader_contract.specs.declared.fed.Pause.TheVariants.{Full, Stop}
 use Rattle.reader_contract.specs.declared.fed.Fed.{Fed}
 use Rattle.reader_contract.specs.Meaning.{over_in}
+use Rattle.reader_contract.specs.Meets.{number_of}
 use Rattle.streams.specs.declared.Got.{Got}
 use Rattle.streams.specs.declared.Got.TheVariants as got
 use Rattle.streams.specs.declared.Printed.{Printed}
 use Rattle.convert.specs.declared.Place.{Place}
-use Rattle.convert.specs.declared.Next.{Next}
-use Rattle.convert.specs.declared.Next.TheVariants.{On, Over}
 use Rattle.convert.specs.declared.Outcome.{Outcome}
 use Rattle.convert.specs.declared.How.{How}
 use Rattle.convert.specs.declared.How.TheVariants.{Done, Unwritten, Unread, Unstarted}
 use Rattle.convert.specs.Way.{Spot, spot, beginning, start, Leads, Ended, Cut, Unfinished}
+use Rattle.std.specs.Prelude.{Option, None, Some}
+use Rattle.std.proofs.Common.{ControlFlow, Continue, Break}
 
 -- ---- places
 
@@ -57,8 +56,8 @@ abbrev pub with_more : Place → ℕ → ℕ → Place
 with_more p n m = record { registers = p.registers; count = p.count; used = p.used; event = p.event; bytes = p.bytes; from = 0; to = n + m; last = eqb m 0 }
 
 -- here the program ends
-abbrev pub over_at : Place → How → Next
-over_at p how = Over (record { how = how; event = p.event; bytes = p.bytes })
+abbrev pub over_at : Place → How → ControlFlow Outcome Place
+over_at p how = Break (record { how = how; event = p.event; bytes = p.bytes })
 
 -- behind a read: how many bytes it gave, and where the program goes on. One that failed is not the end of the input
 abbrev pub amount : Got → ℕ
@@ -66,9 +65,9 @@ amount (got.Bytes n) = n
 amount got.End = 0
 amount got.Failed = 0
 
-abbrev pub resumed_with : Place → ℕ → Got → Next
-resumed_with p n (got.Bytes m) = On (with_more p n m)
-resumed_with p n got.End = On (with_more p n 0)
+abbrev pub resumed_with : Place → ℕ → Got → ControlFlow Outcome Place
+resumed_with p n (got.Bytes m) = Continue (with_more p n m)
+resumed_with p n got.End = Continue (with_more p n 0)
 resumed_with p n got.Failed = over_at p Unread
 
 -- the bytes at hand, and how many they are
@@ -82,9 +81,9 @@ rest_at p input = part input p.from (size_at p)
 abbrev pub spot_at : Place → Lent → List ℕ → Spot
 spot_at p l input = spot p.event p.bytes p.last (rest_at p input) (doc_in p.registers p.count l)
 
--- the number of the refusal of a document that is over, 0 for none
-abbrev pub finishing : Registers → ℕ
-finishing r = pick (over_in r) 0 6
+-- what a document that is over gets
+abbrev pub finishing : Registers → Result Unit Refusal
+finishing r = pick (over_in r) (Ok tt) (Err NotWellFormed)
 
 -- ---- reading
 
@@ -105,7 +104,7 @@ pub record Readable (p : Place) (input : List ℕ) : Type 0 where
   pub block : size_at p + 65_536 ≤ length input
 
 -- what a read gave, behind the rest
-pub record Reads (p : Place) (input : List ℕ) (n : Next) (input' : List ℕ) : Type 0 where
+pub record Reads (p : Place) (input : List ℕ) (n : ControlFlow Outcome Place) (input' : List ℕ) : Type 0 where
   pub got : Got
   pub next : n ≡ resumed_with p (size_at p) got
   pub fits : size_at p + amount got ≤ length input
@@ -114,31 +113,31 @@ pub record Reads (p : Place) (input : List ℕ) (n : Next) (input' : List ℕ) :
 
 -- ---- what follows where no further event was done
 
-pub record Paused (p : Place) (pause : Pause) (input : List ℕ) : Type 0 where
+pub record Paused (p : Place) (refusal : Option Refusal) (input : List ℕ) : Type 0 where
   pub rest : Within p input
-  pub block : pause ≡ Stop Incomplete → size_at p + 65_536 ≤ length input
+  pub block : refusal ≡ Some Incomplete → size_at p + 65_536 ≤ length input
 
-pub data Follows (p : Place) (input : List ℕ) : Pause → Next → List ℕ → Type 0 where
+pub data Follows (p : Place) (input : List ℕ) : Option Refusal → ControlFlow Outcome Place → List ℕ → Type 0 where
   -- the next events
-  on : Follows p input Full (On p) input
+  on : Follows p input None (Continue p) input
   -- more input
-  more : {n : Next} {input' : List ℕ} → p.last ≡ false → Reads p input n input' → Follows p input (Stop Incomplete) n input'
+  more : {n : ControlFlow Outcome Place} {input' : List ℕ} → p.last ≡ false → Reads p input n input' → Follows p input (Some Incomplete) n input'
   -- the end: of the input, or by a refusal
-  over : p.last ≡ true → Follows p input (Stop Incomplete) (over_at p (Done (finishing p.registers))) input
-  refused : {why : Refusal} → (why ≡ Incomplete → ⊥) → Follows p input (Stop why) (over_at p (Done (number why))) input
+  over : p.last ≡ true → Follows p input (Some Incomplete) (over_at p (Done (finishing p.registers))) input
+  refused : {why : Refusal} → (why ≡ Incomplete → ⊥) → Follows p input (Some why) (over_at p (Done (Err why))) input
 
 -- ---- what follows a print of the lines
 
 -- the events that were done can be counted, with the bytes of their lines that were taken, and what follows is at hand
 pub record Counted (p : Place) (f : Fed) (w : Printed) (input : List ℕ) : Type 0 where
   pub sums : Sums p f w.bytes
-  pub paused : Paused (behind_of p f w.bytes) f.pause input
+  pub paused : Paused (behind_of p f w.bytes) f.refusal input
 
 -- a write that failed is the end; after one that took all the program goes on
-pub record GoesOn (p : Place) (input : List ℕ) (f : Fed) (w : Printed) (n : Next) (input' : List ℕ) : Type 0 where
+pub record GoesOn (p : Place) (input : List ℕ) (f : Fed) (w : Printed) (n : ControlFlow Outcome Place) (input' : List ℕ) : Type 0 where
   pub room : length input' ≡ length input
-  pub cut : w.whole ≡ false → n ≡ Over (record { how = Unwritten; event = p.event; bytes = p.bytes + w.bytes })
-  pub on : w.whole ≡ true → Follows (behind_of p f w.bytes) input f.pause n input'
+  pub cut : w.whole ≡ false → n ≡ Break (record { how = Unwritten; event = p.event; bytes = p.bytes + w.bytes })
+  pub on : w.whole ≡ true → Follows (behind_of p f w.bytes) input f.refusal n input'
 
 -- ---- a turn
 
@@ -172,28 +171,26 @@ pub record Lengths (l : Lent) (input : List ℕ) (l' : Lent) (input' : List ℕ)
 
 -- what the program comes to from somewhere: there it has started
 abbrev pub ComesBy : Spot → How → ℕ → ℕ → Type 0
-ComesBy s (Done n) k b = Ended s n k b
+ComesBy s (Done a) k b = Ended s (number_of a) k b
 ComesBy s Unwritten k b = Cut s k b
 ComesBy s Unread k b = Unfinished s k b
-ComesBy s (Unstarted n) k b = ⊥
+ComesBy s (Unstarted why) k b = ⊥
 
 abbrev pub Comes : Spot → Outcome → Type 0
 Comes s o = ComesBy s o.how o.event o.bytes
 
--- what a document in this mode, with this start base, if there is one, comes to: its start is refused with n, or it goes
+-- what a document in this mode, with this start base, if there is one, comes to: its start is refused, or it goes
 -- its way
-pub record Refuses (base : Option Bytes) (n : ℕ) : Type 0 where
-  pub why : Refusal
-  pub refused : may_start true base ≡ refuse why
-  pub number : n ≡ number why
+abbrev pub Refuses : option.Option Bytes → Refusal → Type 0
+Refuses base why = may_start true base ≡ refuse why
 
-abbrev pub ConvertsBy : Mode → Option Bytes → How → ℕ → ℕ → Type 0
-ConvertsBy mode base (Done n) k b = Ended (start mode base) n k b
+abbrev pub ConvertsBy : Mode → option.Option Bytes → How → ℕ → ℕ → Type 0
+ConvertsBy mode base (Done a) k b = Ended (start mode base) (number_of a) k b
 ConvertsBy mode base Unwritten k b = Cut (start mode base) k b
 ConvertsBy mode base Unread k b = Unfinished (start mode base) k b
-ConvertsBy mode base (Unstarted n) k b = Refuses base n
+ConvertsBy mode base (Unstarted why) k b = Refuses base why
 
-abbrev pub Converts : Mode → Option Bytes → Outcome → Type 0
+abbrev pub Converts : Mode → option.Option Bytes → Outcome → Type 0
 Converts mode base o = ConvertsBy mode base o.how o.event o.bytes
 
 -- the bytes of a last line can be counted behind its lines
@@ -201,15 +198,15 @@ abbrev pub Few : Outcome → Type 0
 Few o = o.bytes < 9_223_372_036_854_775_808
 
 -- a turn leads to a next place, behind no more events than the input has bytes and no more bytes than the output, or to the end
-abbrev pub Cases : Place → Lent → List ℕ → Next → Lent → List ℕ → Type 0
-Cases p l input (On p') l' input' =
+abbrev pub Cases : Place → Lent → List ℕ → ControlFlow Outcome Place → Lent → List ℕ → Type 0
+Cases p l input (Continue p') l' input' =
     Asks p'.registers p'.count p'.used l'
     × Within p' input'
     × (p'.event ≤ p.event + 131_072)
     × (p'.bytes ≤ p.bytes + 131_072)
     × Leads (spot_at p l input) (spot_at p' l' input')
-Cases p l input (Over o) l' input' = Comes (spot_at p l input) o × (o.bytes ≤ p.bytes + 131_072)
+Cases p l input (Break o) l' input' = Comes (spot_at p l input) o × (o.bytes ≤ p.bytes + 131_072)
 
-pub record Turns (p : Place) (l : Lent) (input : List ℕ) (n : Next) (l' : Lent) (input' : List ℕ) : Type 0 where
+pub record Turns (p : Place) (l : Lent) (input : List ℕ) (n : ControlFlow Outcome Place) (l' : Lent) (input' : List ℕ) : Type 0 where
   pub lengths : Lengths l input l' input'
   pub cases : Cases p l input n l' input'

@@ -1,4 +1,4 @@
--- The loop over the turns: the program is on its way from the start, and has turns left.
+-- The loop over the turns: the program is on its way from the start.
 use Rattle.std.specs.Prelude.{ℕ, ◌+◌, ◌*◌, ◌-◌, ◌≤◌, ◌<◌, ◌≡◌, refl, Bool, true, List, ℤ, length, replicate}
 use Rattle.std.proofs.Common.{◌∙◌, arith}
 use Rattle.std.proofs.Math.Option.{Option, none}
@@ -16,28 +16,26 @@ use Rattle.state_ids.specs.Ids.{end_to_end, ValidIds}
 use Rattle.state.specs.declared.Registers.{Registers}
 use Rattle.event.specs.Progress.{Lent, lent, doc_in}
 use Rattle.reader.specs.Asked.{Asks}
-use Rattle.reader.specs.declared.Begun.{Begun}
-use Rattle.reader.specs.declared.Begun.TheVariants as begun
 use Rattle.reader.specs.Starting.{Opened, BeginsBy, Begins, opened_means, opened_valid}
 use Rattle.reader_contract.specs.Meaning.{base_of}
 use Rattle.reader_contract.specs.Meets.{lengths_right}
 use Rattle.convert.specs.declared.Place.{Place}
-use Rattle.convert.specs.declared.Next.{Next}
-use Rattle.convert.specs.declared.Next.TheVariants.{On, Over}
 use Rattle.convert.specs.declared.Outcome.{Outcome}
 use Rattle.convert.specs.declared.How.{How}
 use Rattle.convert.specs.declared.How.TheVariants.{Done, Unwritten, Unread, Unstarted}
 use Rattle.convert.specs.Way.{Spot, beginning, start, Leads, leads_here, leads_then, leads_end, leads_cut, leads_unfinished}
 use Rattle.convert.specs.Places.{first_place, spot_at, Within, Ready, Stands, Lengths, ComesBy, Comes, ConvertsBy, Converts, Few, Cases, Turns}
+use Rattle.std.specs.Prelude.{Result, Ok, Err}
+use Rattle.std.proofs.Common.{ControlFlow, Continue, Break}
 
--- on its way from a document d; the turns that are left bound the events and bytes to come
+-- on its way from a document d; so many turns bound the events and bytes so far
 pub record Running (d : Doc) (p : Place) (turns : ℕ) (l : Lent) (input : List ℕ) : Type 0 where
   pub asks : Asks p.registers p.count p.used l
   pub rest : Within p input
   pub size : length input ≡ 131_072
   pub room : length l.out ≡ 131_072
-  pub counted : p.event + turns * 131_072 ≤ 2_305_843_009_213_693_953
-  pub measured : p.bytes + turns * 131_072 ≤ 2_305_843_009_213_693_952
+  pub counted : p.event ≤ turns * 131_072 + 1
+  pub measured : p.bytes ≤ turns * 131_072
   pub leads : Leads (beginning d) (spot_at p l input)
 
 -- ---- lengths
@@ -59,7 +57,7 @@ lengths_then p q =
 
 -- ---- the first turn
 
-pub running_begins : {r : Registers} {p : Place} {l : Lent} {input : List ℕ} → p ≡ first_place r → Ready r l input → Running (doc_in p.registers 0 l) p 17_592_186_044_416 l input
+pub running_begins : {r : Registers} {p : Place} {l : Lent} {input : List ℕ} → p ≡ first_place r → Ready r l input → Running (doc_in p.registers 0 l) p 0 l input
 unfolding part
 running_begins e m =
     rw e
@@ -92,7 +90,7 @@ pub end_event : (d : Doc) (o : Outcome) → Comes (beginning d) o → 0 < o.even
 end_event d o h = some_event d o.how o.event o.bytes h
 
 module _ {d : Doc} {p : Place} {turns : ℕ} {l : Lent} {input : List ℕ} (r : Running d p turns l input) where
-  pub running_stands : 0 < turns → Stands p l input
+  pub running_stands : turns < 17_592_186_044_416 → Stands p l input
   running_stands h =
       record {
         origin = d;
@@ -105,10 +103,10 @@ module _ {d : Doc} {p : Place} {turns : ℕ} {l : Lent} {input : List ℕ} (r : 
         bytes = omega (arith, r.measured);
       }
 
-  module _ {n : Next} {l' : Lent} {input' : List ℕ} (t : Turns p l input n l' input') where
-    pub running_on : {p' : Place} → 0 < turns → n ≡ On p' → Running d p' (turns - 1) l' input'
-    running_on {p'} h e =
-        let x : Cases p l input (On p') l' input' = rw e at t.cases in
+  module _ {n : ControlFlow Outcome Place} {l' : Lent} {input' : List ℕ} (t : Turns p l input n l' input') where
+    pub running_on : {p' : Place} → n ≡ Continue p' → Running d p' (turns + 1) l' input'
+    running_on {p'} e =
+        let x : Cases p l input (Continue p') l' input' = rw e at t.cases in
         record {
           asks = x.0;
           rest = x.1;
@@ -120,14 +118,14 @@ module _ {d : Doc} {p : Place} {turns : ℕ} {l : Lent} {input : List ℕ} (r : 
         }
 
     -- what it comes to is the end of a way from the start
-    pub running_ends : {o : Outcome} → 0 < turns → n ≡ Over o → Comes (beginning d) o × Few o
+    pub running_ends : {o : Outcome} → turns < 17_592_186_044_416 → n ≡ Break o → Comes (beginning d) o × Few o
     running_ends {o} h e =
-        let x : Cases p l input (Over o) l' input' = rw e at t.cases in
+        let x : Cases p l input (Break o) l' input' = rw e at t.cases in
         (leads_comes o.how o.event o.bytes r.leads x.0, omega (arith, r.measured, x.1))
 
   -- where no turn is left, all lines so far are taken
-  pub running_spent : Comes (beginning d) (record { how = Unread; event = p.event; bytes = p.bytes }) × Few (record { how = Unread; event = p.event; bytes = p.bytes })
-  running_spent = (record { whole = spot_at p l input; way = r.leads; event = refl; bytes = refl }, omega (arith, r.measured))
+  pub running_spent : turns ≤ 17_592_186_044_416 → Comes (beginning d) (record { how = Unread; event = p.event; bytes = p.bytes }) × Few (record { how = Unread; event = p.event; bytes = p.bytes })
+  running_spent h = (record { whole = spot_at p l input; way = r.leads; event = refl; bytes = refl }, omega (arith, r.measured))
 
 -- ---- a document
 
@@ -139,8 +137,8 @@ first_ids p q s = record { places = p; sizes = q; whole = s; few = omega arith; 
 abbrev pub own_with : List ℕ → Lent
 own_with w = lent (replicate TABLE 0) (replicate 384 0) (replicate 192 0) w (replicate 512 0) (replicate 512 0) (replicate 32_768 0) (replicate 131_072 0)
 
-module _ {mode : Mode} {based : Bool} {base : Bytes} {b : Begun} {r : Registers} {w : List ℕ}
-    (h : Begins mode based base (replicate 65_536 0) (replicate 32_768 0) b w) (q : b ≡ begun.On r) where
+module _ {mode : Mode} {based : Bool} {base : Bytes} {b : Result Registers Refusal} {r : Registers} {w : List ℕ}
+    (h : Begins mode based base (replicate 65_536 0) (replicate 32_768 0) b w) (q : b ≡ Ok r) where
   opened : Opened mode based base (replicate 65_536 0) (replicate 32_768 0) r w
   opened = rw q at h.cases
 
@@ -169,15 +167,15 @@ module _ {mode : Mode} {based : Bool} {base : Bytes} {b : Begun} {r : Registers}
       comes_converts mode base (Unstarted n) k b h = absurd h
 
 -- its start was refused
-pub document-refused : {mode : Mode} {based : Bool} {base : Bytes} {b : Begun} {w : List ℕ} {why : Refusal} {n : ℕ}
-    → Begins mode based base (replicate 65_536 0) (replicate 32_768 0) b w → b ≡ begun.Refused why
-    → n ≡ number why → Converts mode (base_of based base) (record { how = Unstarted n; event = 0; bytes = 0 })
+pub document-refused : {mode : Mode} {based : Bool} {base : Bytes} {b : Result Registers Refusal} {w : List ℕ} {why : Refusal}
+    → Begins mode based base (replicate 65_536 0) (replicate 32_768 0) b w → b ≡ Err why
+    → Converts mode (base_of based base) (record { how = Unstarted why; event = 0; bytes = 0 })
 unfolding work_store_bytes id_store_bytes
-document-refused {mode} {based} {base} {w = w} {why = why} h q e =
-    let c : BeginsBy mode based base (replicate 65_536 0) (replicate 32_768 0) (begun.Refused why) w
+document-refused {mode} {based} {base} {w = w} {why = why} h q =
+    let c : BeginsBy mode based base (replicate 65_536 0) (replicate 32_768 0) (Err why) w
     = rw q at h.cases in
     let same : lengths_right (replicate 65_536 0) (replicate 32_768 0) ≡ true = refl in
-    record { why = why; refused = rw same at c.0; number = e }
+    rw same at c.0
 
 -- without a base none is
 none_refused : {A : Type 0} {why : Refusal} → may_start true none ≡ refuse why → A
@@ -191,4 +189,4 @@ without-base mode o h = go o.how o.event o.bytes h
     go (Done n) k b h = h
     go Unwritten k b h = h
     go Unread k b h = h
-    go (Unstarted n) k b h = none_refused h.refused
+    go (Unstarted n) k b h = none_refused h

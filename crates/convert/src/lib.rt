@@ -2,7 +2,8 @@
 // read that fails. How it ended is handed back, and each program tells it in its own way.
 #![tactic(auto)]
 
-ghost use Rattle.std.specs.Prelude.{◌+◌, ◌≤◌, ◌<◌, ◌≡◌, length};
+ghost use Rattle.std.specs.Prelude.{◌+◌, ◌≤◌, ◌<◌, ◌≡◌, Some, length};
+ghost use Rattle.spec.specs.declared.Refusal.TheVariants.{Incomplete};
 ghost use Rattle.event.specs.Progress.{lent, doc_in};
 ghost use Rattle.reader.specs.Asked.{Roomy, Areas};
 ghost use Rattle.reader_contract.specs.Meaning.{base_of};
@@ -10,14 +11,14 @@ ghost use Rattle.convert.specs.Way.{beginning};
 ghost use Rattle.convert.specs.Places.{first_place, Sums, behind_of, over_at, with_more, amount, resumed_with, finishing, Moves, Readable, Reads, Paused, Follows};
 ghost use Rattle.convert.specs.Places.{Counted, GoesOn, Ready, Stands, Turns, Comes, Few, Converts};
 
-use reader::Begun;
 use reader::stream::Taken;
-use reader_contract::fed::{Fed, Pause};
+use reader_contract::fed::Fed;
 use spec::{Mode, Refusal};
 use state::Registers;
 use state_ids::IdTable;
 use state_words::{Frame, Row};
 use std::io::{Read, Write};
+use std::ops::ControlFlow;
 use streams::{Got, Printed, Stream};
 
 // Where the program stands: what is behind the events so far, the number of the next one, how many bytes of lines the
@@ -34,13 +35,6 @@ struct Place {
     last: bool,
 }
 
-// Where the program goes on; or it is over.
-#[derive(Clone, Copy)]
-enum Next {
-    On(Place),
-    Over(Outcome),
-}
-
 // How a document ends; and the event, the next behind those that are whole, and how many bytes of lines the writer
 // took.
 #[derive(Clone, Copy)]
@@ -50,14 +44,14 @@ pub struct Outcome {
     pub bytes: usize,
 }
 
-// With the document, at the number of its refusal, 0 for none; at a write that failed; at a read that failed; or before any
-// event, at the number by which its start was refused.
+// With the document, whole or refused; at a write that failed; at a read that failed; or before any event, as its start was
+// refused.
 #[derive(Clone, Copy)]
 pub enum How {
-    Done(u8),
+    Done(Result<(), Refusal>),
     Unwritten,
     Unread,
-    Unstarted(u8),
+    Unstarted(Refusal),
 }
 
 impl Place {
@@ -122,22 +116,22 @@ impl Place {
     }
 
     // What follows a read. One that failed is not the end of the input.
-    fn resumed(self, rest: usize, got: Got) -> Next
+    fn resumed(self, rest: usize, got: Got) -> ControlFlow<Outcome, Place>
         requires { rest + amount got < 18_446_744_073_709_551_616 }
         ensures { result ≡ resumed_with self rest got }
     {
         match got {
-            Got::Bytes(n) => Next::On(self.with(rest, n)),
-            Got::End => Next::On(self.with(rest, 0)),
+            Got::Bytes(n) => ControlFlow::Continue(self.with(rest, n)),
+            Got::End => ControlFlow::Continue(self.with(rest, 0)),
             Got::Failed => self.over(How::Unread),
         }
     }
 
     // Here the program ends.
-    fn over(self, how: How) -> Next
+    fn over(self, how: How) -> ControlFlow<Outcome, Place>
         ensures { result ≡ over_at self how }
     {
-        Next::Over(Outcome {
+        ControlFlow::Break(Outcome {
             how,
             event: self.event,
             bytes: self.bytes,
@@ -169,12 +163,12 @@ pub fn document<R: Read, W: Write>(
     let mut area = [0u8; Taken::AREA];
     let begun = reader::begin(mode, based, base, &mut work, &ids);
     match begun {
-        Begun::Refused(why) => Outcome {
-            how: How::Unstarted(reader_contract::number_of(why)),
+        Err(why) => Outcome {
+            how: How::Unstarted(why),
             event: 0,
             bytes: 0,
         },
-        Begun::On(registers) => run(
+        Ok(registers) => run(
             source,
             target,
             registers,
@@ -220,16 +214,14 @@ fn run<R: Read, W: Write>(
         × Few result }
 {
     let mut place = Place::first(registers);
-    let mut turns = Place::TURNS;
-    while turns > 0 {
-        turns -= 1;
+    for turns in 0..Place::TURNS {
         let next = turn(
             source, target, place, frames, bindings, inners, work, places, sizes, ids, input,
             output, scratch, spans, area,
         );
         match next {
-            Next::On(p) => place = p,
-            Next::Over(outcome) => return outcome,
+            ControlFlow::Continue(p) => place = p,
+            ControlFlow::Break(outcome) => return outcome,
         }
     }
     // No run takes so many turns; here it would be as if no more could be read.
@@ -257,7 +249,7 @@ fn turn<R: Read, W: Write>(
     scratch: &mut [u8],
     spans: &mut [u32],
     area: &mut [u8],
-) -> Next
+) -> ControlFlow<Outcome, Place>
     requires { Stands place (lent frames.old bindings.old inners.old work.old places.old sizes.old ids.old output.old) input.old × Roomy scratch.old spans.old area.old }
     ensures { Turns place
         (lent frames.old bindings.old inners.old work.old places.old sizes.old ids.old output.old)
@@ -299,55 +291,72 @@ fn go_on<R: Read>(
     fed: Fed,
     printed: Printed,
     input: &mut [u8],
-) -> Next
+) -> ControlFlow<Outcome, Place>
     requires { Counted place fed printed input.old }
     ensures { GoesOn place input.old fed printed result input.new }
 {
     let whole = printed.is_whole();
     let taken = printed.taken();
     if !whole {
-        return Next::Over(Outcome {
+        return ControlFlow::Break(Outcome {
             how: How::Unwritten,
             event: place.event,
             bytes: place.bytes + taken,
         });
     }
-    let pause = fed.pause;
-    follow(source, place.behind(fed, taken), pause, input)
+    follow(source, place.behind(fed, taken), fed.refusal, input)
 }
 
 // By why no further event was done: the next ones, more input, or the end.
-fn follow<R: Read>(source: &mut Stream<R>, place: Place, pause: Pause, input: &mut [u8]) -> Next
-    requires { Paused place pause input.old }
-    ensures { Follows place input.old pause result input.new }
+fn follow<R: Read>(
+    source: &mut Stream<R>,
+    place: Place,
+    refusal: Option<Refusal>,
+    input: &mut [u8],
+) -> ControlFlow<Outcome, Place>
+    requires { Paused place refusal input.old }
+    ensures { Follows place input.old refusal result input.new }
 {
-    match pause {
-        Pause::Full => Next::On(place),
-        Pause::Stop(why) => {
-            let number = reader_contract::number_of(why);
-            if number != 1 {
-                return place.over(How::Done(number));
-            }
-            if place.last {
-                return place.over(How::Done(finish(place.registers)));
-            }
-            read(source, place, input)
-        }
+    match refusal {
+        None => ControlFlow::Continue(place),
+        Some(why) => match why {
+            Refusal::Incomplete => end_or_read(source, place, input),
+            _ => place.over(How::Done(Err(why))),
+        },
     }
+}
+
+// No complete event is left: where no more input follows the document is over, else more of it is read.
+fn end_or_read<R: Read>(
+    source: &mut Stream<R>,
+    place: Place,
+    input: &mut [u8],
+) -> ControlFlow<Outcome, Place>
+    requires { Readable place input.old }
+    ensures { Follows place input.old (Some Incomplete) result input.new }
+{
+    if place.last {
+        return place.over(How::Done(finish(place.registers)));
+    }
+    read(source, place, input)
 }
 
 // What a document that is over gets: 6 where an element is open or there was no root.
-fn finish(registers: Registers) -> u8
+fn finish(registers: Registers) -> Result<(), Refusal>
     ensures { result ≡ finishing registers }
 {
     if reader_contract::may_finish(registers) {
-        return 0;
+        return Ok(());
     }
-    reader_contract::number_of(Refusal::NotWellFormed)
+    Err(Refusal::NotWellFormed)
 }
 
 // A block behind the rest.
-fn read<R: Read>(source: &mut Stream<R>, place: Place, input: &mut [u8]) -> Next
+fn read<R: Read>(
+    source: &mut Stream<R>,
+    place: Place,
+    input: &mut [u8],
+) -> ControlFlow<Outcome, Place>
     requires { Readable place input.old }
     ensures { Reads place input.old result input.new }
 {
@@ -361,11 +370,6 @@ fn to_front(buffer: &mut [u8], from: usize, to: usize) -> usize
     requires { (from ≤ to) × (to ≤ length buffer.old) }
     ensures { Moves buffer.old from to buffer.new result }
 {
-    let n = to - from;
-    let mut i = 0;
-    while i < n {
-        buffer[i] = buffer[from + i];
-        i += 1;
-    }
-    n
+    buffer.copy_within(from..to, 0);
+    to - from
 }

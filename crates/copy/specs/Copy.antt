@@ -1,14 +1,14 @@
 -- Bytes stored into a slice at a place: what stands there then, what stays, and stores in a row.
 use Rattle.std.specs.Prelude.{ℕ, ◌+◌, ◌-◌, ◌<◌, ◌≤◌, ◌≡◌, refl, Bool, true, false, List, [], ◌∷◌, ◌++◌, ◌⊎◌, leb, take, set}
 use Rattle.std.proofs.Math.Path.{sym, ap}
-use Rattle.std.proofs.Common.{◌∙◌, append_assoc, inl, inr, ⊎_elim, add-one, add_assoc, add-zero, arith, drop_of_length-le, length-append, length-take, length-set, take-append-drop, take_all, drop_at, take-add, length-take-le, get_or-take, get_or-drop, ext_get_or, le-leb, leb-true, leb-false}
+use Rattle.std.proofs.Common.{◌∙◌, append_assoc, inl, inr, ⊎_elim, add-one, add_assoc, add-zero, arith, drop_of_length-le, length-append, length-take, take-append-drop, take_all, drop_at, take-add, length-take-le, get_or-take, get_or-drop, ext_get_or, le-leb, leb-true, leb-false}
 use Rattle.std.proofs.Math.ListN.{length, get_or, drop, length-drop, get_or-append}
-use Rattle.std.proofs.Math.Seq.{paste, paste-zero, paste-suc, take-length, take-nil, take_at, take-take, drop-drop, get_or-append-add, drop-append-add}
+use Rattle.std.proofs.Math.Seq.{take-length, take-nil, take_at, take-take, drop-drop, get_or-append-add, drop-append-add}
 use Rattle.std.proofs.lemmas.List.{drop-append-le, set_split}
 use Rattle.std.proofs.lemmas.Bool.{lt-leb}
 
 -- `d` with `s` in place of what stood from `at` on
-unfoldable pub stored_at : List ℕ → ℕ → List ℕ → List ℕ
+unfoldable pub stored_at : {A : Type 0} → List A → ℕ → List A → List A
 stored_at d at s = take at d ++ (s ++ drop (at + length s) d)
 
 -- the `n` elements from `at` on
@@ -16,7 +16,7 @@ unfoldable pub part : List ℕ → ℕ → ℕ → List ℕ
 part w at n = take n (drop at w)
 
 -- What `put` does to `d`: `e` is behind it, `r` its answer.
-pub record Put (d : List ℕ) (at : ℕ) (s e : List ℕ) (r : Bool) : Type 0 where
+pub record Put {A : Type 0} (d : List A) (at : ℕ) (s e : List A) (r : Bool) : Type 0 where
   pub answer : r ≡ leb (at + length s) (length d)
   pub wrote : at + length s ≤ length d → e ≡ stored_at d at s
   pub kept : length d < at + length s → e ≡ d
@@ -38,53 +38,36 @@ pub part_short : (w : List ℕ) (at n : ℕ) → length (part w at n) ≤ length
 unfolding part
 part_short w at n = simp (length-take, length-drop) (omega arith)
 
-pub length_stored : (d : List ℕ) (at : ℕ) (s : List ℕ) → at + length s ≤ length d → length (stored_at d at s) ≡ length d
+pub length_stored : {A : Type 0} (d : List A) (at : ℕ) (s : List A) → at + length s ≤ length d → length (stored_at d at s) ≡ length d
 unfolding stored_at
 length_stored d at s h = simp (length-append, length-take, length-drop) (omega arith)
 
-opened : (d : List ℕ) (at : ℕ) (s : List ℕ) → stored_at d at s ≡ take at d ++ (s ++ drop (at + length s) d)
+opened : {A : Type 0} (d : List A) (at : ℕ) (s : List A) → stored_at d at s ≡ take at d ++ (s ++ drop (at + length s) d)
 unfolding stored_at
 opened d at s = refl
 
--- ---- the loop of `put`: `i` elements are stored
-
-pub record Copied (d : List ℕ) (at : ℕ) (s e : List ℕ) (i : ℕ) : Type 0 where
-  pub upto : i ≤ length s
-  pub fits : at + length s ≤ length d
-  pub same : length e ≡ length d
-  pub eq : e ≡ paste d at s i
-
-pub copied-begins : {d s : List ℕ} {at : ℕ} → at + length s ≤ length d → Copied d at s d 0
-copied-begins {d} {s} {at} h = record { upto = omega arith; fits = h; same = refl; eq = paste-zero d at s }
-
-pub copied_more : {d s e : List ℕ} {at i : ℕ} → Copied d at s e i → i < length s → Copied d at s (set e (at + i) (get_or s i 0)) (i + 1)
-copied_more {d} {s} {e} {at} {i} h b =
-    record {
-      upto = omega arith;
-      fits = h.fits;
-      same = length-set e (at + i) (get_or s i 0) ∙ h.same;
-      eq = rw (h.eq, add-one) (paste-suc d at s i 0 (omega arith) b);
-    }
-
-copied_all : {d s e : List ℕ} {at i : ℕ} → Copied d at s e i → length s ≤ i → e ≡ stored_at d at s
-unfolding stored_at
-copied_all {d} {s} {e} {at} {i} h b =
-    let q : i ≡ length s = omega arith in
-    h.eq ∙ rw (q, take-length s, append_assoc)
-
-pub copied_done : {d s e : List ℕ} {at i : ℕ} → Copied d at s e i → length s ≤ i → Put d at s e true
-copied_done {d} {s} {e} {at} {i} h b =
-    record {
-      answer = sym (le-leb (at + length s) (length d) h.fits);
-      wrote = λ _. copied_all h b;
-      kept = λ l. absurd (omega arith);
-      same = h.same;
-    }
+-- ---- `put`
 
 -- no room, and nothing done
-pub put_none : {d s : List ℕ} {at : ℕ} → length d < at + length s → Put d at s d false
-put_none {d} {s} {at} h =
+pub put_none : {A : Type 0} {d s : List A} {at : ℕ} → length d < at + length s → Put d at s d false
+put_none {A} {d} {s} {at} h =
     record { answer = sym (lt-leb (at + length s) (length d) h); wrote = λ l. absurd (omega arith); kept = λ _. refl; same = refl }
+
+-- `&mut w[at..to]`, back from a call that left `y` there: `k` is its length
+pub lent_back : {A : Type 0} (w : List A) (at k : ℕ) (y : List A) → length y ≡ k → take at w ++ (y ++ drop k (drop at w)) ≡ stored_at w at y
+unfolding stored_at
+lent_back w at k y e = rw (← e, drop-drop (length y) at w)
+
+-- all of `s` stored in a part that was lent
+pub put_all : {A : Type 0} {d s y : List A} {at k : ℕ} → at + length s ≤ length d → y ≡ s → length s ≡ k → Put d at s (take at d ++ (y ++ drop k (drop at d))) true
+put_all {A} {d} {s} {y} {at} {k} h q l =
+    let e : take at d ++ (y ++ drop k (drop at d)) ≡ stored_at d at s = rw q (lent_back d at k s l) in
+    record {
+      answer = sym (le-leb (at + length s) (length d) h);
+      wrote = λ _. e;
+      kept = λ b. absurd (omega arith);
+      same = ap length e ∙ length_stored d at s h;
+    }
 
 -- ---- what a caller learns from the answer
 
@@ -198,11 +181,6 @@ module _ (s : List ℕ) (at n : ℕ) where
   pub piece_end : length s - at < n → take (length s - at) (drop at s) ≡ part s at n
   unfolding part
   piece_end h = rest_of s at ∙ sym (take_all n (drop at s) (rw length-drop (omega arith)))
-
--- `&mut w[at..to]`, back from a call that left `y` there: `k` is its length
-pub lent_back : (w : List ℕ) (at k : ℕ) (y : List ℕ) → length y ≡ k → take at w ++ (y ++ drop k (drop at w)) ≡ stored_at w at y
-unfolding stored_at
-lent_back w at k y e = rw (← e, drop-drop (length y) at w)
 
 -- a store into a part that was lent, seen from the whole
 pub stored_within : (d : List ℕ) (at n k : ℕ) (s : List ℕ) → at + n ≤ length d → k + length s ≤ n

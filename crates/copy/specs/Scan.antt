@@ -1,8 +1,8 @@
 -- The loops that read: what a test of a whole text says from the position that a loop has come to.
-use Rattle.std.specs.Prelude.{◌≡◌, refl, Bool, true, false, ◌||◌, List, ℕ, suc, ◌+◌, ◌<◌, ◌≤◌, eqb, length, take, drop, get_or}
+use Rattle.std.specs.Prelude.{◌≡◌, refl, Bool, true, false, ◌||◌, List, [], ◌∷◌, fold, ℕ, suc, ◌+◌, ◌<◌, ◌≤◌, eqb, length, take, drop, get_or}
 use Rattle.std.proofs.Common.{sym, ap, ◌∙◌, arith, add-one, eq-eqb, ne_eqb, length-take, length-drop, take-append-drop, drop_of_length-le, drop-cons, drop-drop}
-use Rattle.spec.specs.Bytes.{when◌then◌else◌, same, begins, up_to, among, every}
-use Rattle.copy.specs.Texts.{same-lengths, begins_short, up_to_past}
+use Rattle.spec.specs.Bytes.{when◌then◌else◌, same, up_to, among, every}
+use Rattle.copy.specs.Texts.{same-lengths, up_to_past}
 
 -- ---- laws of `||`
 
@@ -49,7 +49,17 @@ sought_block b n {s} {i} h l e =
     ap (λ (t : List ℕ). length (up_to (λ c. eqb c b) t)) (sym (take-append-drop n (drop i s))) ∙ up_to_past b (take n (drop i s)) (drop n (drop i s)) e in
     record { upto = l; rest = rw (← drop-drop n i s) (omega arith) }
 
--- ---- a byte looked for with no branch: `found` is the answer for the first `j` bytes
+-- ---- a byte looked for with no branch
+
+pub among_fold : (b : ℕ) (s : List ℕ) → fold (λ found x. found || eqb x b) false s ≡ among s b
+unfolding among
+among_fold b s = go false s
+  where
+    go : (found : Bool) (s : List ℕ) → fold (λ found x. found || eqb x b) found s ≡ (found || among s b)
+    go found [] = sym (or-false found)
+    go found (x ∷ s) = go (found || eqb x b) s ∙ or_assoc found (eqb x b) (among s b)
+
+-- the same as a loop: `found` is the answer for the first `j` bytes
 
 pub record Gathered (b : ℕ) (s : List ℕ) (j : ℕ) (found : Bool) : Type 0 where
   pub upto : j ≤ length s
@@ -116,32 +126,3 @@ alike_more {a} {b} {i} h l e =
 pub alike_done : {a b : List ℕ} {i : ℕ} → Alike a b i → length a ≤ i → true ≡ same a b
 unfolding same
 alike_done {a} {b} {i} h l = sym (h.rest ∙ rw (drop_of_length-le a l, drop_of_length-le b {i = i} (omega arith)))
-
--- ---- a comparison with a beginning: its first `i` bytes are there
-
-pub record Begun (p s : List ℕ) (i : ℕ) : Type 0 where
-  pub upto : i ≤ length p
-  pub fits : length p ≤ length s
-  pub rest : begins p s ≡ begins (drop i p) (drop i s)
-
-pub begun_never : (p s : List ℕ) → length s < length p → false ≡ begins p s
-begun_never p s h = sym (begins_short p s h)
-
-pub begun-begins : {p s : List ℕ} → length p ≤ length s → Begun p s 0
-begun-begins h = record { upto = omega arith; fits = h; rest = refl }
-
-pub begun_stop : {p s : List ℕ} {i : ℕ} → Begun p s i → i < length p → (get_or s i 0 ≡ get_or p i 0 → ⊥) → false ≡ begins p s
-unfolding begins
-begun_stop {p} {s} {i} h l e =
-    let m : i < length s = omega arith in
-    sym (h.rest ∙ rw (drop-cons p i 0 l, drop-cons s i 0 m, ne_eqb _ _ (λ (q : get_or p i 0 ≡ get_or s i 0). e (sym q))))
-
-pub begun_more : {p s : List ℕ} {i : ℕ} → Begun p s i → i < length p → get_or s i 0 ≡ get_or p i 0 → Begun p s (i + 1)
-unfolding begins
-begun_more {p} {s} {i} h l e =
-    let m : i < length s = omega arith in
-    record { upto = omega arith; fits = h.fits; rest = h.rest ∙ rw (drop-cons p i 0 l, drop-cons s i 0 m, eq-eqb _ _ (sym e), add-one) }
-
-pub begun_done : {p s : List ℕ} {i : ℕ} → Begun p s i → length p ≤ i → true ≡ begins p s
-unfolding begins
-begun_done {p} {s} {i} h l = sym (h.rest ∙ rw (drop_of_length-le p l))

@@ -1,4 +1,6 @@
 -- Laws of the texts of `spec`: when two are the same, what one begins with, and where it is cut.
+use Rattle.std.specs.Cmp.Lexicographic.{pointwise}
+use Rattle.std.specs.List.{starts_with}
 use Rattle.std.specs.Prelude.{◌≡◌, Bool, ◌||◌, eqb, get_or}
 use Rattle.std.proofs.Math.Path.{refl, ap}
 use Rattle.std.proofs.Common.{sym, eq-eqb, eqb-true}
@@ -8,9 +10,24 @@ use mathlib.Core.List.{[], ◌∷◌, ◌++◌}
 use Prim.Native.Nat.{ℕ, suc, ◌+◌, ◌<◌, ◌≤◌}
 use native.Mathlib.Omega.{arith}
 use Rattle.std.proofs.Math.ListN.{length, take, drop}
-use Rattle.spec.specs.Bytes.{Bytes, when◌then◌else◌, is_empty, begins, after, up_to, from, among}
+use Rattle.spec.specs.Bytes.{Bytes, same, when◌then◌else◌, is_empty, begins, after, up_to, from, among}
 use Rattle.spec.proofs.Booleans.{and_left, and_right, and_both, no_true}
 pub use Rattle.spec.proofs.Bytes.{same_true, same_refl, same_false, same-lengths}
+
+-- ---- what the library's tests of slices answer
+
+pub same_is : (a b : Bytes) → pointwise eqb a b ≡ same a b
+unfolding same
+same_is [] [] = refl
+same_is [] (y ∷ b) = refl
+same_is (x ∷ a) [] = refl
+same_is (x ∷ a) (y ∷ b) = rw (same_is a b)
+
+pub begins_is : (p s : Bytes) → starts_with eqb s p ≡ begins p s
+unfolding begins
+begins_is [] s = refl
+begins_is (a ∷ p) [] = refl
+begins_is (a ∷ p) (b ∷ s) = rw (begins_is p s)
 
 -- ---- is a text empty?
 

@@ -1,6 +1,6 @@
 -- The cells of a Collection, written one after the other.
 use Prim.Native.Nat.{ℕ, zero, suc, ◌+◌, ◌-◌, ◌<◌, ◌≤◌}
-use Rattle.std.specs.Prelude.{◌≡◌, refl, Bool, true, eqb, length}
+use Rattle.std.specs.Prelude.{◌≡◌, Option, Some, IsSome, refl, Bool, true, eqb, length}
 use Rattle.std.proofs.Common.{sym, ◌∙◌, add-zero, eq-eqb, ne_eqb}
 use Rattle.std.proofs.Math.Path.{ap}
 use mathlib.Core.List.{List, [], ◌∷◌, ◌++◌, append-nil, append_assoc}
@@ -22,8 +22,8 @@ use Rattle.state_words.specs.Words.{pick}
 use Rattle.state.specs.Meaning.{at, count, child_from, child_of, children_of}
 use Rattle.state.specs.Valid.{children_ok, kind_ok}
 use Rattle.state.specs.Stay.{last-child, collected}
-use Rattle.label.specs.Label.{Generates}
-use Rattle.label.specs.declared.Generated.{Generated}
+use Rattle.label.specs.Label.{Generates, one_left, generated}
+use Rattle.label.specs.declared.BlankNodeId.{BlankNodeId}
 use Rattle.state_stack.specs.declared.nodes.Child.{Child}
 use Rattle.state_stack.specs.Take.{child_in}
 use Rattle.state_stack.specs.NodeLaws.{child_node, child_read}
@@ -58,11 +58,14 @@ pub record Listed (f : Frame) (w : List ℕ) (n : ℕ) : Type 0 where
 
 -- ---- the next label
 
-pub next_label : {g : Generated} (n : ℕ) → Generates (n - 1) g → 0 < n → n ≤ 99_999_999 → g.id.id ≡ label n
+pub next_left : (n m : ℕ) (r : Option BlankNodeId) → Generates (n - 1) m r → 0 < n → n ≤ 99_999_999 → IsSome r
 unfolding most_labels
-next_label n g l h =
+next_left n m r g l h = one_left (n - 1) m r g (omega arith)
+
+pub next_label : {r : Option BlankNodeId} {made : BlankNodeId} (n m : ℕ) → Generates (n - 1) m r → r ≡ Some made → 0 < n → made.id ≡ label n
+next_label n m g q l =
     let e : n - 1 + 1 ≡ n = omega arith in
-    g.made (omega arith) ∙ ap label e
+    (generated g q).id ∙ ap label e
 
 -- ---- one cell
 

@@ -1,7 +1,7 @@
 -- An end tag that matches: what the definitions answer, and what a handler has to show of it.
 use Rattle.std.specs.Prelude.{ℕ, ◌-◌, ◌<◌, ◌≡◌, true, false, List, [], ◌∷◌, leb, length}
 use Rattle.std.proofs.Math.Path.{refl, ap}
-use Rattle.std.proofs.Common.{sym, ◌∙◌, arith, le-leb}
+use Rattle.std.proofs.Common.{sym, ap, ◌∙◌, arith, le-leb}
 use Rattle.spec.specs.Bytes.{Bytes, ◌>>◌, require◌or◌}
 use Rattle.spec.specs.Numbers.{Answer, refuse, good}
 use Rattle.spec.specs.declared.Refusal.{Refusal}
@@ -26,11 +26,10 @@ use Rattle.state_stack.specs.Calls.{top_frame}
 use Rattle.state_stack.specs.Laws.{topmost}
 use Rattle.state_inner.specs.Calls.{held_in}
 use Rattle.state_inner.specs.Laws.{held_read}
-use Rattle.writer.specs.declared.Said.{Said}
 use Rattle.writer.specs.Said.{Says}
-use Rattle.event.specs.declared.Outcome.{Outcome}
-use Rattle.event.specs.declared.Outcome.TheVariants.{Stop, Did}
 use Rattle.event.specs.Result.{IdsFit, Handles, handled, handled_by, concluded, refused_on, over_limit, no_room, all_fits, fits-held, stopped, done}
+use Rattle.std.specs.Prelude.{Result, Ok, Err, is_ok}
+use Rattle.event.specs.declared.Done.{Done}
 
 -- ---- the element on top
 
@@ -47,11 +46,11 @@ pub record Closing (q : Kind) (r : Registers) (fs bs is w : List ℕ) : Type 0 w
   pub kind : (top_frame r fs).kind ≡ q
 
 -- its end tag is handled, whatever the bindings are
-pub record Ends (q : Kind) (r : Registers) (o : Outcome) (fs w out fs' w' out' : List ℕ) : Type 0 where
+pub record Ends (q : Kind) (r : Registers) (o : Result Done Refusal) (fs w out fs' w' out' : List ℕ) : Type 0 where
   pub handles : (bs is : List ℕ) → Closing q r fs bs is w → Handles (closing (top_name r fs w)) r o fs bs is w out fs' bs is w' out'
 
 -- the frame on top says which kind it is
-pub ends_as : {q : Kind} {r : Registers} {o : Outcome} {fs w out fs' w' out' : List ℕ} {f : Frame} → f ≡ top_frame r fs → f.kind ≡ q
+pub ends_as : {q : Kind} {r : Registers} {o : Result Done Refusal} {fs w out fs' w' out' : List ℕ} {f : Frame} → f ≡ top_frame r fs → f.kind ≡ q
     → Ends q r o fs w out fs' w' out' → Ends (top_frame r fs).kind r o fs w out fs' w' out'
 ends_as e k x = rw (ap (λ (g : Frame). g.kind) (sym e) ∙ k) x
 
@@ -114,19 +113,19 @@ concludes : {q : Kind} {r : Registers} {fs bs is w : List ℕ} → Closing q r f
 concludes {q} {r} {fs} {bs} {is} {w} c room ids e = handled_by (closing (top_name r fs w)) room (doc_of r fs bs is w ids) (matches c ids ∙ e)
 
 module _ {q : Kind} {r : Registers} {fs bs is w out : List ℕ} (c : Closing q r fs bs is w) where
-  pub refused : (n : Refusal) → ((ids : List Bytes) → ended q r fs bs is w ids ≡ refuse n) → Handles (closing (top_name r fs w)) r (Stop n) fs bs is w out fs bs is w out
+  pub refused : (n : Refusal) → ((ids : List Bytes) → ended q r fs bs is w ids ≡ refuse n) → Handles (closing (top_name r fs w)) r (Err n) fs bs is w out fs bs is w out
   refused n e = record { result = λ ids i. stopped (concludes c (length out) ids (e ids) ∙ refused_on (length out) n) }
 
   module _ {lines : List Triple} {d : List Bytes → Doc} (e : (ids : List Bytes) → ended q r fs bs is w ids ≡ good (lines, d ids)) where
-    pub refused-held : ((ids : List Bytes) → IdsFit ids → fits (d ids) ≡ false) → Handles (closing (top_name r fs w)) r (Stop OverLimit) fs bs is w out fs bs is w out
+    pub refused-held : ((ids : List Bytes) → IdsFit ids → fits (d ids) ≡ false) → Handles (closing (top_name r fs w)) r (Err OverLimit) fs bs is w out fs bs is w out
     refused-held h = record { result = λ ids i. stopped (concludes c (length out) ids (e ids) ∙ over_limit (length out) (lines, d ids) (h ids i)) }
 
     module _ (h : (ids : List Bytes) → IdsFit ids → fits (d ids) ≡ true) where
-      pub refused-room : leb (length (write lines)) (length out) ≡ false → Handles (closing (top_name r fs w)) r (Stop NoRoom) fs bs is w out fs bs is w out
+      pub refused-room : leb (length (write lines)) (length out) ≡ false → Handles (closing (top_name r fs w)) r (Err NoRoom) fs bs is w out fs bs is w out
       refused-room l = record { result = λ ids i. stopped (concludes c (length out) ids (e ids) ∙ no_room (length out) (lines, d ids) (h ids i) l) }
 
       pub accepted : {p : Registers} {gs v out' : List ℕ} {k : ℕ} → Wrote out out' 0 k (write lines) → Valid p gs bs is v → p.flags.closed ≡ false
-          → ((ids : List Bytes) → doc_of p gs bs is v ids ≡ d ids) → Handles (closing (top_name r fs w)) r (Did (record { written = k; registers = p })) fs bs is w out gs bs is v out'
+          → ((ids : List Bytes) → doc_of p gs bs is v ids ≡ d ids) → Handles (closing (top_name r fs w)) r (Ok (record { written = k; registers = p })) fs bs is w out gs bs is v out'
       accepted wr x m y =
           record {
             result =
@@ -143,28 +142,29 @@ module _ {q : Kind} {r : Registers} {fs bs is w out : List ℕ} (c : Closing q r
 -- ---- lines, if all of them have room
 
 module _ {q : Kind} {r p : Registers} {fs w : List ℕ} {lines : List Triple} (t : Tells q r p fs w lines) where
-  pub tells_over : {out : List ℕ} → leb (held_in p) most_held_bytes ≡ false → Ends q r (Stop OverLimit) fs w out fs w out
+  pub tells_over : {out : List ℕ} → leb (held_in p) most_held_bytes ≡ false → Ends q r (Err OverLimit) fs w out fs w out
   tells_over h =
       record { handles = λ bs is c. let l = t.tells bs is c in refused-held c l.answer (λ ids i. held_decides l.valid ids i ∙ h) }
 
-  module _ {out out' : List ℕ} {s : Said} (h : leb (held_in p) most_held_bytes ≡ true) (a : Says out out' (write lines) s) where
-    pub tells_full : s.fits ≡ false → Ends q r (Stop NoRoom) fs w out fs w out'
-    tells_full n =
-        rw (a.kept n)
-        (record { handles = λ bs is x. let l = t.tells bs is x in refused-room x l.answer (λ ids i. held_decides l.valid ids i ∙ h) (sym a.answer ∙ n) })
+  module _ {out out' : List ℕ} {s : Result ℕ Refusal} (h : leb (held_in p) most_held_bytes ≡ true) (a : Says out out' (write lines) s) where
+    pub tells_full : {why : Refusal} → s ≡ Err why → Ends q r (Err why) fs w out fs w out'
+    tells_full {why} n =
+        let full : (why ≡ NoRoom) × (out' ≡ out) = rw n at a.cases in
+        rw (full.0, full.1)
+        (record { handles = λ bs is x. let l = t.tells bs is x in refused-room x l.answer (λ ids i. held_decides l.valid ids i ∙ h) (sym a.answer ∙ ap is_ok n) })
 
-    pub tells_done : s.fits ≡ true → Ends q r (Did (record { written = s.written; registers = p })) fs w out fs w out'
+    pub tells_done : {n : ℕ} → s ≡ Ok n → Ends q r (Ok (record { written = n; registers = p })) fs w out fs w out'
     tells_done y =
         record {
           handles =
               λ bs is x.
               let l = t.tells bs is x in
-              accepted x l.answer (λ ids i. held_decides l.valid ids i ∙ h) (a.wrote y) l.valid l.mark (λ ids. refl);
+              accepted x l.answer (λ ids i. held_decides l.valid ids i ∙ h) (rw y at a.cases) l.valid l.mark (λ ids. refl);
         }
 
 -- ---- no lines
 
-pub tells_nothing : {q : Kind} {r p : Registers} {fs w out : List ℕ} → Tells q r p fs w [] → leb (held_in p) most_held_bytes ≡ true → Ends q r (Did (record { written = 0; registers = p })) fs w out fs w out
+pub tells_nothing : {q : Kind} {r p : Registers} {fs w out : List ℕ} → Tells q r p fs w [] → leb (held_in p) most_held_bytes ≡ true → Ends q r (Ok (record { written = 0; registers = p })) fs w out fs w out
 unfolding write
 tells_nothing t h =
     record {

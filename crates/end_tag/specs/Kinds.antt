@@ -25,20 +25,20 @@ use Rattle.state.specs.declared.Registers.{Registers}
 use Rattle.state.specs.Meaning.{at, count, first, span, children_of, subject_of, property_of, what_of, subject_below, frames_of, start_of, elements_of, doc_of}
 use Rattle.state.specs.Valid.{kind_ok, node_below, stands, Sound}
 use Rattle.state.specs.Held.{room}
-use Rattle.state_stack.specs.declared.Changed.{Changed}
 use Rattle.spec.specs.XmlLang as spec
 use Rattle.state.specs.Language.{tag_of_language}
-use Rattle.state.specs.declared.language.Language.{Language}
+use Rattle.state.specs.declared.Span.{Span}
+use Rattle.std.specs.declared.option.Option as std
 use Rattle.state_stack.specs.Change.{Holds, holds-doc, labelled_to, labelled-holds, popped, top_frame_lem}
 use Rattle.state_stack.specs.Calls.{top_frame, may_pop, Pops}
 use Rattle.state_stack.specs.Laws.{topmost}
 use Rattle.state_inner.specs.Calls.{language_in}
 use Rattle.state_inner.specs.Laws.{language_read}
 use Rattle.state_stack.specs.Take as N
-use Rattle.event.specs.declared.Outcome.TheVariants.{Stop}
 use Rattle.end_tag.specs.Object.{property_lines, literal_lines}
 use Rattle.end_tag.specs.Cells.{nil, Listed, length-children}
 use Rattle.end_tag.specs.Ends.{Closing, Ends, Tells, without, refused}
+use Rattle.std.specs.Prelude.{unwrap_or, Err}
 
 -- ---- the state without the element on top
 
@@ -129,13 +129,13 @@ pub wrapper_silent : (f : Frame) → (count f ≡ 0 → ⊥) → Silent Wrapper 
 unfolding what_of end_kind ◌>>◌ require◌or◌
 wrapper_silent f h = record { says = λ w s n l d. rw (ne_eqb (count f) 0 h) }
 
-module _ {r : Registers} {fs w : List ℕ} {p : Changed} (o : Pops r fs p) where
-  pub silent_tells : {q : Kind} → Silent q (top_frame r fs) → Tells q r p.registers fs w []
+module _ {r behind : Registers} {fs w : List ℕ} {p : std.Option Registers} (o : Pops r fs p) (j : behind ≡ unwrap_or p r) where
+  pub silent_tells : {q : Kind} → Silent q (top_frame r fs) → Tells q r behind fs w []
   silent_tells s =
       record {
         tells =
             λ bs is c.
-            let e = o.moved (pops c) in
+            let e = j ∙ o.moved (pops c) in
             record {
               answer = λ ids. s.says w _ _ _ (without r fs bs is w ids) ∙ rw (pop_doc c e ids);
               valid = (pop_is c e).valid;
@@ -145,14 +145,14 @@ module _ {r : Registers} {fs w : List ℕ} {p : Changed} (o : Pops r fs p) where
 
   -- ---- a default property
 
-  pub property_tells : {n f : Frame} {l : Language} {t : Bytes} → f ≡ top_frame r fs → n ≡ top_frame p.registers fs → l ≡ language_in r fs → t ≡ tag_of_language l w
-      → Tells PropertyElt r p.registers fs w (property_lines n f t w)
+  pub property_tells : {n f : Frame} {l : std.Option Span} {t : Bytes} → f ≡ top_frame r fs → n ≡ top_frame behind fs → l ≡ language_in r fs → t ≡ tag_of_language l w
+      → Tells PropertyElt r behind fs w (property_lines n f t w)
   unfolding what_of end_kind end_value stands
   property_tells x y z g =
       record {
         tells =
             λ bs is c.
-            let e = o.moved (pops c) in
+            let e = j ∙ o.moved (pops c) in
             record {
               answer = λ ids. rw (x, y, g, z, around c e (stood c e), language_read c.valid, pop_doc c e ids);
               valid = (pop_is c e).valid;
@@ -162,14 +162,14 @@ module _ {r : Registers} {fs w : List ℕ} {p : Changed} (o : Pops r fs p) where
 
   -- ---- a Literal property
 
-  pub literal_tells : {n f : Frame} → f ≡ top_frame r fs → n ≡ top_frame p.registers fs → is_empty (span w (at f TAIL) (at f END)) ≡ false
-      → Tells ParseTypeLiteralPropertyElt r p.registers fs w (literal_lines n f w)
+  pub literal_tells : {n f : Frame} → f ≡ top_frame r fs → n ≡ top_frame behind fs → is_empty (span w (at f TAIL) (at f END)) ≡ false
+      → Tells ParseTypeLiteralPropertyElt r behind fs w (literal_lines n f w)
   unfolding what_of end_kind end_value stands ◌>>◌ require◌or◌
   literal_tells x y z =
       record {
         tells =
             λ bs is c.
-            let e = o.moved (pops c) in
+            let e = j ∙ o.moved (pops c) in
             record {
               answer = λ ids. rw (x, y, around c e (stood c e), (rw x at z), pop_doc c e ids);
               valid = (pop_is c e).valid;
@@ -179,7 +179,7 @@ module _ {r : Registers} {fs w : List ℕ} {p : Changed} (o : Pops r fs p) where
 
   -- ---- a Collection
 
-  pub collection_tells : {n f : Frame} {u : Registers} → f ≡ top_frame r fs → u ≡ labelled_to p.registers (r.counts.labels + count f) → n ≡ top_frame u fs → r.counts.labels + count f ≤ 99_999_999
+  pub collection_tells : {n f : Frame} {u : Registers} → f ≡ top_frame r fs → u ≡ labelled_to behind (r.counts.labels + count f) → n ≡ top_frame u fs → r.counts.labels + count f ≤ 99_999_999
       → Tells ParseTypeCollectionPropertyElt r u fs w
       (cells r.counts.labels nil (children_of w (count f) (at f END)) ++ statement (property_of f w (subject_of n w)) (node (head_cell r.counts.labels nil (children_of w (count f) (at f END)))))
   unfolding what_of end_kind stands
@@ -187,9 +187,9 @@ module _ {r : Registers} {fs w : List ℕ} {p : Changed} (o : Pops r fs p) where
       record {
         tells =
             λ bs is c.
-            let e = o.moved (pops c) in
+            let e = j ∙ o.moved (pops c) in
             let cs : List Subject = children_of w (count f) (at f END) in
-            let m : n ≡ top_frame p.registers fs = z ∙ (ap (λ (v : Registers). top_frame v fs) y ∙ same_top p.registers (r.counts.labels + count f) fs) in
+            let m : n ≡ top_frame behind fs = z ∙ (ap (λ (v : Registers). top_frame v fs) y ∙ same_top behind (r.counts.labels + count f) fs) in
             record {
               answer =
                   λ ids.
@@ -203,17 +203,17 @@ module _ {r : Registers} {fs w : List ℕ} {p : Changed} (o : Pops r fs p) where
       }
 
 pub literal-empty : {r : Registers} {fs w out : List ℕ} {f : Frame} → f ≡ top_frame r fs → is_empty (span w (at f TAIL) (at f END)) ≡ true
-    → Ends ParseTypeLiteralPropertyElt r (Stop EmptyLiteral) fs w out fs w out
+    → Ends ParseTypeLiteralPropertyElt r (Err EmptyLiteral) fs w out fs w out
 unfolding what_of end_kind end_value ◌>>◌ require◌or◌
 literal-empty x z = record { handles = λ bs is c. refused c EmptyLiteral (λ ids. rw (rw x at z)) }
 
 -- 19: it has had none
-pub wrapper-empty : {r : Registers} {fs w out : List ℕ} {f : Frame} → f ≡ top_frame r fs → count f ≡ 0 → Ends Wrapper r (Stop ProfileBroken) fs w out fs w out
+pub wrapper-empty : {r : Registers} {fs w out : List ℕ} {f : Frame} → f ≡ top_frame r fs → count f ≡ 0 → Ends Wrapper r (Err ProfileBroken) fs w out fs w out
 unfolding what_of end_kind ◌>>◌ require◌or◌
 wrapper-empty {r} {fs} {w} {out} {f} x z = record { handles = λ bs is c. refused c ProfileBroken (λ ids. rw (← x, eq-eqb (count f) 0 z)) }
 
 pub labels_spent : {r : Registers} {fs w out : List ℕ} {f : Frame} → f ≡ top_frame r fs → 99_999_999 < r.counts.labels + count f
-    → Ends ParseTypeCollectionPropertyElt r (Stop LabelsSpent) fs w out fs w out
+    → Ends ParseTypeCollectionPropertyElt r (Err LabelsSpent) fs w out fs w out
 unfolding what_of end_kind
 labels_spent {r} {fs} {w} {out} {f} x h =
     record {

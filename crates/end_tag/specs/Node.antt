@@ -27,18 +27,17 @@ use Rattle.state.specs.Valid.{noted_by, noted_of, empty_or, children_ok, kind_ok
 use Rattle.state.specs.Stay.{last-child, collected}
 use Rattle.state.specs.Tests.{positive}
 use Rattle.state.specs.Held.{room, held}
-use Rattle.state_stack.specs.declared.Changed.{Changed}
 use Rattle.state_stack.specs.Change.{holds-doc, flat, top_element, top_frame_lem}
-use Rattle.state_stack.specs.Calls.{top_frame, same_kind, Pops}
+use Rattle.state_stack.specs.Calls.{some_stays, top_frame, same_kind, Pops}
 use Rattle.state_stack.specs.Top.{node_quiet, what_outside}
 use Rattle.state_stack.specs.Laws.{topmost, top_deep, by, is_property_lem}
 use Rattle.state_stack.specs.Take as N
 use Rattle.state_stack.specs.Take.{may_take, may_child, may_take_node, may_close, main_size, ClosesNode}
 use Rattle.state_stack.specs.NodeLaws.{closed_node, closed-node, close-holds}
-use Rattle.event.specs.declared.Outcome.TheVariants.{Stop, Did}
 use Rattle.event.specs.Result.{IdsFit, fits-held}
 use Rattle.end_tag.specs.Ends.{Closing, Ends, without, ended, top_first, refused-held, accepted}
 use Rattle.end_tag.specs.Kinds.{pops, top_stands, pop_is, pop_doc, pop_depth}
+use Rattle.std.specs.Prelude.{Option, is_some, unwrap_or, Ok, Err}
 
 -- ---- sizes
 
@@ -243,18 +242,18 @@ module _ {r : Registers} {fs bs is w : List ℕ} (c : Closing NodeElt r fs bs is
 
 -- ---- the law of `stored_after`
 
-module _ {r : Registers} {fs : List ℕ} {p : Changed} {f n : Frame} {size : ℕ} (o : Pops r fs p) (x : n ≡ top_frame r fs) (s : size ≡ main_size n) (y : f ≡ top_frame p.registers fs) where
+module _ {r behind : Registers} {fs : List ℕ} {p : Option Registers} {f n : Frame} {size : ℕ} (o : Pops r fs p) (j : behind ≡ unwrap_or p r) (x : n ≡ top_frame r fs) (s : size ≡ main_size n) (y : f ≡ top_frame behind fs) where
   pub after_object : {a : ℕ} → same_kind f.kind PropertyElt ≡ true → a ≡ at f TAIL → StoredAfter r fs (a + size)
   after_object k z =
-      record { holds = λ bs is w c ids. rw (z, s, x, y) (held-object c (o.moved (pops c)) (rw y at k) ids) }
+      record { holds = λ bs is w c ids. rw (z, s, x, y) (held-object c (j ∙ o.moved (pops c)) (rw y at k) ids) }
 
-  module _ (j : same_kind f.kind PropertyElt ≡ false) where
+  module _ (q : same_kind f.kind PropertyElt ≡ false) where
     pub after_child : {a : ℕ} → same_kind f.kind ParseTypeCollectionPropertyElt ≡ true → a ≡ at f END → StoredAfter r fs (a + size + 4)
     after_child k z =
-        record { holds = λ bs is w c ids. rw (z, s, x, y) (held-child c (o.moved (pops c)) (rw y at j) (rw y at k) ids) }
+        record { holds = λ bs is w c ids. rw (z, s, x, y) (held-child c (j ∙ o.moved (pops c)) (rw y at q) (rw y at k) ids) }
 
-    pub after_none : same_kind f.kind ParseTypeCollectionPropertyElt ≡ false → StoredAfter r fs p.registers.store.top
-    after_none k = record { holds = λ bs is w c ids. held_none c (o.moved (pops c)) (rw y at j) (rw y at k) ids }
+    pub after_none : same_kind f.kind ParseTypeCollectionPropertyElt ≡ false → StoredAfter r fs behind.store.top
+    after_none k = record { holds = λ bs is w c ids. held_none c (j ∙ o.moved (pops c)) (rw y at q) (rw y at k) ids }
 
 -- ---- nothing stands in its way
 
@@ -309,15 +308,16 @@ module _ {r : Registers} {fs bs is w : List ℕ} {n : ℕ} (c : Closing NodeElt 
       rw (eq-eqb (length w) 65_536 c.valid.store, k, pops c, takes)
 
 -- the mark stays
-closed-mark : {r : Registers} {fs w gs v : List ℕ} {t : Changed} → ClosesNode r fs w t gs v → may_close r fs w ≡ true → t.registers.flags.closed ≡ r.flags.closed
+closed-mark : {r : Registers} {fs w gs v : List ℕ} {t : Option Registers} → ClosesNode r fs w t gs v → may_close r fs w ≡ true → (unwrap_or t r).flags.closed ≡ r.flags.closed
 unfolding L.all
 closed-mark {r} {fs} {w} {gs} {v} {t} p m =
     let u : Registers = N.without r fs in
     let f : Frame = top_frame u fs in
     let n : Frame = top_frame r fs in
-    let ok : t.ok ≡ true = p.answer ∙ m in
+    let ok : is_some t ≡ true = p.answer ∙ m in
     let k = p.takes m in
-    by (same_kind f.kind PropertyElt)
+    ap (λ (x : Registers). x.flags.closed) (some_stays t r u ok)
+    ∙ by (same_kind f.kind PropertyElt)
     (λ o.
     by (may_take u (length fs) (at n MAIN) (at f TAIL) (main_size n) (at f TAIL + main_size n))
     (λ y. ap (λ (x : Registers). x.flags.closed) ((k.object o).takes y).moved)
@@ -340,10 +340,10 @@ after_fits {r} {fs} {bs} {is} {w} {n} c h ids i =
     fits-held (with_frames (closed_node (elements_of r fs bs is w)) (doc_of r fs bs is w ids)) i ∙ rw m
 
 module _ {r : Registers} {fs w out : List ℕ} {n : ℕ} (h : StoredAfter r fs n) where
-  pub node_over : 49_152 < n - r.store.noted → Ends NodeElt r (Stop OverLimit) fs w out fs w out
+  pub node_over : 49_152 < n - r.store.noted → Ends NodeElt r (Err OverLimit) fs w out fs w out
   node_over l = record { handles = λ bs is c. refused-held c (node-ends c) (λ ids i. after_fits c h ids i ∙ lt-leb (n - r.store.noted) 49_152 l) }
 
-  pub node_done : {t : Changed} {gs v : List ℕ} → n - r.store.noted ≤ 49_152 → ClosesNode r fs w t gs v → Ends NodeElt r (Did (record { written = 0; registers = t.registers })) fs w out gs v out
+  pub node_done : {t : Option Registers} {gs v : List ℕ} → n - r.store.noted ≤ 49_152 → ClosesNode r fs w t gs v → Ends NodeElt r (Ok (record { written = 0; registers = unwrap_or t r })) fs w out gs v out
   unfolding write with_frames doc_of
   node_done l p =
       record {

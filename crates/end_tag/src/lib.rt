@@ -16,12 +16,11 @@ ghost use Rattle.end_tag.specs.Node.{StoredAfter};
 pub mod statements;
 
 use copy::words::wide;
-use event::{Done, Outcome};
+use event::Done;
 use label::BlankNodeIdGenerator;
 use spec::Refusal;
 use state::Registers;
 use state_words::{Frame, Kind};
-use writer::Said;
 
 // An end tag. Where no element is open, or the name as written is another, it is refused.
 pub fn end_outside(
@@ -32,22 +31,26 @@ pub fn end_outside(
     work: &mut [u8],
     name: &[u8],
     out: &mut [u8],
-) -> Outcome
+) -> Result<Done, Refusal>
     requires { Asks r frames.old bindings.now inners.now work.old × (r.counts.inner ≡ 0) }
     ensures { Handles (closing name.now) r result frames.old bindings.now inners.now work.old out.old frames.new bindings.now inners.now work.new out.new }
 {
-    let own = state_inner::name(r, frames, inners);
-    if !own.there {
-        return Outcome::Stop(Refusal::NotWellFormed);
-    }
+    let Some(own) = state_inner::name(r, frames, inners) else {
+        return Err(Refusal::NotWellFormed);
+    };
     if !copy::equal(name, copy::piece(work, own.at, own.len)) {
-        return Outcome::Stop(Refusal::NotWellFormed);
+        return Err(Refusal::NotWellFormed);
     }
     end_state(r, frames, work, out)
 }
 
 // The end tag of the element on top, by its kind.
-fn end_state(r: Registers, frames: &mut [u32], work: &mut [u8], out: &mut [u8]) -> Outcome
+fn end_state(
+    r: Registers,
+    frames: &mut [u32],
+    work: &mut [u8],
+    out: &mut [u8],
+) -> Result<Done, Refusal>
     requires { Whole r frames.old work.old }
     ensures { Ends (top_frame r frames.old).kind r result frames.old work.old out.old frames.new work.new out.new }
 {
@@ -65,144 +68,128 @@ fn end_state(r: Registers, frames: &mut [u32], work: &mut [u8], out: &mut [u8]) 
 }
 
 // The element is gone, and that is all.
-fn end_silent(r: Registers, frames: &[u32]) -> Outcome
+fn end_silent(r: Registers, frames: &[u32]) -> Result<Done, Refusal>
     ensures { (q : Kind) (w out : List ℕ) → Silent q (top_frame r frames.now) → Ends q r result frames.now w out frames.now w out }
 {
-    let p = state_stack::pop(r, frames);
-    let behind = p.registers;
+    let behind = state_stack::pop(r, frames).unwrap_or(r);
     if !state_inner::holds_no_more(behind) {
-        return Outcome::Stop(Refusal::OverLimit);
+        return Err(Refusal::OverLimit);
     }
-    Outcome::Did(Done {
+    Ok(Done {
         written: 0,
         registers: behind,
     })
 }
 
 // The wrapper has had its rdf:RDF, or 19.
-fn end_wrapper(r: Registers, frames: &[u32]) -> Outcome
+fn end_wrapper(r: Registers, frames: &[u32]) -> Result<Done, Refusal>
     ensures { (w out : List ℕ) → Ends Kind.Wrapper r result frames.now w out frames.now w out }
 {
     let f = state_stack::top(r, frames);
     let has = f.has;
     if has[Frame::COUNT] == 0 {
-        return Outcome::Stop(Refusal::ProfileBroken);
+        return Err(Refusal::ProfileBroken);
     }
     end_silent(r, frames)
 }
 
 // The property around the node gets it. What is then held is judged first: a child of a Collection takes 4 bytes more.
-fn end_node(r: Registers, frames: &mut [u32], work: &mut [u8]) -> Outcome
+fn end_node(r: Registers, frames: &mut [u32], work: &mut [u8]) -> Result<Done, Refusal>
     ensures { (out : List ℕ) → Ends Kind.NodeElt r result frames.old work.old out frames.new work.new out }
 {
     let stored = stored_after(r, frames);
-    if state_stack::nodes::minus(stored, r.store.noted) > Registers::MOST_HELD {
-        return Outcome::Stop(Refusal::OverLimit);
+    let held = stored.saturating_sub(r.store.noted);
+    if held > Registers::MOST_HELD {
+        return Err(Refusal::OverLimit);
     }
-    let c = state_stack::nodes::close_node(r, frames, work);
-    let behind = c.registers;
-    Outcome::Did(Done {
+    let behind = state_stack::nodes::close_node(r, frames, work).unwrap_or(r);
+    Ok(Done {
         written: 0,
         registers: behind,
     })
 }
 
 // The object so far, or the empty literal; the language in force is that inside the element.
-fn end_property(r: Registers, frames: &[u32], work: &[u8], out: &mut [u8]) -> Outcome
+fn end_property(r: Registers, frames: &[u32], work: &[u8], out: &mut [u8]) -> Result<Done, Refusal>
     ensures { Ends Kind.PropertyElt r result frames.now work.now out.old frames.now work.now out.new }
 {
     let f = state_stack::top(r, frames);
-    let p = state_stack::pop(r, frames);
-    let behind = p.registers;
+    let behind = state_stack::pop(r, frames).unwrap_or(r);
     let n = state_stack::top(behind, frames);
     let language = state_inner::language_in_force(r, frames);
     if !state_inner::holds_no_more(behind) {
-        return Outcome::Stop(Refusal::OverLimit);
+        return Err(Refusal::OverLimit);
     }
-    let said = say_property(out, n, f, language.tag(work), work);
-    if !said.fits {
-        return Outcome::Stop(Refusal::NoRoom);
-    }
-    Outcome::Did(Done {
-        written: said.written,
+    let written = say_property(out, n, f, state::bytes_found(language, work), work)?;
+    Ok(Done {
+        written,
         registers: behind,
     })
 }
 
 // Its statement, if all of it has room: measured first, unless that is sure. `tag` is the language in force.
-fn say_property<'a>(out: &mut [u8], n: Frame, f: Frame, tag: &'a [u8], work: &'a [u8]) -> Said
+fn say_property<'a>(
+    out: &mut [u8],
+    n: Frame,
+    f: Frame,
+    tag: &'a [u8],
+    work: &'a [u8],
+) -> Result<usize, Refusal>
     ensures { Says out.old out.new (write (property_lines n f tag.now work.now)) result }
 {
     if crate::statements::property_fits(out.len(), n, f, tag) {
         let written = crate::statements::property_lines(out, true, n, f, tag, work);
-        return Said {
-            fits: true,
-            written,
-        };
+        return Ok(written);
     }
     if out.len() < crate::statements::property_lines(out, false, n, f, tag, work) {
-        return Said {
-            fits: false,
-            written: 0,
-        };
+        return Err(Refusal::NoRoom);
     }
     let written = crate::statements::property_lines(out, true, n, f, tag, work);
-    Said {
-        fits: true,
-        written,
-    }
+    Ok(written)
 }
 
 // An XML literal has some text.
-fn end_literal(r: Registers, frames: &[u32], work: &[u8], out: &mut [u8]) -> Outcome
+fn end_literal(r: Registers, frames: &[u32], work: &[u8], out: &mut [u8]) -> Result<Done, Refusal>
     ensures { Ends Kind.ParseTypeLiteralPropertyElt r result frames.now work.now out.old frames.now work.now out.new }
 {
     let f = state_stack::top(r, frames);
     if crate::statements::tail_size(f, work) == 0 {
-        return Outcome::Stop(Refusal::EmptyLiteral);
+        return Err(Refusal::EmptyLiteral);
     }
-    let p = state_stack::pop(r, frames);
-    let behind = p.registers;
+    let behind = state_stack::pop(r, frames).unwrap_or(r);
     let n = state_stack::top(behind, frames);
     if !state_inner::holds_no_more(behind) {
-        return Outcome::Stop(Refusal::OverLimit);
+        return Err(Refusal::OverLimit);
     }
-    let said = say_literal(out, n, f, work);
-    if !said.fits {
-        return Outcome::Stop(Refusal::NoRoom);
-    }
-    Outcome::Did(Done {
-        written: said.written,
+    let written = say_literal(out, n, f, work)?;
+    Ok(Done {
+        written,
         registers: behind,
     })
 }
 
-// Its statement, in the same way.
-fn say_literal(out: &mut [u8], n: Frame, f: Frame, work: &[u8]) -> Said
+// Its statement, in the same way. Two of a kind, of which each measures and writes its own lines: a trait of both would be longer.
+fn say_literal(out: &mut [u8], n: Frame, f: Frame, work: &[u8]) -> Result<usize, Refusal>
     ensures { Says out.old out.new (write (literal_lines n f work.now)) result }
 {
     if crate::statements::literal_fits(out.len(), n, f) {
         let written = crate::statements::literal_lines(out, true, n, f, work);
-        return Said {
-            fits: true,
-            written,
-        };
+        return Ok(written);
     }
     if out.len() < crate::statements::literal_lines(out, false, n, f, work) {
-        return Said {
-            fits: false,
-            written: 0,
-        };
+        return Err(Refusal::NoRoom);
     }
     let written = crate::statements::literal_lines(out, true, n, f, work);
-    Said {
-        fits: true,
-        written,
-    }
+    Ok(written)
 }
 
 // Each child takes a label for its cell.
-fn end_collection(r: Registers, frames: &[u32], work: &[u8], out: &mut [u8]) -> Outcome
+fn end_collection(
+    r: Registers,
+    frames: &[u32],
+    work: &[u8],
+    out: &mut [u8],
+) -> Result<Done, Refusal>
     requires { Whole r frames.now work.now × ((top_frame r frames.now).kind ≡ Kind.ParseTypeCollectionPropertyElt) }
     ensures { Ends Kind.ParseTypeCollectionPropertyElt r result frames.now work.now out.old frames.now work.now out.new }
 {
@@ -211,19 +198,19 @@ fn end_collection(r: Registers, frames: &[u32], work: &[u8], out: &mut [u8]) -> 
     let had = r.counts.labels;
     let labels = had + wide(has[Frame::COUNT]) as u64;
     if labels > BlankNodeIdGenerator::MOST_LABELS {
-        return Outcome::Stop(Refusal::LabelsSpent);
+        return Err(Refusal::LabelsSpent);
     }
-    let p = state_stack::pop(r, frames);
-    let behind = state_stack::with_labels(p.registers, labels);
+    let popped = state_stack::pop(r, frames).unwrap_or(r);
+    let behind = state_stack::with_labels(popped, labels);
     let n = state_stack::top(behind, frames);
     if !state_inner::holds_no_more(behind) {
-        return Outcome::Stop(Refusal::OverLimit);
+        return Err(Refusal::OverLimit);
     }
     if out.len() < crate::statements::collection_lines(out, false, n, f, had, work) {
-        return Outcome::Stop(Refusal::NoRoom);
+        return Err(Refusal::NoRoom);
     }
     let written = crate::statements::collection_lines(out, true, n, f, had, work);
-    Outcome::Did(Done {
+    Ok(Done {
         written,
         registers: behind,
     })
@@ -235,15 +222,13 @@ fn stored_after(r: Registers, frames: &[u32]) -> usize
 {
     let n = state_stack::top(r, frames);
     let size = main_size(n);
-    let p = state_stack::pop(r, frames);
-    let behind = p.registers;
+    let behind = state_stack::pop(r, frames).unwrap_or(r);
     let f = state_stack::top(behind, frames);
     let at = f.at;
-    let kind = f.kind;
-    if state_stack::same_kind(kind, Kind::PropertyElt) {
+    if f.kind == Kind::PropertyElt {
         return wide(at[Frame::TAIL]) + size;
     }
-    if state_stack::same_kind(kind, Kind::ParseTypeCollectionPropertyElt) {
+    if f.kind == Kind::ParseTypeCollectionPropertyElt {
         return wide(at[Frame::END]) + size + 4;
     }
     behind.store.top

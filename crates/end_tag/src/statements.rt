@@ -148,14 +148,12 @@ fn cells(out: &mut [u8], on: bool, f: Frame, labels: u64, work: &[u8]) -> usize
     let has = f.has;
     let mut to: usize = 0;
     let mut e = wide(at[Frame::END]);
-    let mut i = has[Frame::COUNT];
     let mut n = labels;
-    while i > 0 {
+    for left in (0..has[Frame::COUNT]).rev() {
         let c = state_stack::nodes::child_at(work, e);
         to = cell(out, to, on, c, labels, n, work);
         e = c.at;
         n += 1;
-        i -= 1;
     }
     to
 }
@@ -191,10 +189,8 @@ fn label_of(n: u64) -> BlankNodeId
     requires { (0 < n) × (n ≤ most_labels) }
     ensures { result.id ≡ label n }
 {
-    let generator = BlankNodeIdGenerator { counter: n - 1 };
-    let made = generator.generate();
-    let id = made.id;
-    id
+    let mut generator = BlankNodeIdGenerator { counter: n - 1 };
+    generator.generate().unwrap()
 }
 
 // The statement of property `f`, whose subject is the node `n` around it.
@@ -244,7 +240,7 @@ fn object_room(what: u32, size: usize) -> usize
     requires { size < 4294967296 }
     ensures { (result ≡ object_room what size) × (result ≤ 6 * size) }
 {
-    if what == 1 {
+    if what == Frame::NAMED_NODE {
         return iriref::MOST * size;
     }
     quoted::MOST * size
@@ -254,10 +250,10 @@ fn object_room(what: u32, size: usize) -> usize
 fn object_term(what: u32, datatype: u32, tag: &[u8]) -> Term
     ensures { TermFor what datatype tag.now result }
 {
-    if what == 1 {
+    if what == Frame::NAMED_NODE {
         return Term::Named;
     }
-    if what == 2 {
+    if what == Frame::BLANK_NODE {
         return Term::Blank;
     }
     new_literal(datatype, tag)

@@ -11,13 +11,10 @@ use Rattle.state_ids.specs.Ids.{ids_of, ValidIds}
 use Rattle.state.specs.declared.Registers.{Registers}
 use Rattle.state.specs.Meaning.{doc_of}
 use Rattle.state.specs.Valid.{Valid}
-use Rattle.event.specs.declared.Outcome.{Outcome}
-use Rattle.event.specs.declared.Outcome.TheVariants as outcome
 use Rattle.event.specs.declared.Done.{Done}
 use Rattle.event.specs.declared.Advance.{Advance}
-use Rattle.event.specs.declared.Progress.{Progress}
-use Rattle.event.specs.declared.Progress.TheVariants.{Stop, Did}
-use Rattle.event.specs.Result.{handled, Stopped, Doing, Result, IdsFit, Handles}
+use Rattle.event.specs.Result.{handled, Stopped, Doing, Answers, IdsFit, Handles}
+use Rattle.std.specs.Prelude.{Result, Ok, Err}
 
 -- the tables, the work store, the table of rdf:IDs and its store, and the output
 pub record Lent : Type 0 where
@@ -51,12 +48,12 @@ pub record Advanced (a : Answer Step) (d : Advance) (l l' : Lent) : Type 0 where
   pub mark : d.registers.flags.closed ≡ false
   pub doc : doc_in d.registers d.count l' ≡ step.1
 
-abbrev pub Cases : Answer Step → Progress → Lent → Lent → Type 0
-Cases a (Stop n) l l' = (a ≡ refuse n) × (l' ≡ l)
-Cases a (Did d) l l' = Advanced a d l l'
+abbrev pub Cases : Answer Step → Result Advance Refusal → Lent → Lent → Type 0
+Cases a (Err n) l l' = (a ≡ refuse n) × (l' ≡ l)
+Cases a (Ok d) l l' = Advanced a d l l'
 
 -- a: what the definitions answer
-pub record Progresses (a : Answer Step) (o : Progress) (l l' : Lent) : Type 0 where
+pub record Progresses (a : Answer Step) (o : Result Advance Refusal) (l l' : Lent) : Type 0 where
   pub frame_words : length l'.frames ≡ length l.frames
   pub binding_words : length l'.bindings ≡ length l.bindings
   pub inner_words : length l'.inners ≡ length l.inners
@@ -68,14 +65,14 @@ pub record Progresses (a : Answer Step) (o : Progress) (l l' : Lent) : Type 0 wh
   pub cases : Cases a o l l'
 
 -- an event that was read, handled in a state with `count` rdf:IDs
-abbrev pub HandlesAll : Event → Registers → ℕ → Progress → Lent → Lent → Type 0
+abbrev pub HandlesAll : Event → Registers → ℕ → Result Advance Refusal → Lent → Lent → Type 0
 HandlesAll e r count o l l' = Progresses (handled e (length l.out) (doc_in r count l)) o l l'
 
 -- the lists of a call
 abbrev pub lent : (fs bs is w ia il st out : List ℕ) → Lent
 lent fs bs is w ia il st out = record { frames = fs; bindings = bs; inners = is; work = w; places = ia; sizes = il; ids = st; out = out }
 
-pub stopped : {a : Answer Step} {n : Refusal} {l : Lent} → a ≡ refuse n → Progresses a (Stop n) l l
+pub stopped : {a : Answer Step} {n : Refusal} {l : Lent} → a ≡ refuse n → Progresses a (Err n) l l
 stopped e =
     record {
       frame_words = refl;
@@ -96,11 +93,11 @@ lists : {fs gs bs cs is js w v out uut : List ℕ} (ia il st : List ℕ) → gs 
 lists ia il st p q s t u = rw (p, q, s, t, u)
 
 module _ {e : Event} {r : Registers} (count : ℕ) {fs bs is w out fs' bs' is' w' out' : List ℕ} (ia il st : List ℕ) (fit : IdsFit (ids_of ia il st count)) where
-  pub without_stop : {o : Outcome} {n : Refusal} → Handles e r o fs bs is w out fs' bs' is' w' out' → o ≡ outcome.Stop n
-      → HandlesAll e r count (Stop n) (lent fs bs is w ia il st out) (lent fs' bs' is' w' ia il st out')
+  pub without_stop : {o : Result Done Refusal} {n : Refusal} → Handles e r o fs bs is w out fs' bs' is' w' out' → o ≡ Err n
+      → HandlesAll e r count (Err n) (lent fs bs is w ia il st out) (lent fs' bs' is' w' ia il st out')
   unfolding doc_in
   without_stop {o} {n} h q =
-      let x : Result (handled e (length out) (doc_of r fs bs is w (ids_of ia il st count))) (ids_of ia il st count) o fs bs is w out fs' bs' is' w' out' = h.result (ids_of ia il st count) fit in
+      let x : Answers (handled e (length out) (doc_of r fs bs is w (ids_of ia il st count))) (ids_of ia il st count) o fs bs is w out fs' bs' is' w' out' = h.result (ids_of ia il st count) fit in
       let y : Stopped (handled e (length out) (doc_of r fs bs is w (ids_of ia il st count))) n fs bs is w out fs' bs' is' w' out' = rw q at x.cases in
       record {
         frame_words = x.frame_words;
@@ -114,11 +111,11 @@ module _ {e : Event} {r : Registers} (count : ℕ) {fs bs is w out fs' bs' is' w
         cases = (y.answer, lists ia il st y.frames y.bindings y.inners y.work y.written);
       }
 
-  pub without_did : {o : Outcome} {d : Done} {used : ℕ} → Handles e r o fs bs is w out fs' bs' is' w' out' → o ≡ outcome.Did d → ValidIds count used ia il st
-      → HandlesAll e r count (Did (record { written = d.written; registers = d.registers; count = count; used = used })) (lent fs bs is w ia il st out) (lent fs' bs' is' w' ia il st out')
+  pub without_did : {o : Result Done Refusal} {d : Done} {used : ℕ} → Handles e r o fs bs is w out fs' bs' is' w' out' → o ≡ Ok d → ValidIds count used ia il st
+      → HandlesAll e r count (Ok (record { written = d.written; registers = d.registers; count = count; used = used })) (lent fs bs is w ia il st out) (lent fs' bs' is' w' ia il st out')
   unfolding doc_in
   without_did {o} {d} {used} h q v =
-      let x : Result (handled e (length out) (doc_of r fs bs is w (ids_of ia il st count))) (ids_of ia il st count) o fs bs is w out fs' bs' is' w' out' = h.result (ids_of ia il st count) fit in
+      let x : Answers (handled e (length out) (doc_of r fs bs is w (ids_of ia il st count))) (ids_of ia il st count) o fs bs is w out fs' bs' is' w' out' = h.result (ids_of ia il st count) fit in
       let y : Doing (handled e (length out) (doc_of r fs bs is w (ids_of ia il st count))) d (ids_of ia il st count) out fs' bs' is' w' out' = rw q at x.cases in
       record {
         frame_words = x.frame_words;

@@ -19,8 +19,7 @@ use Rattle.state.specs.declared.Registers.{Registers}
 use Rattle.state.specs.Meaning.{doc_of}
 use Rattle.state.specs.Valid.{Valid}
 use Rattle.event.specs.declared.Done.{Done}
-use Rattle.event.specs.declared.Outcome.{Outcome}
-use Rattle.event.specs.declared.Outcome.TheVariants.{Stop, Did}
+use Rattle.std.specs.Prelude.{Result, Ok, Err}
 
 -- ---- what the definitions answer
 
@@ -132,12 +131,12 @@ pub record Doing (a : Answer Step) (d : Done) (ids : List Bytes) (out fs' bs' is
   pub wrote : Wrote out out' 0 d.written (write step.0)
   pub means : Means d.registers fs' bs' is' w' ids step.1
 
-abbrev pub Cases : Answer Step → List Bytes → Outcome → List ℕ → List ℕ → List ℕ → List ℕ → List ℕ → List ℕ → List ℕ → List ℕ → List ℕ → List ℕ → Type 0
-Cases a ids (Stop n) fs bs is w out fs' bs' is' w' out' = Stopped a n fs bs is w out fs' bs' is' w' out'
-Cases a ids (Did d) fs bs is w out fs' bs' is' w' out' = Doing a d ids out fs' bs' is' w' out'
+abbrev pub Cases : Answer Step → List Bytes → Result Done Refusal → List ℕ → List ℕ → List ℕ → List ℕ → List ℕ → List ℕ → List ℕ → List ℕ → List ℕ → List ℕ → Type 0
+Cases a ids (Err n) fs bs is w out fs' bs' is' w' out' = Stopped a n fs bs is w out fs' bs' is' w' out'
+Cases a ids (Ok d) fs bs is w out fs' bs' is' w' out' = Doing a d ids out fs' bs' is' w' out'
 
 -- a: what the definitions answer; ids: the rdf:IDs behind the event
-pub record Result (a : Answer Step) (ids : List Bytes) (o : Outcome) (fs bs is w out fs' bs' is' w' out' : List ℕ) : Type 0 where
+pub record Answers (a : Answer Step) (ids : List Bytes) (o : Result Done Refusal) (fs bs is w out fs' bs' is' w' out' : List ℕ) : Type 0 where
   pub frame_words : length fs' ≡ length fs
   pub binding_words : length bs' ≡ length bs
   pub inner_words : length is' ≡ length is
@@ -145,7 +144,7 @@ pub record Result (a : Answer Step) (ids : List Bytes) (o : Outcome) (fs bs is w
   pub room : length out' ≡ length out
   pub cases : Cases a ids o fs bs is w out fs' bs' is' w' out'
 
-pub stopped : {a : Answer Step} {ids : List Bytes} {n : Refusal} {fs bs is w out : List ℕ} → a ≡ refuse n → Result a ids (Stop n) fs bs is w out fs bs is w out
+pub stopped : {a : Answer Step} {ids : List Bytes} {n : Refusal} {fs bs is w out : List ℕ} → a ≡ refuse n → Answers a ids (Err n) fs bs is w out fs bs is w out
 stopped e =
     record {
       frame_words = refl;
@@ -158,7 +157,7 @@ stopped e =
 
 -- a valid state's tables and store have their lengths
 pub done : {a : Answer Step} {ids : List Bytes} {d : Done} {r : Registers} {fs bs is w out fs' bs' is' w' out' : List ℕ}
-    → Valid r fs bs is w → length out' ≡ length out → Doing a d ids out fs' bs' is' w' out' → Result a ids (Did d) fs bs is w out fs' bs' is' w' out'
+    → Valid r fs bs is w → length out' ≡ length out → Doing a d ids out fs' bs' is' w' out' → Answers a ids (Ok d) fs bs is w out fs' bs' is' w' out'
 done v l h =
     let x = h.means.valid in
     record {
@@ -171,15 +170,15 @@ done v l h =
     }
 
 -- the same answer, said otherwise
-pub result_as : {a b : Answer Step} {ids : List Bytes} {o : Outcome} {fs bs is w out fs' bs' is' w' out' : List ℕ}
-    → Result a ids o fs bs is w out fs' bs' is' w' out' → a ≡ b → Result b ids o fs bs is w out fs' bs' is' w' out'
+pub result_as : {a b : Answer Step} {ids : List Bytes} {o : Result Done Refusal} {fs bs is w out fs' bs' is' w' out' : List ℕ}
+    → Answers a ids o fs bs is w out fs' bs' is' w' out' → a ≡ b → Answers b ids o fs bs is w out fs' bs' is' w' out'
 result_as r e = rw (← e) r
 
 -- ---- an event that enters no rdf:ID, handled in a state of an open document
 
 -- whatever the rdf:IDs so far
-pub record Handles (e : Event) (r : Registers) (o : Outcome) (fs bs is w out fs' bs' is' w' out' : List ℕ) : Type 0 where
-  pub result : (ids : List Bytes) → IdsFit ids → Result (handled e (length out) (doc_of r fs bs is w ids)) ids o fs bs is w out fs' bs' is' w' out'
+pub record Handles (e : Event) (r : Registers) (o : Result Done Refusal) (fs bs is w out fs' bs' is' w' out' : List ℕ) : Type 0 where
+  pub result : (ids : List Bytes) → IdsFit ids → Answers (handled e (length out) (doc_of r fs bs is w ids)) ids o fs bs is w out fs' bs' is' w' out'
 
 -- what a handler asks of the state
 pub record Asks (r : Registers) (fs bs is w : List ℕ) : Type 0 where

@@ -4,7 +4,6 @@
 ghost use Rattle.std.specs.Prelude.{◌≡◌};
 ghost use Rattle.event.specs.Place.{place_at, place_of};
 
-use spec::Refusal;
 use state::Registers;
 use state_words::{Frame, Kind};
 
@@ -15,13 +14,6 @@ pub struct Done {
     pub registers: Registers,
 }
 
-// An event is refused, and nothing lent has changed; or it is done.
-#[derive(Clone, Copy)]
-pub enum Outcome {
-    Stop(Refusal),
-    Did(Done),
-}
-
 // Of an accepted event that may have entered an rdf:ID: besides, the two numbers of the table of rdf:IDs.
 #[derive(Clone, Copy)]
 pub struct Advance {
@@ -29,12 +21,6 @@ pub struct Advance {
     pub registers: Registers,
     pub count: usize,
     pub used: usize,
-}
-
-#[derive(Clone, Copy)]
-pub enum Progress {
-    Stop(Refusal),
-    Did(Advance),
 }
 
 // What may stand where an event stands.

@@ -1,16 +1,15 @@
 -- What the arguments say: switches, and behind them files.
-use Rattle.std.specs.Prelude.{ℕ, suc, ◌≤◌, ◌<◌, ◌≡◌, refl, Bool, true, false, List, [], ◌∷◌, eqb, ltb}
+use Rattle.std.specs.Prelude.{ℕ, suc, ◌≡◌, refl, Bool, true, false, List, [], ◌∷◌, Option, Some, None}
+use Rattle.std.specs.Option.{is_some, option_or}
 use Rattle.std.proofs.Math.Path.{sym, ap}
-use Rattle.std.proofs.Common.{◌∙◌, arith, lt-ltb, le-ltb, eq-eqb, ne_eqb}
+use Rattle.std.proofs.Common.{◌∙◌, true≢false}
 use Rattle.spec.specs.declared.Mode.{Mode}
 use Rattle.spec.specs.Modes.{base_mode, xmp_mode}
 use Rattle.spec.specs.Bytes.{Bytes, ascii, when◌then◌else◌, same, begins}
 use Rattle.iceshaft.specs.declared.arguments.Chosen.{Chosen}
-use Rattle.iceshaft.specs.declared.arguments.Looked.{Looked}
-use Rattle.iceshaft.specs.declared.arguments.Looked.TheVariants.{On, Wrong}
 
 abbrev pub unsaid : Chosen
-unsaid = record { pyx = false; xmp = false; base = 0; file = 0; waits = false }
+unsaid = record { pyx = false; xmp = false; base = None; file = None; waits = false }
 
 abbrev pub with_pyx : Chosen → Chosen
 with_pyx c = record { pyx = true; xmp = c.xmp; base = c.base; file = c.file; waits = c.waits }
@@ -23,78 +22,78 @@ unfoldable pub chosen_mode : Chosen → Mode
 chosen_mode c = when c.xmp then xmp_mode else base_mode
 
 abbrev pub with_base : Chosen → ℕ → Chosen
-with_base c i = record { pyx = c.pyx; xmp = c.xmp; base = i; file = c.file; waits = false }
+with_base c i = record { pyx = c.pyx; xmp = c.xmp; base = Some i; file = c.file; waits = false }
 
 -- the first file stays
 abbrev pub with_file : Chosen → ℕ → Chosen
 with_file c i =
-    record { pyx = c.pyx; xmp = c.xmp; base = c.base; file = when eqb c.file 0 then i else c.file; waits = c.waits }
+    record { pyx = c.pyx; xmp = c.xmp; base = c.base; file = option_or c.file (Some i); waits = c.waits }
 
 -- a base is said once
-abbrev pub awaiting : Chosen → Looked
-awaiting c = when ltb 0 c.base then Wrong else On (record { pyx = c.pyx; xmp = c.xmp; base = c.base; file = c.file; waits = true })
+abbrev pub awaiting : Chosen → Option Chosen
+awaiting c = when is_some c.base then None else Some (record { pyx = c.pyx; xmp = c.xmp; base = c.base; file = c.file; waits = true })
 
 -- a word that begins with `-`
-unfoldable pub switched : Chosen → Bytes → Looked
+unfoldable pub switched : Chosen → Bytes → Option Chosen
 switched c s =
     when same s (ascii "--pyx")
-    then On (with_pyx c)
+    then Some (with_pyx c)
     else when same s (ascii "--xmp")
-    then On (with_xmp c)
-    else when same s (ascii "--base") then awaiting c else Wrong
+    then Some (with_xmp c)
+    else when same s (ascii "--base") then awaiting c else None
 
 -- argument i: the base that `--base` waits for, a file, or a switch; none stands behind a file
-unfoldable pub looked : Chosen → ℕ → Bytes → Looked
+unfoldable pub looked : Chosen → ℕ → Bytes → Option Chosen
 looked c i s =
     when c.waits
-    then On (with_base c i)
+    then Some (with_base c i)
     else when begins (ascii "-") s
-    then when ltb 0 c.file then Wrong else switched c s
-    else On (with_file c i)
+    then when is_some c.file then None else switched c s
+    else Some (with_file c i)
 
 -- behind the last argument: no base is waited for, and PYX was said
-abbrev pub Settled : Looked → Type 0
-Settled (On c) = (c.waits ≡ false) × (c.pyx ≡ true)
-Settled Wrong = Unit
+abbrev pub Settled : Option Chosen → Type 0
+Settled (Some c) = (c.waits ≡ false) × (c.pyx ≡ true)
+Settled None = Unit
 
 -- ---- all arguments, from number i on
 
-unfoldable pub looked_on : Looked → ℕ → Bytes → Looked
-looked_on (On c) i s = looked c i s
-looked_on Wrong i s = Wrong
+unfoldable pub looked_on : Option Chosen → ℕ → Bytes → Option Chosen
+looked_on (Some c) i s = looked c i s
+looked_on None i s = None
 
-unfoldable pub all_from : List Bytes → ℕ → Looked → Looked
+unfoldable pub all_from : List Bytes → ℕ → Option Chosen → Option Chosen
 all_from [] i l = l
 all_from (s ∷ rest) i l = all_from rest (suc i) (looked_on l i s)
 
-abbrev all : List Bytes → Looked
-all l = all_from l 1 (On unsaid)
+abbrev all : List Bytes → Option Chosen
+all l = all_from l 1 (Some unsaid)
 
 -- `iceshaft --pyx --base http://e/ a.pyx b.pyx`, and in another order
-said : all (ascii "--pyx" ∷ ascii "--base" ∷ ascii "http://e/" ∷ ascii "a.pyx" ∷ ascii "b.pyx" ∷ []) ≡ On (record { pyx = true; xmp = false; base = 3; file = 4; waits = false })
+said : all (ascii "--pyx" ∷ ascii "--base" ∷ ascii "http://e/" ∷ ascii "a.pyx" ∷ ascii "b.pyx" ∷ []) ≡ Some (record { pyx = true; xmp = false; base = Some 3; file = Some 4; waits = false })
 unfolding all_from looked_on looked switched when◌then◌else◌ same begins ascii
 said = refl
 
-other_order : all (ascii "--base" ∷ ascii "--pyx" ∷ ascii "--pyx" ∷ []) ≡ On (record { pyx = true; xmp = false; base = 2; file = 0; waits = false })
+other_order : all (ascii "--base" ∷ ascii "--pyx" ∷ ascii "--pyx" ∷ []) ≡ Some (record { pyx = true; xmp = false; base = Some 2; file = None; waits = false })
 unfolding all_from looked_on looked switched when◌then◌else◌ same begins ascii
 other_order = refl
 
 -- `iceshaft --pyx --xmp a.pyx`: packets
 packets : all (ascii "--pyx" ∷ ascii "--xmp" ∷ ascii "a.pyx" ∷ [])
-    ≡ On (record { pyx = true; xmp = true; base = 0; file = 3; waits = false })
+    ≡ Some (record { pyx = true; xmp = true; base = None; file = Some 3; waits = false })
 unfolding all_from looked_on looked switched when◌then◌else◌ same begins ascii
 packets = refl
 
 -- a switch behind a file, two bases, and one that is unknown
-late : all (ascii "--pyx" ∷ ascii "a.pyx" ∷ ascii "--base" ∷ ascii "http://e/" ∷ []) ≡ Wrong
+late : all (ascii "--pyx" ∷ ascii "a.pyx" ∷ ascii "--base" ∷ ascii "http://e/" ∷ []) ≡ None
 unfolding all_from looked_on looked switched when◌then◌else◌ same begins ascii
 late = refl
 
-two_bases : all (ascii "--base" ∷ ascii "http://e/" ∷ ascii "--base" ∷ ascii "http://f/" ∷ []) ≡ Wrong
+two_bases : all (ascii "--base" ∷ ascii "http://e/" ∷ ascii "--base" ∷ ascii "http://f/" ∷ []) ≡ None
 unfolding all_from looked_on looked switched when◌then◌else◌ same begins ascii
 two_bases = refl
 
-unknown : all (ascii "--pyx" ∷ ascii "-" ∷ []) ≡ Wrong
+unknown : all (ascii "--pyx" ∷ ascii "-" ∷ []) ≡ None
 unfolding all_from looked_on looked switched when◌then◌else◌ same begins ascii
 unknown = refl
 
@@ -108,20 +107,23 @@ on_false : {A : Type 0} (x y : A) {b : Bool} → b ≡ false → (when b then x 
 unfolding when◌then◌else◌
 on_false x y e = rw e
 
+kept : (o p : Option ℕ) → is_some o ≡ true → option_or o p ≡ o
+kept (Some n) p e = refl
+kept None p e = absurd (true≢false (sym e))
+
 -- Behind the first file every argument is a file, and says nothing more: the files are those from the first to the last argument.
-pub files_last : (c d : Chosen) (i : ℕ) (s : Bytes) → c.waits ≡ false → 0 < c.file → looked c i s ≡ On d → (begins (ascii "-") s ≡ false) × (d ≡ c)
+pub files_last : (c d : Chosen) (i : ℕ) (s : Bytes) → c.waits ≡ false → is_some c.file ≡ true → looked c i s ≡ Some d → (begins (ascii "-") s ≡ false) × (d ≡ c)
 unfolding looked
 files_last c d i s w f e = go (begins (ascii "-") s) refl
   where
     go : (b : Bool) → begins (ascii "-") s ≡ b → (begins (ascii "-") s ≡ false) × (d ≡ c)
     go true q =
-        let h : Wrong ≡ On d = sym (on_false _ _ w ∙ (on_true _ _ q ∙ on_true _ _ (lt-ltb 0 c.file f))) ∙ e in
-        let z : ◌≡◌ {A = ℕ} 0 1 = cc in absurd (omega arith)
+        let h : None ≡ Some d = sym (on_false _ _ w ∙ (on_true _ _ q ∙ on_true _ _ f)) ∙ e in
+        cc
     go false q =
-        let h : On (with_file c i) ≡ On d = sym (on_false _ _ w ∙ on_false _ _ q) ∙ e in
+        let h : Some (with_file c i) ≡ Some d = sym (on_false _ _ w ∙ on_false _ _ q) ∙ e in
         let same : with_file c i ≡ d = cc in
-        let kept : (when eqb c.file 0 then i else c.file) ≡ c.file = on_false _ _ (ne_eqb c.file 0 (λ z. omega (arith, z, f))) in
-        (q, sym same ∙ ap (λ n. record { pyx = c.pyx; xmp = c.xmp; base = c.base; file = n; waits = c.waits }) kept)
+        (q, sym same ∙ ap (λ o. record { pyx = c.pyx; xmp = c.xmp; base = c.base; file = o; waits = c.waits }) (kept c.file (Some i) f))
 
 -- ---- how the code comes to it
 
@@ -134,57 +136,48 @@ module _ (c : Chosen) where
   unfolding chosen_mode
   base_chosen h e = e ∙ sym (on_false _ _ h)
 
-  pub base_twice : 0 < c.base → Wrong ≡ awaiting c
-  base_twice h = sym (on_true _ _ (lt-ltb 0 c.base h))
+  pub base_twice : is_some c.base ≡ true → None ≡ awaiting c
+  base_twice h = sym (on_true _ _ h)
 
-  pub base_once : c.base ≤ 0
-      → On (record { pyx = c.pyx; xmp = c.xmp; base = c.base; file = c.file; waits = true }) ≡ awaiting c
-  base_once h = sym (on_false _ _ (le-ltb 0 c.base h))
+  pub base_once : is_some c.base ≡ false
+      → Some (record { pyx = c.pyx; xmp = c.xmp; base = c.base; file = c.file; waits = true }) ≡ awaiting c
+  base_once h = sym (on_false _ _ h)
 
   module _ (i : ℕ) where
-    abbrev numbered : ℕ → Chosen
-    numbered n = record { pyx = c.pyx; xmp = c.xmp; base = c.base; file = n; waits = c.waits }
-
-    pub first_file : c.file ≡ 0 → numbered i ≡ with_file c i
-    first_file h = ap numbered (sym (on_true _ _ (eq-eqb c.file 0 h)))
-
-    pub later_file : (c.file ≡ 0 → ⊥) → numbered c.file ≡ with_file c i
-    later_file h = ap numbered (sym (on_false _ _ (ne_eqb c.file 0 h)))
-
     module _ (s : Bytes) where
-      pub look_base : {n : Chosen} → c.waits ≡ true → n ≡ with_base c i → On n ≡ looked c i s
+      pub look_base : {n : Chosen} → c.waits ≡ true → n ≡ with_base c i → Some n ≡ looked c i s
       unfolding looked
-      look_base w e = ap On e ∙ sym (on_true _ _ w)
+      look_base w e = ap Some e ∙ sym (on_true _ _ w)
 
       module _ (w : c.waits ≡ false) where
-        pub look_file : {n : Chosen} → begins (ascii "-") s ≡ false → n ≡ with_file c i → On n ≡ looked c i s
+        pub look_file : {n : Chosen} → begins (ascii "-") s ≡ false → n ≡ with_file c i → Some n ≡ looked c i s
         unfolding looked
-        look_file b e = ap On e ∙ sym (on_false _ _ w ∙ on_false _ _ b)
+        look_file b e = ap Some e ∙ sym (on_false _ _ w ∙ on_false _ _ b)
 
         module _ (b : begins (ascii "-") s ≡ true) where
-          pub look_late : 0 < c.file → Wrong ≡ looked c i s
+          pub look_late : is_some c.file ≡ true → None ≡ looked c i s
           unfolding looked
-          look_late f = sym (on_false _ _ w ∙ (on_true _ _ b ∙ on_true _ _ (lt-ltb 0 c.file f)))
+          look_late f = sym (on_false _ _ w ∙ (on_true _ _ b ∙ on_true _ _ f))
 
-          module _ (f : c.file ≤ 0) where
+          module _ (f : is_some c.file ≡ false) where
             look_switch : switched c s ≡ looked c i s
             unfolding looked
-            look_switch = sym (on_false _ _ w ∙ (on_true _ _ b ∙ on_false _ _ (le-ltb 0 c.file f)))
+            look_switch = sym (on_false _ _ w ∙ (on_true _ _ b ∙ on_false _ _ f))
 
-            pub look_pyx : {n : Chosen} → same s (ascii "--pyx") ≡ true → n ≡ with_pyx c → On n ≡ looked c i s
+            pub look_pyx : {n : Chosen} → same s (ascii "--pyx") ≡ true → n ≡ with_pyx c → Some n ≡ looked c i s
             unfolding switched
-            look_pyx p e = ap On e ∙ (sym (on_true _ _ p) ∙ look_switch)
+            look_pyx p e = ap Some e ∙ (sym (on_true _ _ p) ∙ look_switch)
 
             module _ (p : same s (ascii "--pyx") ≡ false) where
-              pub look_xmp : {n : Chosen} → same s (ascii "--xmp") ≡ true → n ≡ with_xmp c → On n ≡ looked c i s
+              pub look_xmp : {n : Chosen} → same s (ascii "--xmp") ≡ true → n ≡ with_xmp c → Some n ≡ looked c i s
               unfolding switched
-              look_xmp x e = ap On e ∙ (sym (on_false _ _ p ∙ on_true _ _ x) ∙ look_switch)
+              look_xmp x e = ap Some e ∙ (sym (on_false _ _ p ∙ on_true _ _ x) ∙ look_switch)
 
-              pub look_awaits : {l : Looked} → same s (ascii "--xmp") ≡ false → same s (ascii "--base") ≡ true
+              pub look_awaits : {l : Option Chosen} → same s (ascii "--xmp") ≡ false → same s (ascii "--base") ≡ true
                   → l ≡ awaiting c → l ≡ looked c i s
               unfolding switched
               look_awaits x q e = e ∙ (sym (on_false _ _ p ∙ (on_false _ _ x ∙ on_true _ _ q)) ∙ look_switch)
 
-              pub look_unknown : same s (ascii "--xmp") ≡ false → same s (ascii "--base") ≡ false → Wrong ≡ looked c i s
+              pub look_unknown : same s (ascii "--xmp") ≡ false → same s (ascii "--base") ≡ false → None ≡ looked c i s
               unfolding switched
               look_unknown x q = sym (on_false _ _ p ∙ (on_false _ _ x ∙ on_false _ _ q)) ∙ look_switch

@@ -22,10 +22,10 @@ pub record Came (o : Outcome) : Type 0 where
 
 -- is the next document to be read? Not behind a write that failed, nor behind a start that is refused
 abbrev pub goes_on : How → Bool
-goes_on (Done n) = true
+goes_on (Done a) = true
 goes_on Unwritten = false
 goes_on Unread = true
-goes_on (Unstarted n) = false
+goes_on (Unstarted why) = false
 
 -- `a.pyx: refused 6 at event 12`
 unfoldable pub refusal_line : Bytes → ℕ → ℕ → Bytes

@@ -5,21 +5,14 @@ ghost use Rattle.iceshaft.specs.Arguments.{unsaid, with_pyx, with_xmp, chosen_mo
 use spec::Mode;
 
 // What the arguments say so far: that the input is PYX, and that it is XMP packets; which of them is the base and which the
-// first file, 0 for none; and whether the next one is to be the base.
-#[derive(Clone, Copy)]
+// first file, where there is one; and whether the next one is to be the base.
+#[derive(Clone, Copy, Debug, PartialEq, Eq)]
 pub struct Chosen {
     pub pyx: bool,
     pub xmp: bool,
-    pub base: usize,
-    pub file: usize,
+    pub base: Option<usize>,
+    pub file: Option<usize>,
     pub waits: bool,
-}
-
-// Behind an argument: what is said now; or it is wrong where it stands.
-#[derive(Clone, Copy)]
-pub enum Looked {
-    On(Chosen),
-    Wrong,
 }
 
 impl Chosen {
@@ -32,35 +25,35 @@ impl Chosen {
         Chosen {
             pyx: false,
             xmp: false,
-            base: 0,
-            file: 0,
+            base: None,
+            file: None,
             waits: false,
         }
     }
 
-    // By argument `i`. Switches stand before the files.
-    pub fn look(self, i: usize, word: &[u8]) -> Looked
+    // What is said behind argument `i`, unless it is wrong where it stands. Switches stand before the files.
+    pub fn look(self, i: usize, word: &[u8]) -> Option<Self>
         ensures { result ≡ looked self i word.now }
     {
         if self.waits {
-            return Looked::On(self.with_base(i));
+            return Some(self.with_base(i));
         }
         if !copy::begins(word, b"-") {
-            return Looked::On(self.with_file(i));
+            return Some(self.with_file(i));
         }
-        if self.file > 0 {
-            return Looked::Wrong;
+        if self.file.is_some() {
+            return None;
         }
         if copy::equal(word, b"--pyx") {
-            return Looked::On(self.with_pyx());
+            return Some(self.with_pyx());
         }
         if copy::equal(word, b"--xmp") {
-            return Looked::On(self.with_xmp());
+            return Some(self.with_xmp());
         }
         if copy::equal(word, b"--base") {
             return self.awaiting();
         }
-        Looked::Wrong
+        None
     }
 
     fn with_pyx(mut self) -> Self
@@ -85,20 +78,20 @@ impl Chosen {
     }
 
     // A base is said once.
-    fn awaiting(mut self) -> Looked
+    fn awaiting(mut self) -> Option<Self>
         ensures { result ≡ awaiting self }
     {
-        if self.base > 0 {
-            return Looked::Wrong;
+        if self.base.is_some() {
+            return None;
         }
         self.waits = true;
-        Looked::On(self)
+        Some(self)
     }
 
     fn with_base(mut self, i: usize) -> Self
         ensures { result ≡ with_base self i }
     {
-        self.base = i;
+        self.base = Some(i);
         self.waits = false;
         self
     }
@@ -107,9 +100,7 @@ impl Chosen {
     fn with_file(mut self, i: usize) -> Self
         ensures { result ≡ with_file self i }
     {
-        if self.file == 0 {
-            self.file = i;
-        }
+        self.file = self.file.or(Some(i));
         self
     }
 }

@@ -8,7 +8,7 @@ ghost use Rattle.iceshaft.specs.Arguments.{Settled};
 mod arguments;
 mod telling;
 
-use arguments::{Chosen, Looked};
+use arguments::Chosen;
 use convert::How;
 use spec::Mode;
 use std::env::{Env, FillError};
@@ -24,73 +24,66 @@ const EILSEQ: i32 = 84;
 fn main(rt: HostRuntime) {
     let count = streams::argument_count(&rt);
     let stderr = rt.stderr();
-    let settled = choose(&rt, stderr, count);
-    match settled {
-        Looked::On(chosen) => {
-            let mut target = Stream::over(rt.stdout());
-            convert_all(&rt, rt.stdin(), &mut target, stderr, chosen, count);
-        }
-        Looked::Wrong => return,
+    if let Some(chosen) = choose(&rt, stderr, count) {
+        let mut target = Stream::over(rt.stdout());
+        convert_all(&rt, rt.stdin(), &mut target, stderr, chosen, count);
     }
 }
 
 // What all arguments say; or one of them is wrong, and that is told.
-fn choose<E: Env>(env: &E, stderr: Stderr, count: usize) -> Looked
+fn choose<E: Env>(env: &E, stderr: Stderr, count: usize) -> Option<Chosen>
     ensures { Settled result }
 {
     let mut word = [0u8; Chosen::MOST];
     let mut chosen = Chosen::none();
-    let mut i = 1;
-    while i < count {
-        let looked = look_at(env, stderr, chosen, i, &mut word);
-        match looked {
-            Looked::On(next) => chosen = next,
-            Looked::Wrong => return Looked::Wrong,
-        }
-        i += 1;
+    for i in 1..count {
+        chosen = look_at(env, stderr, chosen, i, &mut word)?;
     }
     settle(stderr, chosen)
 }
 
 // Argument `i`, by way of `word`; one that is wrong is told.
-fn look_at<E: Env>(env: &E, stderr: Stderr, chosen: Chosen, i: usize, word: &mut [u8]) -> Looked
+fn look_at<E: Env>(
+    env: &E,
+    stderr: Stderr,
+    chosen: Chosen,
+    i: usize,
+    word: &mut [u8],
+) -> Option<Chosen>
     requires { length word.old ≤ 4_096 }
 {
     let n = match env.arg(i, word) {
         Ok(n) => n,
         Err(FillError::TooLong) => {
             telling::tell_long(stderr, i);
-            return Looked::Wrong;
+            return None;
         }
         Err(FillError::NotPresent) => 0,
     };
     let looked = chosen.look(i, &word[..n]);
-    match looked {
-        Looked::On(next) => Looked::On(next),
-        Looked::Wrong => {
-            streams::keep_to_line(word);
-            telling::tell_unknown(stderr, &word[..n]);
-            Looked::Wrong
-        }
+    if looked.is_none() {
+        streams::keep_to_line(word);
+        telling::tell_unknown(stderr, &word[..n]);
     }
+    looked
 }
 
 // Behind the last argument: a base was said whole, and PYX is what is read.
-fn settle(stderr: Stderr, chosen: Chosen) -> Looked
+fn settle(stderr: Stderr, chosen: Chosen) -> Option<Chosen>
     ensures { Settled result }
 {
     if chosen.waits {
         telling::tell_line(stderr, b"iceshaft: --base without an IRI\n");
-        return Looked::Wrong;
+        return None;
     }
     if !chosen.pyx {
         telling::tell_line(
             stderr,
             b"iceshaft: --pyx is missing: PYX is all that it reads\n",
         );
-        return Looked::Wrong;
+        return None;
     }
-    Looked::On(chosen)
+    Some(chosen)
 }
 
 // Argument `i` to the front of `word`: its length, 0 where there is none or it has no room.
@@ -100,7 +93,7 @@ fn argument<E: Env>(env: &E, i: usize, word: &mut [u8]) -> usize
     env.arg(i, word).unwrap_or(0)
 }
 
-// The files, or standard input where there are none, all in the same mode and with the same base. Argument 0 is the program's name, and no base.
+// The files, or standard input where there are none, all in the same mode and with the same base.
 fn convert_all<R: Env + Files>(
     rt: &R,
     stdin: Stdin,
@@ -110,14 +103,17 @@ fn convert_all<R: Env + Files>(
     count: usize,
 ) {
     let mut base = [0u8; Chosen::MOST];
-    let based = chosen.base > 0;
-    let n = argument(rt, chosen.base, &mut base);
-    if chosen.file > 0 {
+    let based = chosen.base.is_some();
+    let n = match chosen.base {
+        Some(i) => argument(rt, i, &mut base),
+        None => 0,
+    };
+    if let Some(first) = chosen.file {
         convert_files(
             rt,
             target,
             stderr,
-            chosen.file,
+            first,
             count,
             chosen.mode(),
             based,
@@ -149,12 +145,10 @@ fn convert_files<R: Env + Files>(
     base: &[u8],
 ) {
     let mut name = [0u8; Chosen::MOST];
-    let mut i = first;
-    while i < count {
+    for i in first..count {
         if !convert_file(rt, target, stderr, i, &mut name, mode, based, base) {
             return;
         }
-        i += 1;
     }
 }
 

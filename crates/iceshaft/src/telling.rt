@@ -4,6 +4,7 @@ ghost use Rattle.copy.specs.Copy.{Wrote};
 ghost use Rattle.iceshaft.specs.Telling.{Came, goes_on, refusal_line, start_line, unknown_line, long_line};
 
 use convert::{How, Outcome};
+use spec::Refusal;
 use std::io::Stderr;
 
 // Room for a name, and what is said of it.
@@ -30,23 +31,22 @@ pub fn tell(stderr: Stderr, errno: i32, name: &[u8], outcome: Outcome)
     let bytes = outcome.bytes;
     let how = outcome.how;
     match how {
-        How::Done(number) => tell_refused(stderr, name, number, event),
+        How::Done(answer) => tell_refused(stderr, name, answer, event),
         How::Unwritten => tell_failed(stderr, errno, name, b": write failed", event - 1, bytes),
         How::Unread => tell_failed(stderr, errno, name, b": read failed", event - 1, bytes),
-        How::Unstarted(number) => tell_unstarted(stderr, number),
+        How::Unstarted(why) => tell_unstarted(stderr, why),
     }
 }
 
 // A refusal, if there is one.
-fn tell_refused(stderr: Stderr, name: &[u8], number: u8, event: usize)
+fn tell_refused(stderr: Stderr, name: &[u8], answer: Result<(), Refusal>, event: usize)
     requires { length name.now ≤ 4_096 }
 {
-    if number == 0 {
-        return;
+    if let Err(why) = answer {
+        let mut line = [0u8; LINE];
+        let n = refusal_line(&mut line, name, u8::from(why), event);
+        tell_line(stderr, &line[..n]);
     }
-    let mut line = [0u8; LINE];
-    let n = refusal_line(&mut line, name, number, event);
-    tell_line(stderr, &line[..n]);
 }
 
 fn refusal_line(line: &mut [u8], name: &[u8], number: u8, event: usize) -> usize
@@ -61,9 +61,9 @@ fn refusal_line(line: &mut [u8], name: &[u8], number: u8, event: usize) -> usize
 }
 
 // A start base that is none.
-fn tell_unstarted(stderr: Stderr, number: u8) {
+fn tell_unstarted(stderr: Stderr, why: Refusal) {
     let mut line = [0u8; LINE];
-    let n = start_line(&mut line, number);
+    let n = start_line(&mut line, u8::from(why));
     tell_line(stderr, &line[..n]);
 }
 

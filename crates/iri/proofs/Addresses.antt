@@ -9,12 +9,10 @@ use lib.Dec.{eqb, leb}
 use lib.ListN.{length}
 use borrow.Author.Tests.{eq-eqb, ne_eqb, eqb-true, eqb-false, le-leb, leb-true, not-true}
 use Rattle.spec.specs.Bytes.{Bytes, ascii, begins, when◌then◌else◌, up_to, from, every}
-use Rattle.spec.specs.Bytes as B
 use Rattle.spec.specs.Grammar.{Grammar, empty, ◌then◌, null}
 use Rattle.spec.specs.Abnf.{optional, word, times, at_most}
 use Rattle.spec.specs.Rfc3987.{h16, h16s, ls32, up_to_h16s, IPv4address, IPv6address}
 use Rattle.spec.specs.Rfc3987 as R
-use Rattle.copy.specs.Texts.{begins_true}
 use Rattle.spec.proofs.Booleans.{and_left, and_right, and_both, or_cases}
 use Rattle.iri.specs.Parts.{of}
 use Rattle.iri.specs.Addresses.{groups, Counted, up_to_gap, from_gap}
@@ -315,16 +313,6 @@ up_to_from_gap (c ∷ s) = by (begins (ascii "::") (c ∷ s)) (up_to_from_gap s)
     by : (t : Bool) → up_to_gap s ++ from_gap s ≡ s → (when t then [] else (c ∷ up_to_gap s)) ++ (when t then (c ∷ s) else from_gap s) ≡ c ∷ s
     by true h = refl
     by false h = ap (◌∷◌ c) h
-
-pub from_gap-shape : (s : Bytes) → (from_gap s ≡ []) ⊎ ((t : Bytes) × (from_gap s ≡ 58 ∷ 58 ∷ t))
-unfolding from_gap ascii when◌then◌else◌
-from_gap-shape [] = inl refl
-from_gap-shape (c ∷ s) = by (begins (58 ∷ 58 ∷ []) (c ∷ s)) refl (from_gap-shape s)
-  where
-    by : (t : Bool) → begins (58 ∷ 58 ∷ []) (c ∷ s) ≡ t → (from_gap s ≡ []) ⊎ ((t : Bytes) × (from_gap s ≡ 58 ∷ 58 ∷ t))
-        → ((when t then (c ∷ s) else from_gap s) ≡ []) ⊎ ((u : Bytes) × ((when t then (c ∷ s) else from_gap s) ≡ 58 ∷ 58 ∷ u))
-    by true e h = inr (B.after (58 ∷ 58 ∷ []) (c ∷ s), begins_true (58 ∷ 58 ∷ []) (c ∷ s) e)
-    by false e h = h
 
 module _ (s w : Bytes) {x y : ℕ} (e : from_gap s ≡ 58 ∷ 58 ∷ w) (l : Counted false (up_to_gap s) x) (r : Counted true w y) where
   counts : Gapped s → x + y ≤ 7

@@ -1,15 +1,14 @@
 -- The laws of the grammar in the shape of the code: a delimiter is found, the pieces on its sides are checked.
 use mathlib.Core.Path.{◌≡◌, refl, sym, ap, ◌∙◌}
-use mathlib.Core.Logic.{◌⊎◌, inl, inr}
-use mathlib.Core.Bool.{Bool, true, false, ◌&&◌, ◌||◌, and-false, and-true, false≢true}
+use mathlib.Core.Bool.{Bool, true, false, not, ◌&&◌, ◌||◌, and-false, and-true, false≢true}
 use mathlib.Core.List.{[], ◌∷◌}
-use Prim.Native.Nat.{ℕ, suc, ◌+◌, ◌<◌, ◌≤◌}
+use Prim.Native.Nat.{ℕ, ◌+◌, ◌<◌, ◌≤◌}
 use native.Mathlib.Omega.{arith}
-use native.Mathlib.Numerals.{add-one}
 use lib.Dec.{eqb, leb}
-use lib.ListN.{length, take, drop, get_or, length-append, drop_of_length-le}
-use lib.Seq.{take-append_seam, drop-append_seam, drop-drop}
-use borrow.Author.Tests.{eq-eqb, ne_eqb, eqb-true, eqb-false}
+use lib.ListN.{length, take, drop, get_or}
+use borrow.Author.Tests.{lt-leb, eq-eqb, ne_eqb, eqb-true, eqb-false}
+use Rattle.std.specs.Prelude.{Option, Some, None, MatchOption}
+use Rattle.std.specs.Option.{option_eq}
 use Rattle.spec.specs.Bytes.{Bytes, ascii, begins, up_to, from, every, is_empty, when◌then◌else◌}
 use Rattle.spec.specs.Bytes as B
 use Rattle.spec.specs.Grammar.{◌then◌, many, null}
@@ -21,42 +20,45 @@ use Rattle.iri.specs.declared.Part.{Part}
 use Rattle.iri.specs.declared.Part.TheVariants.{Scheme, Port, Hex, Later, UserInfo, Name, Path, Query, Fragment}
 use Rattle.iri.specs.Parts.{of, grammar, class_of, row, is_alpha}
 use Rattle.iri.specs.Parts as P
-use Rattle.iri.specs.Forms.{is_mark, optionally, query, fragment, portal, part_of, rest_of, network, server, literal, bracketed, later, version, pathchar, colonless}
-use Rattle.iri.proofs.Languages.{same_test, is, of_some, of_nil, of_or, cut-mark, cut_end, cut-take, cut-drop, of_optional_none, of_optional-some, optional-marked, marked-head, of_in, Marked, end, mark, of_mark}
+use Rattle.iri.specs.Forms.{Cut, is_mark, optionally, query, fragment, portal, part_of, rest_of, network, server, literal, bracketed, later, version, pathchar, colonless}
+use Rattle.iri.proofs.Languages.{same_test, is, of_some, of_nil, of_or, cut-take, cut-drop, of_optional_none, of_optional-some, optional-marked, marked-head, of_in, Marked, end, mark, of_mark}
 use Rattle.iri.proofs.Components.{iri_cut, fragment-cut, query-cut, hier_shuns-query, hier_shuns-fragment, relative_shuns-query, relative_shuns-fragment, network-cut, hier_network, relative_network, authority_user, authority_server}
 use Rattle.iri.proofs.Hosts.{server-literal, bracketed-cut, close-portal, close_none, server-name, future_cons, future_nil, version-cut, later-some, later_none}
 use Rattle.iri.proofs.Paths.{abempty_path, hier_slash, hier_plain, hier_nil, relative_slash, relative_plain, relative_nil}
 use Rattle.iri.proofs.Rows.{row_hex, row_user, row-name, row_path, scheme_cons, scheme-nil}
-use Rattle.iri.specs.Addresses.{Counted, up_to_gap, from_gap}
-use Rattle.iri.proofs.Addresses.{up_to_from_gap, from_gap-shape, address_whole, address_gap}
+use Rattle.iri.specs.Addresses.{Counted, Gap, from_gap}
+use Rattle.iri.proofs.Addresses.{address_whole, address_gap}
 use Rattle.iri.proofs.Octets.{group_few}
+
+-- ---- the answers of `a && b` and `a || b`, by that of a
+
+module _ {w a x : Bool} (b : Bool) where
+  pub and-first : w ≡ (a && b) → x ≡ a → x ≡ false → x ≡ w
+  and-first h e n = n ∙ sym (h ∙ rw (sym e ∙ n))
+
+  pub and-second : {r : Bool} → w ≡ (a && b) → x ≡ a → x ≡ true → r ≡ b → r ≡ w
+  and-second h e y q = q ∙ sym (h ∙ rw (sym e ∙ y))
+
+  pub or-first : w ≡ (a || b) → x ≡ a → x ≡ true → x ≡ w
+  or-first h e y = y ∙ sym (h ∙ rw (sym e ∙ y))
+
+  pub or-second : {r : Bool} → w ≡ (a || b) → x ≡ a → x ≡ false → r ≡ b → r ≡ w
+  or-second h e n q = q ∙ sym (h ∙ rw (sym e ∙ n))
 
 -- ---- a test that is one of what stands before the mark, and one of what stands from it on
 
-module _ (d : ℕ) (whole first second : Bytes → Bool) (s : Bytes) {n : ℕ} (e : n ≡ length (up_to (is d) s))
-    (law : whole s ≡ (first (up_to (is d) s) && second (from (is d) s))) where
-  sides : whole s ≡ (first (take n s) && second (drop n s))
-  sides = law ∙ rw (cut-take d s e, cut-drop d s e)
+module _ (d : ℕ) (whole first second : Bytes → Bool) (s : Bytes) (law : whole s ≡ (first (up_to (is d) s) && second (from (is d) s))) where
+  -- the text is split at the mark
+  split : {n : ℕ} {a b : Bytes} → n ≡ length (up_to (is d) s) → a ≡ take n s → b ≡ drop n s → whole s ≡ (first a && second b)
+  split e f g = law ∙ rw (cut-take d s e, cut-drop d s e, f, g)
 
-  pub first_fails : first (take n s) ≡ false → false ≡ whole s
-  first_fails h = sym (sides ∙ rw h)
+  -- the mark is passed over
+  passed : {a b : Bytes} → Cut d s a b → (rest : Bytes → Bool) → ((t : Bytes) → second (d ∷ t) ≡ rest t) → whole s ≡ (first a && rest b)
+  passed {a} {b} c rest f = law ∙ rw (c.front, c.back, f b)
 
-  pub first_passes : {r : Bool} → first (take n s) ≡ true → r ≡ second (drop n s) → r ≡ whole s
-  first_passes h q = q ∙ sym (sides ∙ rw h)
-
-  pub second_fails : second (drop n s) ≡ false → false ≡ whole s
-  second_fails h = sym (sides ∙ rw h (and-false (first (take n s))))
-
-  pub second_passes : {r : Bool} → second (drop n s) ≡ true → r ≡ first (take n s) → r ≡ whole s
-  second_passes h q = q ∙ sym (sides ∙ rw h (and-true (first (take n s))))
-
-  -- the mark is needed
-  pub no_mark : second [] ≡ false → length s ≤ n → false ≡ whole s
-  no_mark h l = sym (law ∙ rw (cut_end d s e l, h) (and-false (first (up_to (is d) s))))
-
-  -- it is passed over
-  pub past-mark : (rest : Bytes → Bool) → ((t : Bytes) → second (d ∷ t) ≡ rest t) → {r : Bool} → n < length s → first (take n s) ≡ true → r ≡ rest (drop (n + 1) s) → r ≡ whole s
-  past-mark rest f l h q = q ∙ sym (law ∙ rw (cut-mark d s e l, f (drop (suc n) s), cut-take d s e, h, add-one n))
+  -- it is needed
+  uncut : from (is d) s ≡ [] → second [] ≡ false → false ≡ whole s
+  uncut e h = sym (law ∙ rw (e, h) (and-false (first (up_to (is d) s))))
 
 -- ---- rows
 
@@ -127,78 +129,50 @@ pub future_version : (s : Bytes) → 0 < length s → lower (get_or s 0 0) ≡ 1
 future_version [] l e = absurd (omega arith)
 future_version (c ∷ s) l e = sym (future_cons c s ∙ rw (eq-eqb (lower c) 118 e))
 
-module _ (s : Bytes) {n : ℕ} (e : n ≡ length (up_to (is 46) s)) where
+module _ (s : Bytes) where
   abbrev dot : Bytes → Bool
   dot = of (word "." then some later)
 
-  pub version_none : length s ≤ n → false ≡ of version s
-  version_none l = no_mark 46 (of version) (of (some HEXDIG)) dot s e (version-cut s) later_none l
+  pub version_none : from (is 46) s ≡ [] → false ≡ of version s
+  version_none e = uncut 46 (of version) (of (some HEXDIG)) dot s (version-cut s) e later_none
 
-  pub version_bad : of (some (grammar (class_of Hex))) (take n s) ≡ false → false ≡ of version s
+  pub version_law : {a b : Bytes} → Cut 46 s a b → of version s ≡ (of (some (grammar (class_of Hex))) a && of (some (grammar (class_of Later))) b)
   unfolding grammar P.all R.all
-  version_bad h = first_fails 46 (of version) (of (some HEXDIG)) dot s e (version-cut s) h
-
-  pub version_good : {r : Bool} → n < length s → of (some (grammar (class_of Hex))) (take n s) ≡ true → r ≡ of (some (grammar (class_of Later))) (drop (n + 1) s) → r ≡ of version s
-  unfolding grammar P.all R.all
-  version_good l h q = past-mark 46 (of version) (of (some HEXDIG)) dot s e (version-cut s) (of (some later)) later-some l h q
+  version_law c = passed 46 (of version) (of (some HEXDIG)) dot s (version-cut s) c (of (some later)) later-some
 
 -- ---- hosts
 
-pub literal_address : (s : Bytes) → of IPv6address s ≡ true → true ≡ of literal s
-literal_address s h = sym (of_or IPv6address IPvFuture s ∙ rw h)
+pub literal_law : (s : Bytes) → of literal s ≡ (of IPv6address s || of IPvFuture s)
+literal_law s = of_or IPv6address IPvFuture s
 
-pub literal_future : (s : Bytes) → of IPv6address s ≡ false → of IPvFuture s ≡ of literal s
-literal_future s h = sym (of_or IPv6address IPvFuture s ∙ rw h)
+-- eight groups, or those on both sides of the first "::"
+pub eight_law : (s : Bytes) → from_gap s ≡ [] → (o : Option ℕ) → MatchOption o (Counted true s 9) (λ r. Counted true s r) → option_eq eqb o (Some 8) ≡ of IPv6address s
+eight_law s e None h = sym (address_whole s e ∙ h.each 8 (omega arith))
+eight_law s e (Some r) h = same_test (eqb r 8) (eqb 8 r) (λ q. eq-eqb 8 r (sym (eqb-true r 8 q))) (λ q. eq-eqb r 8 (sym (eqb-true 8 r q))) ∙ sym (address_whole s e ∙ h.each 8 (omega arith))
 
--- the first "::", after n bytes
-module _ (s : Bytes) {n : ℕ} (e : n ≡ length (up_to_gap s)) where
-  gap_length : n + length (from_gap s) ≡ length s
-  gap_length = rw e (sym (length-append (up_to_gap s) (from_gap s)) ∙ ap length (up_to_from_gap s))
+pub counted : {v : Bool} {s : Bytes} (o : Option ℕ) → MatchOption o (Counted v s 9) (λ r. Counted v s r) → (r : ℕ) × Counted v s r
+counted None h = (9, h)
+counted (Some r) h = (r, h)
 
-  pub gap_within : n ≤ length s
-  gap_within = omega (arith, gap_length)
+pub gap_law : {x y : ℕ} (s : Bytes) {a b : Bytes} → Gap s a b → Counted false a x → Counted true b y → leb (x + y) 7 ≡ of IPv6address s
+gap_law {x} {y} s {a} {b} g l r = sym (address_gap s b {x = x} {y = y} g.back (rw g.front l) r)
 
-  gap_take : up_to_gap s ≡ take n s
-  gap_take = sym (take-append_seam (up_to_gap s) (from_gap s)) ∙ rw (up_to_from_gap s, e)
-
-  gap_drop : from_gap s ≡ drop n s
-  gap_drop = sym (drop-append_seam (up_to_gap s) (from_gap s)) ∙ rw (up_to_from_gap s, e)
-
-  pub gap_none : {r : ℕ} → length s ≤ n → Counted true s r → eqb r 8 ≡ of IPv6address s
-  gap_none {r} l h = same_test (eqb r 8) (eqb 8 r) (λ q. eq-eqb 8 r (sym (eqb-true r 8 q))) (λ q. eq-eqb r 8 (sym (eqb-true 8 r q))) ∙ sym (address_whole s (gap_drop ∙ drop_of_length-le s l) ∙ h.each 8 (omega arith))
-
-  gap_shape : n < length s → (t : Bytes) × (from_gap s ≡ 58 ∷ 58 ∷ t)
-  gap_shape l = by (from_gap-shape s)
-    where
-      by : (from_gap s ≡ []) ⊎ ((t : Bytes) × (from_gap s ≡ 58 ∷ 58 ∷ t)) → (t : Bytes) × (from_gap s ≡ 58 ∷ 58 ∷ t)
-      by (inl q) = absurd (omega (arith, gap_length, ap length q))
-      by (inr q) = q
-
-  pub gap_room : n < length s → n + 2 ≤ length s
-  gap_room l = let q = gap_shape l in omega (arith, gap_length, ap length q.1)
-
-  pub gap_some : {x y : ℕ} → n < length s → Counted false (take n s) x → Counted true (drop (n + 2) s) y → leb (x + y) 7 ≡ of IPv6address s
-  gap_some {x} {y} l a b =
-      let q = gap_shape l in
-      let t : q.0 ≡ drop (n + 2) s = ap (drop 2) (sym q.1 ∙ gap_drop) ∙ drop-drop 2 n s in
-      sym (address_gap s q.0 {x = x} {y = y} q.1 (rw gap_take a) (rw t b))
+pub gap_over : {x y : ℕ} (s : Bytes) {a b : Bytes} → Gap s a b → Counted false a x → Counted true b y → 7 < x + y → false ≡ of IPv6address s
+gap_over {x} {y} s g l r h = sym (lt-leb (x + y) 7 h) ∙ gap_law s g l r
 
 optional-port : optionally 58 Port ≡ portal
 unfolding row grammar P.all R.all
 optional-port = refl
 
-module _ (s : Bytes) {n : ℕ} (e : n ≡ length (up_to (is 93) s)) where
+module _ (s : Bytes) where
   abbrev close : Bytes → Bool
   close = of (word "]" then portal)
 
-  pub bracketed_none : length s ≤ n → false ≡ of bracketed s
-  bracketed_none l = no_mark 93 (of bracketed) (of literal) close s e (bracketed-cut s) close_none l
+  pub bracketed_none : from (is 93) s ≡ [] → false ≡ of bracketed s
+  bracketed_none e = uncut 93 (of bracketed) (of literal) close s (bracketed-cut s) e close_none
 
-  pub bracketed_bad : of literal (take n s) ≡ false → false ≡ of bracketed s
-  bracketed_bad h = first_fails 93 (of bracketed) (of literal) close s e (bracketed-cut s) h
-
-  pub bracketed_good : {r : Bool} → n < length s → of literal (take n s) ≡ true → r ≡ of (optionally 58 Port) (drop (n + 1) s) → r ≡ of bracketed s
-  bracketed_good l h q = past-mark 93 (of bracketed) (of literal) close s e (bracketed-cut s) (of portal) close-portal l h (rw optional-port at q)
+  pub bracketed_law : {a b : Bytes} → Cut 93 s a b → of bracketed s ≡ (of literal a && of (optionally 58 Port) b)
+  bracketed_law c = rw optional-port (passed 93 (of bracketed) (of literal) close s (bracketed-cut s) c (of portal) close-portal)
 
 -- "[" in front, or not
 starts : (s : Bytes) → begins (ascii "[") s ≡ true → s ≡ 91 ∷ drop 1 s
@@ -212,27 +186,17 @@ no_bracket : (s : Bytes) → begins (ascii "[") s ≡ false → (t : Bytes) → 
 unfolding ascii begins
 no_bracket s h t e = false≢true (sym h ∙ rw e)
 
-module _ (s : Bytes) {n : ℕ} (b : begins (ascii "[") s ≡ false) (e : n ≡ length (up_to (is 58) s)) where
-  pub server_bad : of (row Name) (take n s) ≡ false → false ≡ of server s
-  server_bad h = first_fails 58 (of server) (of R.ireg_name) (of portal) s e (server-name s (no_bracket s b)) (rw row-name at h)
-
-  pub server_good : {r : Bool} → of (row Name) (take n s) ≡ true → r ≡ of (optionally 58 Port) (drop n s) → r ≡ of server s
-  server_good h q = first_passes 58 (of server) (of R.ireg_name) (of portal) s e (server-name s (no_bracket s b)) (rw row-name at h) (rw optional-port at q)
+pub server_law : (s : Bytes) {a b : Bytes} {n : ℕ} → begins (ascii "[") s ≡ false → n ≡ length (up_to (is 58) s) → a ≡ take n s → b ≡ drop n s
+    → of server s ≡ (of (row Name) a && of (optionally 58 Port) b)
+server_law s h = rw (row-name, optional-port) (split 58 (of server) (of R.ireg_name) (of portal) s (server-name s (no_bracket s h)))
 
 -- ---- the authority, and the path behind it
 
-module _ (s : Bytes) {n : ℕ} (e : n ≡ length (up_to (is 64) s)) where
-  pub authority_none : length s ≤ n → of server s ≡ of iauthority s
-  authority_none l = sym (authority_server s (cut_end 64 s e l))
+pub authority_none : (s : Bytes) → from (is 64) s ≡ [] → of server s ≡ of iauthority s
+authority_none s e = sym (authority_server s e)
 
-  user_law : n < length s → of iauthority s ≡ (of (row UserInfo) (take n s) && of server (drop (n + 1) s))
-  user_law l = authority_user s (cut-mark 64 s e l) ∙ rw (row_user, cut-take 64 s e, add-one n)
-
-  pub authority_bad : n < length s → of (row UserInfo) (take n s) ≡ false → false ≡ of iauthority s
-  authority_bad l h = sym (user_law l ∙ rw h)
-
-  pub authority_good : {r : Bool} → n < length s → of (row UserInfo) (take n s) ≡ true → r ≡ of server (drop (n + 1) s) → r ≡ of iauthority s
-  authority_good l h q = q ∙ sym (user_law l ∙ rw h)
+pub authority_law : (s : Bytes) {a b : Bytes} → Cut 64 s a b → of iauthority s ≡ (of (row UserInfo) a && of server b)
+authority_law s c = authority_user s c.back ∙ rw (row_user, c.front)
 
 from-marked : (d : ℕ) (s : Bytes) → Marked d (from (is d) s)
 unfolding from when◌then◌else◌
@@ -243,15 +207,9 @@ from-marked d (a ∷ s) = by (eqb a d) refl (from-marked d s)
     by true e m = rw (eqb-true a d e) (mark s)
     by false e m = m
 
-network_law : (s : Bytes) → of network s ≡ (of iauthority (up_to (is 47) s) && of (row Path) (from (is 47) s))
-network_law s = network-cut s ∙ rw (abempty_path (from (is 47) s) (from-marked 47 s), row_path)
-
-module _ (s : Bytes) {n : ℕ} (e : n ≡ length (up_to (is 47) s)) where
-  pub network_bad : of iauthority (take n s) ≡ false → false ≡ of network s
-  network_bad h = first_fails 47 (of network) (of iauthority) (of (row Path)) s e (network_law s) h
-
-  pub network_good : {r : Bool} → of iauthority (take n s) ≡ true → r ≡ of (row Path) (drop n s) → r ≡ of network s
-  network_good h q = first_passes 47 (of network) (of iauthority) (of (row Path)) s e (network_law s) h q
+pub network_law : (s : Bytes) {a b : Bytes} {n : ℕ} → n ≡ length (up_to (is 47) s) → a ≡ take n s → b ≡ drop n s → of network s ≡ (of iauthority a && of (row Path) b)
+network_law s =
+    split 47 (of network) (of iauthority) (of (row Path)) s (network-cut s ∙ rw (abempty_path (from (is 47) s) (from-marked 47 s), row_path))
 
 -- ---- ihier-part and irelative-part
 
@@ -285,21 +243,10 @@ relative_path (c ∷ s) h = rw row_path (by (eqb c 47) refl)
     by true e = let q = eqb-true c 47 e in rw q (relative_slash s (unslashed s (rw q at h)) ∙ sym (and-true (of (many pathchar) (47 ∷ s))))
     by false e = relative_plain c s (eqb-false c 47 e)
 
-module _ (s : Bytes) (b : begins (ascii "//") s ≡ false) where
-  pub part_bad : (r : Bool) → of (row Path) s ≡ false → false ≡ of (part_of r) s
-  unfolding part_of
-  part_bad true h = sym (relative_path s b ∙ rw h)
-  part_bad false h = sym (hier_path s b ∙ h)
-
-  pub part_hier : (r : Bool) → r ≡ false → of (row Path) s ≡ true → true ≡ of (part_of r) s
-  unfolding part_of
-  part_hier true e h = absurd (false≢true (sym e))
-  part_hier false e h = sym (hier_path s b ∙ h)
-
-  pub part_relative : (r : Bool) → r ≡ true → of (row Path) s ≡ true → colonless s ≡ of (part_of r) s
-  unfolding part_of
-  part_relative true e h = sym (relative_path s b ∙ rw h)
-  part_relative false e h = absurd (false≢true e)
+pub part_law : (r : Bool) (s : Bytes) → begins (ascii "//") s ≡ false → of (part_of r) s ≡ (of (row Path) s && (not r || colonless s))
+unfolding part_of
+part_law true s b = relative_path s b
+part_law false s b = hier_path s b ∙ sym (and-true (of (row Path) s))
 
 -- ---- the rest, with query and fragment
 
@@ -321,19 +268,13 @@ unfolding part_of
 rest-query true s = query-cut irelative_part relative_shuns-query relative_shuns-fragment s
 rest-query false s = query-cut ihier_part hier_shuns-query hier_shuns-fragment s
 
-module _ (r : Bool) (s : Bytes) {n : ℕ} (e : n ≡ length (up_to (is 35) s)) where
-  pub rest_no_fragment : of (optionally 35 Fragment) (drop n s) ≡ false → false ≡ of (rest_of r) s
-  rest_no_fragment h = second_fails 35 (of (rest_of r)) (of (part_of r then query)) (of fragment) s e (rest-fragment r s) (rw optional-fragment at h)
-
-  module _ (g : of (optionally 35 Fragment) (drop n s) ≡ true) {m : ℕ} (f : m ≡ length (up_to (is 63) (take n s))) where
-    before : {x : Bool} → x ≡ of (part_of r then query) (take n s) → x ≡ of (rest_of r) s
-    before q = second_passes 35 (of (rest_of r)) (of (part_of r then query)) (of fragment) s e (rest-fragment r s) (rw optional-fragment at g) q
-
-    pub rest_no_query : of (optionally 63 Query) (drop m (take n s)) ≡ false → false ≡ of (rest_of r) s
-    rest_no_query h = before (second_fails 63 (of (part_of r then query)) (of (part_of r)) (of query) (take n s) f (rest-query r (take n s)) (rw optional-query at h))
-
-    pub rest_part : {x : Bool} → of (optionally 63 Query) (drop m (take n s)) ≡ true → x ≡ of (part_of r) (take m (take n s)) → x ≡ of (rest_of r) s
-    rest_part h q = before (second_passes 63 (of (part_of r then query)) (of (part_of r)) (of query) (take n s) f (rest-query r (take n s)) (rw optional-query at h) q)
+-- the front of the text and its fragment, and in the front the part and its query
+pub rest_law : (r : Bool) (s : Bytes) {front f p q : Bytes} {n m : ℕ} → n ≡ length (up_to (is 35) s) → front ≡ take n s → f ≡ drop n s
+    → m ≡ length (up_to (is 63) front) → p ≡ take m front → q ≡ drop m front
+    → of (rest_of r) s ≡ ((of (part_of r) p && of (optionally 63 Query) q) && of (optionally 35 Fragment) f)
+rest_law r s {front} e a b g c d =
+    let cut = split 63 (of (part_of r then query)) (of (part_of r)) (of query) front (rest-query r front) g c d in
+    split 35 (of (rest_of r)) (of (part_of r then query)) (of fragment) s (rest-fragment r s) e a b ∙ rw (optional-query, optional-fragment, cut)
 
 -- ---- the whole
 
@@ -345,25 +286,16 @@ colon-some : (t : Bytes) → of (word ":" then (ihier_part then (query then frag
 unfolding is_mark rest_of part_of R.all
 colon-some t = of_mark 58 refl (ihier_part then (query then fragment)) t
 
-module _ (s : Bytes) {n : ℕ} (e : n ≡ length (up_to (is 58) s)) where
+module _ (s : Bytes) where
   abbrev colon : Bytes → Bool
   colon = of (word ":" then (ihier_part then (query then fragment)))
 
-  pub iri_none : length s ≤ n → false ≡ of IRI s
-  iri_none l = no_mark 58 (of IRI) (of scheme) colon s e (iri_cut s) colon_none l
+  pub iri_none : from (is 58) s ≡ [] → false ≡ of IRI s
+  iri_none e = uncut 58 (of IRI) (of scheme) colon s (iri_cut s) e colon_none
 
-  pub iri_bad : of scheme (take n s) ≡ false → false ≡ of IRI s
-  iri_bad h = first_fails 58 (of IRI) (of scheme) colon s e (iri_cut s) h
+  pub iri_law : {a b : Bytes} → Cut 58 s a b → of IRI s ≡ (of scheme a && of (rest_of false) b)
+  iri_law c = passed 58 (of IRI) (of scheme) colon s (iri_cut s) c (of (rest_of false)) colon-some
 
-  pub iri_good : {r : Bool} → n < length s → of scheme (take n s) ≡ true → r ≡ of (rest_of false) (drop (n + 1) s) → r ≡ of IRI s
-  iri_good l h q = past-mark 58 (of IRI) (of scheme) colon s e (iri_cut s) (of (rest_of false)) colon-some l h q
-
-reference_or : (s : Bytes) → of IRI-reference s ≡ (of IRI s || of (rest_of true) s)
+pub reference_law : (s : Bytes) → of IRI-reference s ≡ (of IRI s || of (rest_of true) s)
 unfolding IRI-reference irelative_ref rest_of part_of
-reference_or s = of_or IRI irelative_ref s
-
-pub reference_iri : (s : Bytes) → of IRI s ≡ true → true ≡ of IRI-reference s
-reference_iri s h = sym (reference_or s ∙ rw h)
-
-pub reference_rest : (s : Bytes) → of IRI s ≡ false → of (rest_of true) s ≡ of IRI-reference s
-reference_rest s h = sym (reference_or s ∙ rw h)
+reference_law s = of_or IRI irelative_ref s

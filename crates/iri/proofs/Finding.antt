@@ -1,12 +1,11 @@
 -- What a search for a delimiter found, as the cut of the text: n bytes stand before the first d, counted from `at`.
-use mathlib.Core.Path.{◌≡◌, refl, sym, ◌∙◌}
+use mathlib.Core.Path.{◌≡◌, refl, ◌∙◌}
 use mathlib.Core.Bool.{Bool, true, false, ◌&&◌}
 use mathlib.Core.List.{[], ◌∷◌}
-use Prim.Native.Nat.{ℕ, suc, ◌+◌, ◌-◌, ◌≤◌}
+use Prim.Native.Nat.{ℕ, suc, ◌≤◌}
 use native.Mathlib.Omega.{arith}
 use lib.Dec.{eqb}
-use lib.ListN.{length, take, drop, length-drop}
-use lib.Seq.{drop-drop}
+use lib.ListN.{length, take}
 use borrow.Author.Tests.{eq-eqb, ne_eqb, eqb-true}
 use Rattle.spec.specs.Bytes.{Bytes, up_to, every, byte, when◌then◌else◌}
 use Rattle.copy.specs.Texts.{length_up_to}
@@ -16,18 +15,6 @@ use Rattle.iri.proofs.Languages.{is, same_test, cut-take}
 module _ (d : ℕ) (s : Bytes) {n : ℕ} (e : n ≡ length (up_to (is d) s)) where
   pub found_within : n ≤ length s
   found_within = omega (arith, length_up_to (is d) s)
-
-module _ (d : ℕ) (s : Bytes) (at : ℕ) {n : ℕ} (e : n ≡ length (up_to (is d) (drop at s))) where
-  pub found_upto : at ≤ length s → at + n ≤ length s
-  found_upto l = omega (arith, length_up_to (is d) (drop at s), length-drop at s)
-
-  -- the bytes before it
-  pub found_part : take (at + n - at) (drop at s) ≡ up_to (is d) (drop at s)
-  found_part = let q : at + n - at ≡ n = omega arith in rw q (sym (cut-take d (drop at s) e))
-
--- what stands behind it
-pub drop_past : (s : Bytes) (at n : ℕ) → drop (suc n) (drop at s) ≡ drop (at + n + 1) s
-drop_past s at n = let q : at + n + 1 ≡ at + suc n = omega arith in drop-drop (suc n) at s ∙ rw q
 
 -- ---- no ":" before the first "/"
 

@@ -2,11 +2,13 @@
 use mathlib.Core.Path.{◌≡◌, refl, sym, ◌∙◌}
 use mathlib.Core.Bool.{Bool, true, false, ◌&&◌, ◌||◌, false≢true, and-false, or-false, and-true, and-or_distrib_left}
 use mathlib.Core.List.{List, [], ◌∷◌, append-nil, cons≢nil}
-use Prim.Native.Nat.{ℕ, zero, suc, ◌-◌, ◌<◌, ◌≤◌}
+use Prim.Native.Nat.{ℕ, zero, suc, ◌<◌, ◌≤◌}
 use native.Mathlib.Omega.{arith}
 use lib.Dec.{eqb, leb}
-use lib.ListN.{length, drop, get_or}
+use lib.ListN.{length, get_or}
 use borrow.Author.Tests.{eq-eqb, eqb-true, leb-true, le-leb, lt-leb}
+use Rattle.std.specs.Prelude.{Option, Some, None, MatchOption}
+use Rattle.std.proofs.Common.{Bor}
 use Rattle.spec.specs.Bytes.{Bytes, every, between, is_empty, up_to, from}
 use Rattle.spec.specs.Grammar.{Grammar, empty, one, ◌or◌, ◌then◌, many, Many, stop, more, Describes}
 use Rattle.spec.specs.Abnf.{lower, letters, word, HEXDIG, DIGIT, at_most}
@@ -15,8 +17,8 @@ use Rattle.spec.specs.Rfc3987 as R
 use Rattle.spec.proofs.Booleans.{and_right}
 use Rattle.iri.specs.Parts.{of, is_hex, is_digit}
 use Rattle.iri.specs.Parts as P
-use Rattle.iri.specs.Forms.{is_mark}
-use Rattle.iri.specs.Addresses.{octet}
+use Rattle.iri.specs.Forms.{Cut, is_mark}
+use Rattle.iri.specs.Addresses.{dotted, DottedBefore, Undotted, octet}
 use Rattle.iri.proofs.Languages.{reads_none, of_in, of_same, same_test, in_empty, empty_in, in_then, then_in, of_or, of_one, of_nil, of_assoc, of_skip, shuns, is, of_cut, lower-mark, mark-marked, of_mark, mark-lower, mark_low}
 use Rattle.iri.proofs.Characters.{Reads}
 use Rattle.iri.proofs.Rows.{hex_low}
@@ -184,39 +186,32 @@ octet_of (a ∷ b ∷ c ∷ d ∷ s) = octet_cons a (b ∷ c ∷ d ∷ s) ∙ si
 
 -- ---- an address of four octets
 
--- octets with n full stops between them
-pub dotted : ℕ → Grammar ℕ
-dotted zero = dec_octet
-dotted (suc n) = dec_octet then (word "." then dotted n)
+dotted_cut : (n : ℕ) (s : Bytes) → of (dotted (suc n)) s ≡ (of dec_octet (up_to (is 46) s) && of (word "." then dotted n) (from (is 46) s))
+unfolding dotted shuns is_mark R.all
+dotted_cut n s = of_cut 46 dec_octet (word "." then dotted n) (omega arith) refl (λ t i. mark-marked 46 refl t i) s
 
--- at `at` begin the octets that are left, with n full stops between them
-pub record Dotted (s : Bytes) (n at : ℕ) : Type 0 where
-  pub upto : at ≤ length s
-  pub rest : of IPv4address s ≡ of (dotted n) (drop at s)
+pub dotted_short : (s : Bytes) → from (is 46) s ≡ [] → Undotted s
+unfolding R.all
+dotted_short s e n = dotted_cut n s ∙ rw (e, of_nil (word "." then dotted n)) (and-false (of dec_octet (up_to (is 46) s)))
 
-pub dotted_begins : (s : Bytes) → Dotted s 3 0
-unfolding dotted R.all
-dotted_begins s = record { upto = omega arith; rest = refl }
+module _ {s a b : Bytes} (cut : Cut 46 s a b) where
+  pub dotted_bad : of dec_octet a ≡ false → Undotted s
+  dotted_bad e n = dotted_cut n s ∙ rw (cut.front, e)
 
-module _ {s : Bytes} {n at : ℕ} (h : Dotted s n at) where
-  dotted_cut : (m : ℕ) → n ≡ suc m → of IPv4address s ≡ (of dec_octet (up_to (is 46) (drop at s)) && of (word "." then dotted m) (from (is 46) (drop at s)))
-  unfolding dotted shuns is_mark R.all
-  dotted_cut m e = h.rest ∙ rw e (of_cut 46 dec_octet (word "." then dotted m) (omega arith) refl (λ t i. mark-marked 46 refl t i) (drop at s))
-
-  pub dotted_short : 0 < n → from (is 46) (drop at s) ≡ [] → of IPv4address s ≡ false
-  unfolding R.all
-  dotted_short l e = dotted_cut (n - 1) (omega arith) ∙ rw (e, of_nil (word "." then dotted (n - 1))) (and-false (of dec_octet (up_to (is 46) (drop at s))))
-
-  pub dotted_bad : 0 < n → of dec_octet (up_to (is 46) (drop at s)) ≡ false → of IPv4address s ≡ false
-  dotted_bad l e = dotted_cut (n - 1) (omega arith) ∙ rw e
-
-  pub dotted_more : {to : ℕ} (t : Bytes) → 0 < n → from (is 46) (drop at s) ≡ 46 ∷ t → of dec_octet (up_to (is 46) (drop at s)) ≡ true → to ≤ length s → t ≡ drop to s → Dotted s (n - 1) to
+  pub dotted_more : of dec_octet a ≡ true → DottedBefore s b
   unfolding is_mark R.all
-  dotted_more {to} t l e g u q = record { upto = u; rest = dotted_cut (n - 1) (omega arith) ∙ rw (g, e, of_mark 46 refl (dotted (n - 1)) t, q) }
+  dotted_more e n = dotted_cut n s ∙ rw (cut.front, cut.back, e, of_mark 46 refl (dotted n) b)
 
-  pub dotted_done : n ≤ 0 → of IPv4address s ≡ of dec_octet (drop at s)
-  unfolding dotted
-  dotted_done l = let z : n ≡ 0 = omega arith in h.rest ∙ rw z
+pub four_dotted : (s : Bytes) → of IPv4address s ≡ of (dotted 3) s
+unfolding dotted R.all
+four_dotted s = refl
+
+-- behind the third octet
+pub last_dotted : (s t : Bytes) (o : Option (Bor Bytes)) → of IPv4address s ≡ of (dotted 1) t → MatchOption o (Undotted t) (λ u. DottedBefore t u.now)
+    → MatchOption o (of IPv4address s ≡ false) (λ u. of IPv4address s ≡ of dec_octet u.now)
+unfolding dotted
+last_dotted s t None e h = e ∙ h 0
+last_dotted s t (Some u) e h = e ∙ h 0
 
 -- ---- an octet by its length
 

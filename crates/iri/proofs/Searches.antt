@@ -1,64 +1,51 @@
 -- The loops that search: what is left to find from the position that a loop has come to.
-use mathlib.Core.Path.{◌≡◌, refl, sym, ◌∙◌}
-use mathlib.Core.Bool.{true, false}
-use mathlib.Core.List.{◌∷◌}
+use mathlib.Core.Path.{◌≡◌, refl, ap, ◌∙◌}
+use mathlib.Core.Bool.{true, false, ◌||◌}
+use mathlib.Core.List.{[], ◌∷◌, ◌++◌, append-nil, append_assoc}
 use Prim.Native.Nat.{ℕ, suc, ◌+◌, ◌<◌, ◌≤◌}
 use native.Mathlib.Omega.{arith}
 use native.Mathlib.Numerals.{add-one}
-use lib.ListN.{length, drop, get_or, drop_of_length-le}
-use lib.Seq.{drop-cons}
-use borrow.Author.Tests.{eq-eqb, ne_eqb}
+use lib.ListN.{length, take, drop, get_or, drop_of_length-le}
+use lib.Dec.{eqb}
+use lib.Seq.{drop-cons, drop-drop, take-suc}
+use Rattle.std.specs.List.{list_any}
 use Rattle.spec.specs.Bytes.{Bytes, ascii, begins, among, when◌then◌else◌}
-use Rattle.iri.specs.Addresses.{up_to_gap}
+use Rattle.copy.specs.Texts.{begins_true, after_drop}
+use Rattle.iri.specs.Addresses.{up_to_gap, from_gap, Gap}
 
 -- ---- a set of characters
 
-pub record Sought (s : Bytes) (c i : ℕ) : Type 0 where
-  pub upto : i ≤ length s
-  pub rest : among s c ≡ among (drop i s) c
-
-pub sought_begins : (s : Bytes) (c : ℕ) → Sought s c 0
-sought_begins s c = record { upto = omega arith; rest = refl }
-
-module _ {s : Bytes} {c i : ℕ} (h : Sought s c i) where
-  pub sought_hit : i < length s → get_or s i 0 ≡ c → true ≡ among s c
-  unfolding among
-  sought_hit l e = sym (h.rest ∙ rw (drop-cons s i 0 l, eq-eqb (get_or s i 0) c e))
-
-  pub sought_more : i < length s → (get_or s i 0 ≡ c → ⊥) → Sought s c (i + 1)
-  unfolding among
-  sought_more l e = record { upto = omega arith; rest = h.rest ∙ rw (drop-cons s i 0 l, ne_eqb (get_or s i 0) c e, add-one i) }
-
-  pub sought_done : length s ≤ i → false ≡ among s c
-  unfolding among
-  sought_done l = sym (h.rest ∙ rw (drop_of_length-le s l))
+pub list_any-among : (s : Bytes) (c : ℕ) → list_any (λ b. eqb b c) s ≡ among s c
+unfolding among
+list_any-among [] c = refl
+list_any-among (b ∷ s) c = ap (eqb b c ||◌) (list_any-among s c)
 
 -- ---- "::"
 
+-- none begins in the first i bytes
 pub record Gapless (s : Bytes) (i : ℕ) : Type 0 where
   pub upto : i ≤ length s
-  pub rest : length (up_to_gap s) ≡ i + length (up_to_gap (drop i s))
-
-pub gapless_begins : (s : Bytes) → Gapless s 0
-gapless_begins s = record { upto = omega arith; rest = omega arith }
+  pub front : up_to_gap s ≡ take i s ++ up_to_gap (drop i s)
+  pub back : from_gap s ≡ from_gap (drop i s)
 
 module _ {s : Bytes} {i : ℕ} (h : Gapless s i) where
-  pub gapless_stop : i < length s → begins (ascii "::") (drop i s) ≡ true → i ≡ length (up_to_gap s)
-  unfolding up_to_gap when◌then◌else◌
+  pub gapless_stop : i < length s → begins (ascii "::") (drop i s) ≡ true → Gap s (take i s) (drop (i + 2) s)
+  unfolding ascii up_to_gap from_gap when◌then◌else◌
   gapless_stop l e =
       let b : begins (ascii "::") (get_or s i 0 ∷ drop (suc i) s) ≡ true = rw (drop-cons s i 0 l) at e in
-      let z : length (up_to_gap (drop i s)) ≡ 0 = rw (drop-cons s i 0 l, b) in
-      omega (arith, h.rest)
+      let q : drop i s ≡ 58 ∷ 58 ∷ drop 2 (drop i s) = begins_true (58 ∷ 58 ∷ []) (drop i s) e ∙ rw (after_drop (58 ∷ 58 ∷ []) (drop i s)) in
+      let z : up_to_gap (drop i s) ≡ [] = rw (drop-cons s i 0 l, b) in
+      let w : from_gap (drop i s) ≡ drop i s = rw (drop-cons s i 0 l, b) in
+      record { front = h.front ∙ rw (z, append-nil); back = h.back ∙ w ∙ q ∙ rw (drop-drop 2 i s) }
 
   pub gapless_more : i < length s → begins (ascii "::") (drop i s) ≡ false → Gapless s (i + 1)
-  unfolding up_to_gap when◌then◌else◌
+  unfolding up_to_gap from_gap when◌then◌else◌
   gapless_more l e =
       let b : begins (ascii "::") (get_or s i 0 ∷ drop (suc i) s) ≡ false = rw (drop-cons s i 0 l) at e in
-      let z : length (up_to_gap (drop i s)) ≡ suc (length (up_to_gap (drop (suc i) s))) = rw (drop-cons s i 0 l, b) in
-      record { upto = omega arith; rest = rw (add-one i) (omega (arith, h.rest)) }
+      let z : up_to_gap (drop i s) ≡ get_or s i 0 ∷ up_to_gap (drop (suc i) s) = rw (drop-cons s i 0 l, b) in
+      let w : from_gap (drop i s) ≡ from_gap (drop (suc i) s) = rw (drop-cons s i 0 l, b) in
+      record { upto = omega arith; front = h.front ∙ rw (z, add-one i, take-suc s i 0 l, append_assoc); back = rw (add-one i) (h.back ∙ w) }
 
-  pub gapless_done : length s ≤ i → i ≡ length (up_to_gap s)
-  unfolding up_to_gap
-  gapless_done l =
-      let z : length (up_to_gap (drop i s)) ≡ 0 = rw (drop_of_length-le s l) in
-      omega (arith, h.rest)
+  pub gapless_done : length s ≤ i → from_gap s ≡ []
+  unfolding from_gap
+  gapless_done l = h.back ∙ rw (drop_of_length-le s l)

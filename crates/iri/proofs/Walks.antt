@@ -1,6 +1,6 @@
 -- The walk over a row: the places before `at` were taken, and the whole is a row if the rest is one.
-use mathlib.Core.Path.{◌≡◌, refl, sym, ◌∙◌}
-use mathlib.Core.Bool.{true, false}
+use mathlib.Core.Path.{◌≡◌, sym, ◌∙◌}
+use mathlib.Core.Bool.{true}
 use Prim.Native.Nat.{ℕ, ◌+◌, ◌<◌, ◌≤◌}
 use native.Mathlib.Nat.{add-zero}
 use native.Mathlib.Omega.{arith}
@@ -12,13 +12,7 @@ use Rattle.iri.specs.Parts.{of, row, lettered, slashed, common, Taken, Walked}
 use Rattle.iri.proofs.Languages.{of_nil}
 use Rattle.iri.proofs.Rows.{taken-common}
 
-pub walked_begins : (p : Part) (s : Bytes) → Walked p s 0
-walked_begins p s = record { upto = omega arith; rest = refl }
-
 module _ {p : Part} {s : Bytes} {at : ℕ} (h : Walked p s at) where
-  pub walked_none : {n : ℕ} → at < length s → Taken p (drop at s) n → n ≡ 0 → false ≡ of (row p) s
-  walked_none l t e = sym (h.rest ∙ t.none e (omega (arith, length-drop at s)))
-
   pub walked_within : {n : ℕ} → Taken p (drop at s) n → at + n ≤ length s
   walked_within t = omega (arith, t.within, length-drop at s, h.upto)
 
@@ -30,10 +24,6 @@ module _ {p : Part} {s : Bytes} {at : ℕ} (h : Walked p s at) where
   walked_common l y q z =
       let a : common (slashed p) (get_or (drop at s) 0 0) ≡ true = rw (get_or-drop at s 0 0, add-zero at, ← q) z in
       walked_more (taken-common p (drop at s) y (omega (arith, length-drop at s)) a) (omega arith)
-
-  -- a walk over the rest
-  pub walked_on : {n : ℕ} → Walked p (drop at s) n → Walked p s (at + n)
-  walked_on {n} w = record { upto = omega (arith, w.upto, length-drop at s, h.upto); rest = h.rest ∙ w.rest ∙ rw (drop-drop n at s) }
 
   pub walked_done : length s ≤ at → true ≡ of (row p) s
   unfolding row

@@ -3,7 +3,7 @@ use Rattle.std.specs.Prelude.{◌≡◌, Bool, true, false, ◌&&◌, ◌||◌, 
 use Rattle.spec.specs.Bytes.{Bytes, ascii, begins, between, when◌then◌else◌}
 use Rattle.spec.specs.Grammar.{Grammar, empty, ◌or◌, ◌then◌}
 use Rattle.spec.specs.Abnf.{word}
-use Rattle.spec.specs.Rfc3987.{h16, IPv4address}
+use Rattle.spec.specs.Rfc3987.{h16, dec_octet, IPv4address}
 use Rattle.iri.specs.Parts.{of}
 
 -- n groups with ":" between them, of which the last two may be an IPv4 address if the first argument says so
@@ -19,6 +19,18 @@ pub record Counted (v : Bool) (s : Bytes) (r : ℕ) : Type 0 where
   pub most : r ≤ 9
   pub each : (n : ℕ) → n ≤ 8 → of (groups v n) s ≡ eqb n r
 
+-- octets with n full stops between them
+unfoldable pub dotted : ℕ → Grammar ℕ
+dotted zero = dec_octet
+dotted (suc n) = dec_octet then (word "." then dotted n)
+
+-- an octet and its full stop stand before the second text, or there is no such octet
+abbrev pub DottedBefore : Bytes → Bytes → Type 0
+DottedBefore s t = (n : ℕ) → of (dotted (suc n)) s ≡ of (dotted n) t
+
+abbrev pub Undotted : Bytes → Type 0
+Undotted s = (n : ℕ) → of (dotted (suc n)) s ≡ false
+
 -- a text up to, and from, its first "::"
 unfoldable pub up_to_gap : Bytes → Bytes
 up_to_gap [] = []
@@ -27,6 +39,11 @@ up_to_gap (c ∷ s) = when begins (ascii "::") (c ∷ s) then [] else (c ∷ up_
 unfoldable pub from_gap : Bytes → Bytes
 from_gap [] = []
 from_gap (c ∷ s) = when begins (ascii "::") (c ∷ s) then (c ∷ s) else from_gap s
+
+-- the first "::" stands behind the one text and before the other
+pub record Gap (s before behind : Bytes) : Type 0 where
+  pub front : up_to_gap s ≡ before
+  pub back : from_gap s ≡ 58 ∷ 58 ∷ behind
 
 -- dec-octet, by its length
 unfoldable pub octet : Bytes → Bool

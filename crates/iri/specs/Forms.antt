@@ -1,11 +1,16 @@
 -- Pieces of RFC 3987's productions that have no name there.
-use Rattle.std.specs.Prelude.{Bool, true, false, not, ◌&&◌, [], ◌∷◌, ℕ, eqb, ltb}
-use Rattle.spec.specs.Bytes.{Bytes, up_to, every, byte, between}
+use Rattle.std.specs.Prelude.{◌≡◌, Bool, true, false, not, ◌&&◌, [], ◌∷◌, ℕ, eqb, ltb}
+use Rattle.spec.specs.Bytes.{Bytes, up_to, from, every, byte, between}
 use Rattle.spec.specs.Grammar.{Grammar, ◌or◌, ◌then◌}
 use Rattle.spec.specs.Abnf.{word, letters, optional, some, alphanum, HEXDIG, any_of}
 use Rattle.spec.specs.Rfc3987.{ihier_part, irelative_part, iquery, ifragment, iauthority, ipath_abempty, ihost, port, IPv6address, IPvFuture, sub_delims, ipchar}
 use Rattle.iri.specs.declared.Part.{Part}
 use Rattle.iri.specs.Parts.{row}
+
+-- the first d stands behind the one text and before the other
+pub record Cut (d : ℕ) (s before behind : Bytes) : Type 0 where
+  pub front : up_to (λ c. eqb c d) s ≡ before
+  pub back : from (λ c. eqb c d) s ≡ d ∷ behind
 
 -- a character of ASCII that is no letter: a word of it is it alone
 unfoldable pub is_mark : ℕ → Bool

@@ -2,17 +2,17 @@
 // it, so a text is cut there and each piece is checked by itself.
 #![tactic(auto)]
 
-ghost use Rattle.std.specs.Prelude.{◌≡◌, true, ◌&&◌, [], ◌∷◌, length};
-ghost use Rattle.spec.specs.Bytes.{among, between};
+ghost use Rattle.std.specs.Prelude.{◌≡◌, true, false, ◌&&◌, [], ◌∷◌, length, ◌<◌, eqb, MatchOption};
+ghost use Rattle.spec.specs.Bytes.{among, between, from};
 ghost use Rattle.spec.specs.Abnf.{lower, some};
 ghost use Rattle.spec.specs.Rfc3987.{is_iri, is_iri_reference, scheme, iauthority, IPv6address, IPvFuture, IPv4address, h16, dec_octet};
 ghost use Rattle.iri.specs.Parts.{of, grammar, class_of, allowed, escapes, unreserved, delims, pchar, row, escaped, is_alpha, is_digit, is_alphanum, is_hex, is_ucschar, is_iprivate, lettered, slashed, common, Taken, Walked};
-ghost use Rattle.iri.specs.Forms.{optionally, is_mark, rest_of, part_of, network, server, bracketed, literal, version, colonless};
-ghost use Rattle.iri.specs.Addresses.{Counted, up_to_gap, octet};
+ghost use Rattle.iri.specs.Forms.{Cut, optionally, is_mark, rest_of, part_of, network, server, bracketed, literal, version, colonless};
+ghost use Rattle.iri.specs.Addresses.{Undotted, DottedBefore, Counted, Gap, from_gap, octet};
 
 use utils::Decoded;
 
-// A part that is a row of characters, each from the same set.
+// A part that is a row of characters, each from the same set. An enum: a trait with nine types would say no more, in more lines.
 #[derive(Clone, Copy)]
 enum Part {
     Scheme,
@@ -27,67 +27,77 @@ enum Part {
 }
 
 // RFC 3987, ucschar: the first and the last character of each range.
-const UCSCHAR: [u32; 34] = [
-    0xA0, 0xD7FF, 0xF900, 0xFDCF, 0xFDF0, 0xFFEF, 0x10000, 0x1FFFD, 0x20000, 0x2FFFD, 0x30000,
-    0x3FFFD, 0x40000, 0x4FFFD, 0x50000, 0x5FFFD, 0x60000, 0x6FFFD, 0x70000, 0x7FFFD, 0x80000,
-    0x8FFFD, 0x90000, 0x9FFFD, 0xA0000, 0xAFFFD, 0xB0000, 0xBFFFD, 0xC0000, 0xCFFFD, 0xD0000,
-    0xDFFFD, 0xE1000, 0xEFFFD,
+const UCSCHAR: [(u32, u32); 17] = [
+    (0xA0, 0xD7FF),
+    (0xF900, 0xFDCF),
+    (0xFDF0, 0xFFEF),
+    (0x10000, 0x1FFFD),
+    (0x20000, 0x2FFFD),
+    (0x30000, 0x3FFFD),
+    (0x40000, 0x4FFFD),
+    (0x50000, 0x5FFFD),
+    (0x60000, 0x6FFFD),
+    (0x70000, 0x7FFFD),
+    (0x80000, 0x8FFFD),
+    (0x90000, 0x9FFFD),
+    (0xA0000, 0xAFFFD),
+    (0xB0000, 0xBFFFD),
+    (0xC0000, 0xCFFFD),
+    (0xD0000, 0xDFFFD),
+    (0xE1000, 0xEFFFD),
 ];
 
 // RFC 3987, iprivate.
-const IPRIVATE: [u32; 6] = [0xE000, 0xF8FF, 0xF0000, 0xFFFFD, 0x100000, 0x10FFFD];
+const IPRIVATE: [(u32, u32); 3] = [(0xE000, 0xF8FF), (0xF0000, 0xFFFFD), (0x100000, 0x10FFFD)];
 
 // An IRI: a scheme, ":", and the rest.
 pub fn is_iri(s: &[u8]) -> bool
     ensures { result ≡ is_iri s.now }
 {
-    let n = copy::find(s, b':');
-    if n == s.len() {
-        return false;
+    match cut(s, b':') {
+        Some((scheme, rest)) => is_scheme(scheme) && is_rest(rest, false),
+        None => false,
     }
-    if !is_scheme(&s[..n]) {
-        return false;
-    }
-    is_rest(&s[n + 1..], false)
 }
 
 // An IRI reference: an IRI, or a relative reference.
 pub fn is_iri_reference(s: &[u8]) -> bool
     ensures { result ≡ is_iri_reference s.now }
 {
-    if is_iri(s) {
-        return true;
+    is_iri(s) || is_rest(s, true)
+}
+
+// What stands before the first mark and what stands behind it, where there is one.
+fn cut(s: &[u8], mark: u8) -> Option<(&[u8], &[u8])>
+    ensures { MatchOption result (from (λ c. eqb c mark) s.now ≡ []) (λ p. Cut mark s.now p.0.now p.1.now) }
+{
+    let n = copy::find(s, mark);
+    if n == s.len() {
+        None
+    } else {
+        Some((&s[..n], &s[n + 1..]))
     }
-    is_rest(s, true)
 }
 
 // ALPHA *( ALPHA / DIGIT / "+" / "-" / "." )
 fn is_scheme(s: &[u8]) -> bool
     ensures { result ≡ of scheme s.now }
 {
-    if s.len() == 0 {
-        return false;
+    match s {
+        [first, rest @ ..] => is_alpha(as_char(*first)) && is_row(Part::Scheme, rest),
+        [] => false,
     }
-    if !is_alpha(as_char(s[0])) {
-        return false;
-    }
-    is_row(Part::Scheme, &s[1..])
 }
 
 // ihier_part or irelative_part, [ "?" iquery ] [ "#" ifragment ]
 fn is_rest(s: &[u8], relative: bool) -> bool
     ensures { result ≡ of (rest_of relative) s.now }
 {
-    let n = copy::find(s, b'#');
-    if !is_optional(b'#', Part::Fragment, &s[n..]) {
-        return false;
-    }
-    let t = &s[..n];
-    let m = copy::find(t, b'?');
-    if !is_optional(b'?', Part::Query, &t[m..]) {
-        return false;
-    }
-    is_part(&t[..m], relative)
+    let (front, fragment) = s.split_at(copy::find(s, b'#'));
+    let (part, query) = front.split_at(copy::find(front, b'?'));
+    is_part(part, relative)
+        && is_optional(b'?', Part::Query, query)
+        && is_optional(b'#', Part::Fragment, fragment)
 }
 
 // Nothing, or a mark and a part behind it.
@@ -95,40 +105,29 @@ fn is_optional(mark: u8, part: Part, s: &[u8]) -> bool
     requires { is_mark mark ≡ true }
     ensures { result ≡ of (optionally mark part) s.now }
 {
-    if s.len() == 0 {
-        return true;
+    match s {
+        [first, rest @ ..] => *first == mark && is_row(part, rest),
+        [] => true,
     }
-    if s[0] != mark {
-        return false;
-    }
-    is_row(part, &s[1..])
 }
 
 // ihier_part, or irelative_part, whose first segment has no ":"
 fn is_part(s: &[u8], relative: bool) -> bool
     ensures { result ≡ of (part_of relative) s.now }
 {
+    // No slice pattern with bytes in it: proofs could cite them only by names that may change.
     if copy::begins(s, b"//") {
         return is_network(&s[2..]);
     }
-    if !is_row(Part::Path, s) {
-        return false;
-    }
-    if !relative {
-        return true;
-    }
-    is_colonless(s)
+    is_row(Part::Path, s) && (!relative || is_colonless(s))
 }
 
-// iauthority ipath-abempty
+// iauthority ipath_abempty
 fn is_network(s: &[u8]) -> bool
     ensures { result ≡ of network s.now }
 {
-    let n = copy::find(s, b'/');
-    if !is_authority(&s[..n]) {
-        return false;
-    }
-    is_row(Part::Path, &s[n..])
+    let (authority, path) = s.split_at(copy::find(s, b'/'));
+    is_authority(authority) && is_row(Part::Path, path)
 }
 
 // No ":" before the first "/".
@@ -143,14 +142,10 @@ fn is_colonless(s: &[u8]) -> bool
 fn is_authority(s: &[u8]) -> bool
     ensures { result ≡ of iauthority s.now }
 {
-    let n = copy::find(s, b'@');
-    if n == s.len() {
-        return is_server(s);
+    match cut(s, b'@') {
+        Some((user, server)) => is_row(Part::UserInfo, user) && is_server(server),
+        None => is_server(s),
     }
-    if !is_row(Part::UserInfo, &s[..n]) {
-        return false;
-    }
-    is_server(&s[n + 1..])
 }
 
 // ihost [ ":" port ]. An IPv4 address is a registered name too.
@@ -160,193 +155,181 @@ fn is_server(s: &[u8]) -> bool
     if copy::begins(s, b"[") {
         return is_bracketed(&s[1..]);
     }
-    let n = copy::find(s, b':');
-    if !is_row(Part::Name, &s[..n]) {
-        return false;
-    }
-    is_optional(b':', Part::Port, &s[n..])
+    let (name, port) = s.split_at(copy::find(s, b':'));
+    is_row(Part::Name, name) && is_optional(b':', Part::Port, port)
 }
 
 // ( IPv6address / IPvFuture ) "]" [ ":" port ]
 fn is_bracketed(s: &[u8]) -> bool
     ensures { result ≡ of bracketed s.now }
 {
-    let n = copy::find(s, b']');
-    if n == s.len() {
-        return false;
+    match cut(s, b']') {
+        Some((address, port)) => is_literal(address) && is_optional(b':', Part::Port, port),
+        None => false,
     }
-    if !is_literal(&s[..n]) {
-        return false;
-    }
-    is_optional(b':', Part::Port, &s[n + 1..])
 }
 
 // IPv6address / IPvFuture
 fn is_literal(s: &[u8]) -> bool
     ensures { result ≡ of literal s.now }
 {
-    if is_ipv6(s) {
-        return true;
-    }
-    is_future(s)
+    is_ipv6(s) || is_future(s)
 }
 
 // "v" and a version; the letter in either case
 fn is_future(s: &[u8]) -> bool
     ensures { result ≡ of IPvFuture s.now }
 {
-    if s.len() == 0 {
-        return false;
+    match s {
+        [first, rest @ ..] => first.eq_ignore_ascii_case(&b'v') && is_version(rest),
+        [] => false,
     }
-    if lowered(as_char(s[0])) != 118 {
-        return false;
-    }
-    is_version(&s[1..])
 }
 
 // 1*HEXDIG "." 1*( unreserved / sub_delims / ":" ), behind the "v"
 fn is_version(s: &[u8]) -> bool
     ensures { result ≡ of version s.now }
 {
-    let n = copy::find(s, b'.');
-    if n == s.len() {
-        return false;
+    match cut(s, b'.') {
+        Some((digits, rest)) => is_filled(Part::Hex, digits) && is_filled(Part::Later, rest),
+        None => false,
     }
-    if !is_filled(Part::Hex, &s[..n]) {
-        return false;
-    }
-    is_filled(Part::Later, &s[n + 1..])
 }
 
 // Eight groups, or at most seven on both sides of the first "::".
 fn is_ipv6(s: &[u8]) -> bool
     ensures { result ≡ of IPv6address s.now }
 {
-    let n = find_gap(s);
-    if n == s.len() {
-        return count_groups(s, true) == 8;
+    match cut_gap(s) {
+        Some((front, back)) => {
+            let before = count_groups(front, false);
+            let behind = count_groups(back, true);
+            match (before, behind) {
+                (Some(m), Some(n)) => m + n <= 7,
+                _ => false,
+            }
+        }
+        None => count_groups(s, true) == Some(8),
     }
-    count_groups(&s[..n], false) + count_groups(&s[n + 2..], true) <= 7
 }
 
-// Where the first "::" stands, or the length where there is none.
-fn find_gap(s: &[u8]) -> usize
-    ensures { result ≡ length (up_to_gap s.now) }
+// What stands before the first "::" and what stands behind it, where there is one.
+fn cut_gap(s: &[u8]) -> Option<(&[u8], &[u8])>
+    ensures { MatchOption result (from_gap s.now ≡ []) (λ p. Gap s.now p.0.now p.1.now) }
 {
-    let mut i: usize = 0;
-    while i < s.len() {
+    for i in 0..s.len() {
         if copy::begins(&s[i..], b"::") {
-            return i;
+            return Some((&s[..i], &s[i + 2..]));
         }
-        i += 1;
     }
-    i
+    None
 }
 
-// How many groups with ":" between them; 9 where it is no such row of up to eight. The last two may be an IPv4 address, if so said.
-fn count_groups(s: &[u8], address: bool) -> usize
-    ensures { Counted address s.now result }
+// How many groups with ":" between them, where it is such a row of up to eight. The last two may be an IPv4 address, if so said.
+fn count_groups(s: &[u8], address: bool) -> Option<usize>
+    ensures { MatchOption result (Counted address s.now 9) (λ n. Counted address s.now n) }
 {
-    if s.len() == 0 {
-        return 0;
+    if s.is_empty() {
+        return Some(0);
     }
-    let mut count: usize = 0;
-    let mut at: usize = 0;
-    while count < 8 {
-        let n = copy::find(&s[at..], b':');
-        if n == s.len() - at {
-            if is_group(&s[at..]) {
-                return count + 1;
+    let mut left = s;
+    for count in 0..8 {
+        match cut(left, b':') {
+            Some((group, behind)) => {
+                if !is_group(group) {
+                    return None;
+                }
+                left = behind;
             }
-            if !address {
-                return 9;
+            None => {
+                if is_group(left) {
+                    return Some(count + 1);
+                }
+                if address && is_ipv4(left) {
+                    return Some(count + 2);
+                }
+                return None;
             }
-            if is_ipv4(&s[at..]) {
-                return count + 2;
-            }
-            return 9;
         }
-        if !is_group(&s[at..at + n]) {
-            return 9;
-        }
-        at = at + n + 1;
-        count += 1;
     }
-    9
+    None
 }
 
 // 1*4HEXDIG
 fn is_group(s: &[u8]) -> bool
     ensures { result ≡ of h16 s.now }
 {
-    if s.len() == 0 {
-        return false;
+    match s.len() {
+        1..=4 => is_row(Part::Hex, s),
+        _ => false,
     }
-    if 4 < s.len() {
-        return false;
-    }
-    is_row(Part::Hex, s)
 }
 
 // Four octets with "." between them.
 fn is_ipv4(s: &[u8]) -> bool
     ensures { result ≡ of IPv4address s.now }
 {
-    let mut left: usize = 3;
-    let mut at: usize = 0;
-    while 0 < left {
-        let n = copy::find(&s[at..], b'.');
-        if n == s.len() - at {
-            return false;
-        }
-        if !is_octet(&s[at..at + n]) {
-            return false;
-        }
-        at = at + n + 1;
-        left -= 1;
+    match last_octet(s) {
+        Some(last) => is_octet(last),
+        None => false,
     }
-    is_octet(&s[at..])
+}
+
+// What stands behind three octets, each with its ".".
+fn last_octet(s: &[u8]) -> Option<&[u8]>
+    ensures { MatchOption result (of IPv4address s.now ≡ false) (λ t. of IPv4address s.now ≡ of dec_octet t.now) }
+{
+    let second = behind_octet(s)?;
+    let third = behind_octet(second)?;
+    behind_octet(third)
+}
+
+// What stands behind an octet and its ".".
+fn behind_octet(s: &[u8]) -> Option<&[u8]>
+    ensures { MatchOption result (Undotted s.now) (λ t. DottedBefore s.now t.now) }
+{
+    match cut(s, b'.') {
+        Some((octet, behind)) => { if is_octet(octet) { Some(behind) } else { None } }
+        None => None,
+    }
 }
 
 // 0 to 255, without a zero in front.
 fn is_octet(s: &[u8]) -> bool
     ensures { result ≡ of dec_octet s.now }
 {
-    if s.len() == 1 {
-        return is_digit(as_char(s[0]));
+    match s {
+        [a] => is_digit(as_char(*a)),
+        [a, b] => is_two_digits(as_char(*a), as_char(*b)),
+        [a, b, c] => is_three_digits(as_char(*a), as_char(*b), as_char(*c)),
+        _ => false,
     }
-    if s.len() == 2 {
-        return is_two_digits(as_char(s[0]), as_char(s[1]));
-    }
-    if s.len() == 3 {
-        return is_three_digits(as_char(s[0]), as_char(s[1]), as_char(s[2]));
-    }
-    false
 }
 
 // 10 to 99
+#[tactic(auto, unfolding(crate::specs::Addresses::octet, crate::specs::Parts::is_digit, spec::specs::Bytes::byte))]
 fn is_two_digits(a: u32, b: u32) -> bool
     ensures { result ≡ octet (a ∷ b ∷ []) }
 {
-    is_within(a, 49, 57) & is_digit(b)
+    is_within(a, b'1' as u32, b'9' as u32) && is_digit(b)
 }
 
 // 100 to 255
+#[tactic(auto, unfolding(crate::specs::Addresses::octet, crate::specs::Parts::is_digit, spec::specs::Bytes::byte))]
 fn is_three_digits(a: u32, b: u32, c: u32) -> bool
     ensures { result ≡ octet (a ∷ b ∷ c ∷ []) }
 {
-    ((a == 49) & (is_digit(b) & is_digit(c)))
-        | ((a == 50) & ((is_within(b, 48, 52) & is_digit(c)) | ((b == 53) & is_within(c, 48, 53))))
+    (a == b'1' as u32 && is_digit(b) && is_digit(c))
+        || (a == b'2' as u32
+            && ((is_within(b, b'0' as u32, b'4' as u32) && is_digit(c))
+                || (b == b'5' as u32 && is_within(c, b'0' as u32, b'5' as u32))))
 }
 
 // At least one character of a part.
 fn is_filled(part: Part, s: &[u8]) -> bool
     ensures { result ≡ of (some (grammar (class_of part))) s.now }
 {
-    if s.len() == 0 {
-        return false;
-    }
-    is_row(part, s)
+    !s.is_empty() && is_row(part, s)
 }
 
 // Any number of characters of a part, as they are or escaped.
@@ -354,13 +337,13 @@ fn is_row(part: Part, s: &[u8]) -> bool
     ensures { result ≡ of (row part) s.now }
 {
     let mut at = skip_common(part, s);
+    // `at` goes on by whole characters, and so counts no bytes one by one.
     while at < s.len() {
-        let n = take_one(part, &s[at..]);
-        if n == 0 {
+        let Some(n) = take_one(part, &s[at..]) else {
             return false;
-        }
-        let next = at + n;
-        at = next + skip_common(part, &s[next..]);
+        };
+        at += n;
+        at += skip_common(part, &s[at..]);
     }
     true
 }
@@ -369,215 +352,125 @@ fn is_row(part: Part, s: &[u8]) -> bool
 fn skip_common(part: Part, s: &[u8]) -> usize
     ensures { Walked part s.now result }
 {
-    if !has_letters(part) {
+    if !part.has_letters() {
         return 0;
     }
-    let slashed = has_slash(part);
-    let mut i: usize = 0;
-    while i < s.len() {
-        if !is_common(s[i], slashed) {
+    let slashed = part.has_slash();
+    for (i, b) in s.iter().enumerate() {
+        if !is_common(*b, slashed) {
             return i;
         }
-        i += 1;
     }
-    i
-}
-
-// Do all letters and digits, "-" and "." stand in a part as they are?
-fn has_letters(part: Part) -> bool
-    ensures { result ≡ lettered part }
-{
-    match part {
-        Part::Scheme => true,
-        Part::Port => false,
-        Part::Hex => false,
-        Part::Later => true,
-        Part::UserInfo => true,
-        Part::Name => true,
-        Part::Path => true,
-        Part::Query => true,
-        Part::Fragment => true,
-    }
-}
-
-// And "/"?
-fn has_slash(part: Part) -> bool
-    ensures { result ≡ slashed part }
-{
-    match part {
-        Part::Scheme => false,
-        Part::Port => false,
-        Part::Hex => false,
-        Part::Later => false,
-        Part::UserInfo => false,
-        Part::Name => false,
-        Part::Path => true,
-        Part::Query => true,
-        Part::Fragment => true,
-    }
+    s.len()
 }
 
 // Letters and digits, "-" and ".", and "/" where so said.
+#[tactic(auto, unfolding(crate::specs::Parts::common, spec::specs::Bytes::ascii, spec::specs::Bytes::byte, spec::specs::Bytes::among))]
 fn is_common(b: u8, slashed: bool) -> bool
     ensures { result ≡ common slashed b }
 {
+    // Not one row of `||`: that costs six instructions more for each byte (measured).
     if is_alphanum(as_char(b)) {
         return true;
     }
     if b == b'/' {
         return slashed;
     }
-    (b == b'-') | (b == b'.')
+    b == b'-' || b == b'.'
 }
 
-// How many bytes the first character of a part takes, 0 where there is none.
-fn take_one(part: Part, s: &[u8]) -> usize
-    ensures { Taken part s.now result }
+// How many bytes the first character of a part takes.
+fn take_one(part: Part, s: &[u8]) -> Option<usize>
+    ensures { MatchOption result (Taken part s.now 0) (λ n. (0 < n) × Taken part s.now n) }
 {
     match utils::decode(s) {
         Decoded::Character(c, n) => {
-            if is_allowed(part, c) {
-                return n;
+            if part.allows(c) {
+                Some(n)
+            } else if is_escaped(part, s) {
+                Some(3)
+            } else {
+                None
             }
-            if is_escaped(part, s) {
-                return 3;
-            }
-            0
         }
-        Decoded::End => 0,
-        Decoded::Malformed => 0,
+        Decoded::End => None,
+        Decoded::Malformed => None,
     }
 }
 
 // "%" and two hexadecimal digits, where the part may have them.
+#[tactic(auto, using(crate::proofs::Classes::escaped_law, crate::proofs::Classes::escaped_short))]
 fn is_escaped(part: Part, s: &[u8]) -> bool
     ensures { result ≡ (escapes (class_of part) && escaped s.now) }
 {
-    if !has_escapes(part) {
-        return false;
-    }
-    if s.len() < 3 {
-        return false;
-    }
-    if s[0] != 37 {
-        return false;
-    }
-    is_hex(as_char(s[1])) & is_hex(as_char(s[2]))
-}
-
-// Scheme, port and address have none.
-fn has_escapes(part: Part) -> bool
-    ensures { result ≡ escapes (class_of part) }
-{
-    match part {
-        Part::Scheme => false,
-        Part::Port => false,
-        Part::Hex => false,
-        Part::Later => false,
-        Part::UserInfo => true,
-        Part::Name => true,
-        Part::Path => true,
-        Part::Query => true,
-        Part::Fragment => true,
+    match s {
+        [first, a, b, ..] => part.has_escapes()
+            && *first == b'%'
+            && is_hex(as_char(*a))
+            && is_hex(as_char(*b)),
+        _ => false,
     }
 }
 
-// The characters that stand in a part as they are.
-fn is_allowed(part: Part, c: u32) -> bool
-    ensures { result ≡ allowed (class_of part) c }
-{
-    match part {
-        Part::Scheme => is_scheme_char(c),
-        Part::Port => is_digit(c),
-        Part::Hex => is_hex(c),
-        Part::Later => is_later_char(c),
-        Part::UserInfo => is_user_char(c),
-        Part::Name => is_name_char(c),
-        Part::Path => is_path_char(c),
-        Part::Query => is_query_char(c),
-        Part::Fragment => is_fragment_char(c),
+impl Part {
+    // Do all letters and digits, "-" and "." stand in it as they are?
+    #[tactic(auto, unfolding(crate::specs::Parts::lettered))]
+    fn has_letters(self) -> bool
+        ensures { result ≡ lettered self }
+    {
+        !matches!(self, Part::Port | Part::Hex)
+    }
+
+    // And "/"?
+    #[tactic(auto, unfolding(crate::specs::Parts::slashed))]
+    fn has_slash(self) -> bool
+        ensures { result ≡ slashed self }
+    {
+        matches!(self, Part::Path | Part::Query | Part::Fragment)
+    }
+
+    // Scheme, port and address have none.
+    #[tactic(auto, unfolding(crate::specs::Parts::escapes, crate::specs::Parts::class_of, crate::specs::Parts::pchar, crate::specs::Parts::unreserved, crate::specs::Parts::delims))]
+    fn has_escapes(self) -> bool
+        ensures { result ≡ escapes (class_of self) }
+    {
+        !matches!(self, Part::Scheme | Part::Port | Part::Hex | Part::Later)
+    }
+
+    // Does a character stand in it as it is?
+    #[tactic(auto, using(crate::proofs::Classes::colon_is, crate::proofs::Classes::slash_is), unfolding(crate::specs::Parts::allowed, crate::specs::Parts::class_of, crate::specs::Parts::delims, spec::specs::Bytes::ascii, spec::specs::Bytes::byte))]
+    fn allows(self, c: u32) -> bool
+        ensures { result ≡ allowed (class_of self) c }
+    {
+        match self {
+            Part::Scheme => is_alphanum(c) || is_among(b"+-.", c),
+            Part::Port => is_digit(c),
+            Part::Hex => is_hex(c),
+            Part::Later => is_alphanum(c)
+                || is_among(b"-._~", c)
+                || is_delim(c)
+                || c == b':' as u32,
+            Part::UserInfo => is_unreserved(c) || is_delim(c) || c == b':' as u32,
+            Part::Name => is_unreserved(c) || is_delim(c),
+            Part::Path => is_pchar(c) || c == b'/' as u32,
+            Part::Query => is_pchar(c) || is_iprivate(c) || is_among(b"/?", c),
+            Part::Fragment => is_pchar(c) || is_among(b"/?", c),
+        }
     }
 }
 
-fn is_scheme_char(c: u32) -> bool
-    ensures { result ≡ allowed (class_of Part.Scheme) c }
-{
-    if is_alphanum(c) {
-        return true;
-    }
-    is_among(b"+-.", c)
-}
-
-fn is_later_char(c: u32) -> bool
-    ensures { result ≡ allowed (class_of Part.Later) c }
-{
-    if is_alphanum(c) {
-        return true;
-    }
-    is_among(b"-._~", c) | (is_delim(c) | (c == 58))
-}
-
-fn is_user_char(c: u32) -> bool
-    ensures { result ≡ allowed (class_of Part.UserInfo) c }
-{
-    if is_unreserved(c) {
-        return true;
-    }
-    is_delim(c) | (c == 58)
-}
-
-fn is_name_char(c: u32) -> bool
-    ensures { result ≡ allowed (class_of Part.Name) c }
-{
-    if is_unreserved(c) {
-        return true;
-    }
-    is_delim(c)
-}
-
-fn is_path_char(c: u32) -> bool
-    ensures { result ≡ allowed (class_of Part.Path) c }
-{
-    if c == 47 {
-        return true;
-    }
-    is_pchar(c)
-}
-
-fn is_query_char(c: u32) -> bool
-    ensures { result ≡ allowed (class_of Part.Query) c }
-{
-    if is_pchar(c) {
-        return true;
-    }
-    is_iprivate(c) | is_among(b"/?", c)
-}
-
-fn is_fragment_char(c: u32) -> bool
-    ensures { result ≡ allowed (class_of Part.Fragment) c }
-{
-    if is_pchar(c) {
-        return true;
-    }
-    is_among(b"/?", c)
-}
-
+#[tactic(auto, unfolding(crate::specs::Parts::allowed, crate::specs::Parts::pchar, spec::specs::Bytes::ascii))]
 fn is_pchar(c: u32) -> bool
     ensures { result ≡ allowed pchar c }
 {
-    if is_unreserved(c) {
-        return true;
-    }
-    is_delim(c) | is_among(b":@", c)
+    is_unreserved(c) || is_delim(c) || is_among(b":@", c)
 }
 
+#[tactic(auto, unfolding(crate::specs::Parts::allowed, crate::specs::Parts::unreserved, spec::specs::Bytes::ascii))]
 fn is_unreserved(c: u32) -> bool
     ensures { result ≡ allowed unreserved c }
 {
-    if is_alphanum(c) {
-        return true;
-    }
-    is_among(b"-._~", c) | is_ucschar(c)
+    is_alphanum(c) || is_among(b"-._~", c) || is_ucschar(c)
 }
 
 fn is_delim(c: u32) -> bool
@@ -586,13 +479,14 @@ fn is_delim(c: u32) -> bool
     is_among(b"!$&'()*+,;=", c)
 }
 
+#[tactic(auto, using(crate::proofs::Classes::alphanum_ranges))]
 fn is_alphanum(c: u32) -> bool
     ensures { result ≡ is_alphanum c }
 {
-    if is_within(c, 97, 122) {
+    if is_within(c, b'a' as u32, b'z' as u32) {
         return true;
     }
-    if is_within(c, 65, 90) {
+    if is_within(c, b'A' as u32, b'Z' as u32) {
         return true;
     }
     is_digit(c)
@@ -601,67 +495,57 @@ fn is_alphanum(c: u32) -> bool
 fn is_alpha(c: u32) -> bool
     ensures { result ≡ is_alpha c }
 {
-    is_within(lowered(c), 97, 122)
+    is_within(lowered(c), b'a' as u32, b'z' as u32)
 }
 
 fn is_digit(c: u32) -> bool
     ensures { result ≡ is_digit c }
 {
-    is_within(c, 48, 57)
+    is_within(c, b'0' as u32, b'9' as u32)
 }
 
+#[tactic(auto, unfolding(crate::specs::Parts::is_hex, spec::specs::Bytes::byte))]
 fn is_hex(c: u32) -> bool
     ensures { result ≡ is_hex c }
 {
-    is_digit(c) | is_within(lowered(c), 97, 102)
+    is_digit(c) || is_within(lowered(c), b'a' as u32, b'f' as u32)
 }
 
 fn is_ucschar(c: u32) -> bool
     ensures { result ≡ is_ucschar c }
 {
-    if c < 0xA0 {
-        return false;
-    }
-    utils::in_ranges(&UCSCHAR, c)
+    c >= 0xA0 && utils::in_ranges(&UCSCHAR, c)
 }
 
 fn is_iprivate(c: u32) -> bool
     ensures { result ≡ is_iprivate c }
 {
-    if c < 0xE000 {
-        return false;
-    }
-    utils::in_ranges(&IPRIVATE, c)
+    c >= 0xE000 && utils::in_ranges(&IPRIVATE, c)
 }
 
 // A character of a set.
 fn is_among(set: &[u8], c: u32) -> bool
     ensures { result ≡ among set.now c }
 {
-    let mut i: usize = 0;
-    while i < set.len() {
-        if as_char(set[i]) == c {
-            return true;
-        }
-        i += 1;
-    }
-    false
+    set.iter().any(|b| as_char(*b) == c)
 }
 
+#[tactic(auto, unfolding(spec::specs::Bytes::between))]
 fn is_within(c: u32, low: u32, high: u32) -> bool
     ensures { result ≡ between low high c }
 {
-    (low <= c) & (c <= high)
+    low <= c && c <= high
 }
 
 // ASCII letters in lower case.
 fn lowered(c: u32) -> u32
     ensures { result ≡ lower c }
 {
-    if is_within(c, 65, 90) {
-        return 32 + c;
+    if is_within(c, b'A' as u32, b'Z' as u32) {
+        32 + c
+    } else {
+        c
     }
-    c
 }
 
 // A byte as a character.

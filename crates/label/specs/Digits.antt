@@ -1,11 +1,10 @@
 -- Numbers in decimal digits: the loop that fills a slice with them from the back, and the one that ends where
 -- nothing is left of the number.
 use Rattle.std.specs.Prelude.{◌≡◌, refl, Bool, true, false, List, [], ◌∷◌, ◌++◌, ℕ, zero, suc, ◌+◌, ◌-◌, ◌*◌, ◌/◌, ◌%◌, ◌^◌, ◌<◌, ◌≤◌, eqb, length, drop, set}
-use Rattle.std.proofs.Common.{sym, ap, ◌∙◌, append-nil, append_assoc, pow-suc, arith, length-set, drop-cons, drop-set-lt, get_or-set_same, ne_eqb, le-leb}
+use Rattle.std.proofs.Common.{sym, ap, ◌∙◌, append-nil, append_assoc, pow-suc, arith, length-set, drop-cons, drop-set-lt, get_or-set_same, ne_eqb}
 use Rattle.std.proofs.Math.Seq.{drop-length}
 use Rattle.std.proofs.lemmas.List.{set_at}
-use Rattle.std.proofs.lemmas.Bool.{lt-leb}
-use Rattle.spec.specs.Bytes.{byte, between}
+use Rattle.spec.specs.Bytes.{byte}
 use Rattle.spec.specs.NTriples.{digits, drop_zeros, decimal}
 pub use Rattle.theorems.specs.Labels.{length_digits}
 
@@ -125,17 +124,3 @@ filled_done {s} {v₀} {v} {i} h b =
       within = w.upto;
       text = sym (ap drop_zeros all ∙ (zeros_first i (drop i s) ∙ h.first z));
     }
-
--- ---- the bytes that are digits
-
-pub no_digit-below : (c : ℕ) → c < 48 → between (byte "0") (byte "9") c ≡ false
-unfolding between byte
-no_digit-below c h = rw (lt-leb 48 c h)
-
-pub no_digit-above : (c : ℕ) → 57 < c → between (byte "0") (byte "9") c ≡ false
-unfolding between byte
-no_digit-above c h = rw (le-leb 48 c (omega arith), lt-leb c 57 h)
-
-pub a_digit : (c : ℕ) → 48 ≤ c → c ≤ 57 → between (byte "0") (byte "9") c ≡ true
-unfolding between byte
-a_digit c h k = rw (le-leb 48 c h, le-leb c 57 k)

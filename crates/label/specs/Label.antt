@@ -1,70 +1,45 @@
 -- What a generator of labels answers, and the tests of labels.
-use Rattle.std.specs.Prelude.{◌≡◌, refl, true, false, List, [], ◌∷◌, ◌++◌, ℕ, ◌+◌, ◌-◌, ◌<◌, ◌≤◌, eqb, ltb, length, drop, get_or}
-use Rattle.std.proofs.Common.{sym, ap, ◌∙◌, append-nil, arith}
-use borrow.Author.Tests.{ltb-true, ltb-false, lt-ltb, le-ltb, eq-eqb, ne_eqb}
+use Rattle.std.specs.List.{ends_with}
+use Rattle.std.proofs.lemmas.Bool.Decides.{nat_tests}
+use Rattle.std.proofs.Math.Seq.{drop-length}
+use Rattle.std.specs.Prelude.{suc, ◌&&◌, ◌≡◌, refl, true, false, List, [], ◌∷◌, ◌++◌, ℕ, ◌+◌, ◌-◌, ◌<◌, ◌≤◌, Option, Some, None, IsSome, eqb, length, drop, get_or}
+use Rattle.std.proofs.Common.{◌∙◌, append-nil, arith, drop-cons}
+use borrow.Author.Tests.{eq-eqb, ne_eqb}
 use Rattle.spec.specs.Bytes.{ascii, byte, begins, every, between}
 use Rattle.spec.specs.Limits.{most_labels}
 use Rattle.spec.specs.NTriples.{digits, label}
 use Rattle.spec.specs.StartTag.{is_generated, ends_in_stop}
 use Rattle.copy.specs.Texts.{after_drop}
 use Rattle.label.specs.Digits.{length_digits}
-use Rattle.label.specs.declared.Generated.{Generated}
+use Rattle.label.specs.declared.BlankNodeId.{BlankNodeId}
 
--- What `generate` answers after `n` labels: the next one, while fewer than `most_labels` were generated.
-pub record Generates (n : ℕ) (g : Generated) : Type 0 where
-  pub answer : g.ok ≡ ltb n most_labels
-  pub goes : n < most_labels → g.generator.counter ≡ n + 1
-  pub made : n < most_labels → g.id.id ≡ label (n + 1)
-  pub kept : most_labels ≤ n → g.generator.counter ≡ n
-  pub none : most_labels ≤ n → g.id.id ≡ label 0
-  pub size : length g.id.id ≡ 12
+-- What `generate` answers after `n` labels, with `m` behind it: the next one, while fewer than `most_labels` were generated.
+pub record Made (n m : ℕ) (made : BlankNodeId) : Type 0 where
+  pub below : n < most_labels
+  pub goes : m ≡ n + 1
+  pub id : made.id ≡ label (n + 1)
+
+abbrev pub Generates : ℕ → ℕ → Option BlankNodeId → Type 0
+Generates n m None = (most_labels ≤ n) × (m ≡ n)
+Generates n m (Some made) = Made n m made
 
 pub length_label : (n : ℕ) → length (label n) ≡ 12
 unfolding label ascii
 length_label n = rw (length_digits 8 n)
 
--- ---- the two answers of `generate`
+-- a label is left
+pub one_left : (n m : ℕ) (r : Option BlankNodeId) → Generates n m r → n < most_labels → IsSome r
+one_left n m None g h = absurd (omega (arith, g.0))
+one_left n m (Some made) g h = refl
 
-pub generates_none : {n : ℕ} {g : Generated} → most_labels ≤ n → g.ok ≡ false → g.generator.counter ≡ n → g.id.id ≡ label 0 → Generates n g
-generates_none {n} h o k e =
-    record {
-      answer = o ∙ sym (le-ltb n most_labels h);
-      goes = λ l. absurd (omega arith);
-      made = λ l. absurd (omega arith);
-      kept = λ _. k;
-      none = λ _. e;
-      size = ap length e ∙ length_label 0;
-    }
+-- and it is made
+pub generated : {n m : ℕ} {r : Option BlankNodeId} {made : BlankNodeId} → Generates n m r → r ≡ Some made → Made n m made
+generated g e = rw e at g
 
 -- `y` is what was written behind `riog`
-pub generates_next : {n : ℕ} {g : Generated} {y : List ℕ} → n < most_labels → y ≡ digits 8 (n + 1) → g.ok ≡ true → g.generator.counter ≡ n + 1
-    → g.id.id ≡ ascii "riog" ++ (y ++ []) → Generates n g
+pub generates_next : {n m : ℕ} {made : BlankNodeId} {y : List ℕ} → n < most_labels → m ≡ n + 1 → y ≡ digits 8 m → made.id ≡ ascii "riog" ++ (y ++ []) → Made n m made
 unfolding label
-generates_next {n} {g} {y} h w o k e =
-    let made : g.id.id ≡ label (n + 1) = e ∙ rw (append-nil, w) in
-    record {
-      answer = o ∙ sym (lt-ltb n most_labels h);
-      goes = λ _. k;
-      made = λ _. made;
-      kept = λ l. absurd (omega arith);
-      none = λ l. absurd (omega arith);
-      size = ap length made ∙ length_label (n + 1);
-    }
-
--- ---- what a caller learns from the answer
-
-pub record Made (n : ℕ) (g : Generated) : Type 0 where
-  pub below : n < most_labels
-  pub goes : g.generator.counter ≡ n + 1
-  pub id : g.id.id ≡ label (n + 1)
-
-pub generated : {n : ℕ} {g : Generated} → Generates n g → g.ok ≡ true → Made n g
-generated {n} {g} h y =
-    let below : n < most_labels = ltb-true n most_labels (sym h.answer ∙ y) in
-    record { below = below; goes = h.goes below; id = h.made below }
-
-pub spent : {n : ℕ} {g : Generated} → Generates n g → g.ok ≡ false → most_labels ≤ n
-spent {n} h y = ltb-false n most_labels (sym h.answer ∙ y)
+generates_next h g w e = record { below = h; goes = g; id = e ∙ rw (append-nil, w, g) }
 
 -- ---- is it a label that could be generated?
 
@@ -83,18 +58,17 @@ module _ (s : List ℕ) where
 
 -- ---- does it end in a full stop?
 
-pub nothing_ends : (s : List ℕ) → length s ≡ 0 → false ≡ ends_in_stop s
-unfolding ends_in_stop
-nothing_ends [] h = refl
-nothing_ends (c ∷ s) h = absurd (omega arith)
-
 last_of : (c : ℕ) (s : List ℕ) → eqb (get_or (c ∷ s) (length s) 0) 46 ≡ ends_in_stop (c ∷ s)
 unfolding ends_in_stop byte
 last_of c [] = refl
 last_of c (d ∷ s) = last_of d s
 
-pub last_decides : (s : List ℕ) → (length s ≡ 0 → ⊥) → eqb (get_or s (length s - 1) 0) 46 ≡ ends_in_stop s
-last_decides [] h = absurd (h refl)
-last_decides (c ∷ s) h =
-    let e : length (c ∷ s) - 1 ≡ length s = omega arith in
-    rw e (last_of c s)
+turned : (c : ℕ) → (eqb 46 c && true) ≡ eqb c 46
+turned c = grind (arith, nat_tests)
+
+pub ends_with_stop : (s : List ℕ) → ends_with eqb s (46 ∷ []) ≡ ends_in_stop s
+unfolding ends_in_stop
+ends_with_stop [] = refl
+ends_with_stop (c ∷ s) =
+    let i : suc (length s) - 1 ≡ length s = omega arith in
+    rw (i, drop-cons (c ∷ s) (length s) 0 (omega arith), drop-length (c ∷ s)) (turned (get_or (c ∷ s) (length s) 0) ∙ last_of c s)

@@ -9,23 +9,15 @@ ghost use Rattle.label.specs.Label.{Generates};
 ghost use Rattle.label.specs.Digits.{Decimals};
 
 // A label: `riog` and eight digits.
-#[derive(Clone, Copy)]
+#[derive(Clone, Copy, Debug, PartialEq, Eq)]
 pub struct BlankNodeId {
     pub id: [u8; 12],
 }
 
 // How many labels were generated so far.
-#[derive(Clone, Copy)]
+#[derive(Clone, Copy, Debug, PartialEq, Eq)]
 pub struct BlankNodeIdGenerator {
     pub counter: u64,
-}
-
-// A generator's answer: where no label is left `ok` is false, the generator is as it was, and the id is no label of a node.
-#[derive(Clone, Copy)]
-pub struct Generated {
-    pub ok: bool,
-    pub generator: BlankNodeIdGenerator,
-    pub id: BlankNodeId,
 }
 
 // A number's twenty decimal digits, and where those without leading zeros begin.
@@ -46,26 +38,17 @@ impl BlankNodeIdGenerator {
         Self { counter: 0 }
     }
 
-    // The next label, and the generator behind it.
-    pub fn generate(self) -> Generated
-        ensures { Generates self.counter result }
+    // The next label. Where none is left the generator stays as it was.
+    pub fn generate(&mut self) -> Option<BlankNodeId>
+        ensures { Generates self.old.counter self.new.counter result }
     {
-        let counter = self.counter;
+        if self.counter >= Self::MOST_LABELS {
+            return None;
+        }
+        self.counter += 1;
         let mut id = *b"riog00000000";
-        if counter >= Self::MOST_LABELS {
-            return Generated {
-                ok: false,
-                generator: self,
-                id: BlankNodeId { id },
-            };
-        }
-        let next = counter + 1;
-        write_u64_to_slice(next, &mut id[4..]);
-        Generated {
-            ok: true,
-            generator: BlankNodeIdGenerator { counter: next },
-            id: BlankNodeId { id },
-        }
+        write_u64_to_slice(self.counter, &mut id[4..]);
+        Some(BlankNodeId { id })
     }
 }
 
@@ -77,6 +60,7 @@ impl Decimal {
         let mut digits = [b'0'; 20];
         let mut w = v;
         let mut i: usize = 20;
+        // As many turns as the number has digits: a `for` over the twenty places would need a way out after the last.
         while 0 < w {
             i -= 1;
             digits[i] = b'0' + (w % 10) as u8;
@@ -90,9 +74,7 @@ impl Decimal {
 pub fn write_u64_to_slice(mut v: u64, s: &mut [u8])
     ensures { s.new ≡ digits (length s.old) v }
 {
-    let mut i = s.len();
-    while 0 < i {
-        i -= 1;
+    for i in (0..s.len()).rev() {
         s[i] = b'0' + (v % 10) as u8;
         v /= 10;
     }
@@ -115,25 +97,12 @@ pub fn is_generated(s: &[u8]) -> bool
 pub fn ends_in_stop(s: &[u8]) -> bool
     ensures { result ≡ ends_in_stop s.now }
 {
-    if s.len() == 0 {
-        return false;
-    }
-    s[s.len() - 1] == b'.'
+    s.ends_with(b".")
 }
 
 // Is every byte a digit?
 fn are_digits(s: &[u8]) -> bool
     ensures { result ≡ every (between (byte "0") (byte "9")) s.now }
 {
-    let mut i = 0;
-    while i < s.len() {
-        if s[i] < b'0' {
-            return false;
-        }
-        if b'9' < s[i] {
-            return false;
-        }
-        i += 1;
-    }
-    true
+    s.iter().all(|b| b.is_ascii_digit())
 }

@@ -1,17 +1,18 @@
 -- Letters in either case: what a byte's lower case tells of the byte, and texts of the grammar that are compared so.
 use mathlib.Core.Path.{◌≡◌, refl, sym, ap, ◌∙◌}
-use mathlib.Core.Bool.{Bool, true, false, ◌&&◌}
+use mathlib.Core.Bool.{Bool, true, false, ◌&&◌, ◌||◌}
 use mathlib.Core.List.{[], ◌∷◌, map, head-eq_of_cons-eq, tail-eq_of_cons-eq, cons≢nil, nil≢cons}
 use Prim.Native.Nat.{ℕ, ◌+◌, ◌≤◌, ◌<◌}
 use native.Mathlib.Omega.{arith}
-use lib.Dec.{eqb, leb}
-use lib.ListN.{get_or, get_or-map}
+use lib.Dec.{eqb, leb, ltb}
 use borrow.Author.Tests.{leb-true, le-leb, lt-leb, eqb-true, eq-eqb, ne_eqb}
+use Rattle.std.proofs.lemmas.Bool.{ltb-true, ltb-false}
+use Rattle.std.specs.Char.{to_ascii_lowercase, eq_ignore_ascii_case, is_ascii_digit, is_ascii_alphabetic}
 use Rattle.spec.specs.Bytes.{Bytes, byte, when◌then◌else◌, between}
 use Rattle.spec.specs.Grammar.{Describes}
 use Rattle.spec.specs.Abnf.{lower, letters}
 use Rattle.spec.proofs.Booleans.{and_left, and_right, and_both}
-use Rattle.langtag.specs.Machine.{digit}
+use Rattle.langtag.specs.Machine.{letter, digit, is_x}
 
 -- ---- bytes
 
@@ -75,10 +76,32 @@ pub lower_capital : (c : ℕ) → 65 ≤ c → c ≤ 90 → lower c ≡ 32 + c
 unfolding lower byte when◌then◌else◌
 lower_capital c a b = rw (within 65 90 c a b)
 
--- a byte of a text in lower case
-pub get_d_lower : (s : Bytes) (i : ℕ) → get_or (map lower s) i 0 ≡ lower (get_or s i 0)
-unfolding lower byte between when◌then◌else◌
-get_d_lower s i = get_or-map lower s i 0
+-- what std's methods answer of a byte
+pub lowercase-lower : (c : ℕ) → to_ascii_lowercase c ≡ lower c
+lowercase-lower c = go (ltb c 65) (ltb c 91) refl refl
+  where
+    go : (a b : Bool) → ltb c 65 ≡ a → ltb c 91 ≡ b → to_ascii_lowercase c ≡ lower c
+    go true b e f = rw (e, lower_low c (ltb-true c 65 e))
+    go false true e f = rw (e, f, lower_capital c (ltb-false c 65 e) (omega (arith, ltb-true c 91 f))) (omega arith)
+    go false false e f = rw (e, f, lower_high c (omega (arith, ltb-false c 91 f)))
+
+pub same-x : (c : ℕ) → eq_ignore_ascii_case c 120 ≡ is_x c
+unfolding is_x byte
+same-x c = rw lowercase-lower
+
+pub digit-digit : (c : ℕ) → is_ascii_digit c ≡ digit c
+unfolding digit byte between
+digit-digit c = refl
+
+pub alphabetic-letter : (c : ℕ) → is_ascii_alphabetic c ≡ letter c
+unfolding letter lower byte between when◌then◌else◌
+alphabetic-letter c = go (leb 65 c && leb c 90) refl
+  where
+    go : (t : Bool) → (leb 65 c && leb c 90) ≡ t → (leb 65 c && leb c 90) || (leb 97 c && leb c 122) ≡ between 97 122 (when leb 65 c && leb c 90 then 32 + c else c)
+    go true e =
+        let p : (65 ≤ c) × (c ≤ 90) = inside 65 90 c e in
+        rw e (sym (within 97 122 (32 + c) (omega (arith, p.0)) (omega (arith, p.1))))
+    go false e = rw e
 
 pub lower_twice : (c : ℕ) → lower (lower c) ≡ lower c
 lower_twice c = go (cased c)

@@ -13,4 +13,3 @@ pub mod Subtags
 pub mod Machine
 pub mod Grandfathered
 pub mod WellFormed
-pub mod Words

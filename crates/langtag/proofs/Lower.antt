@@ -1,59 +1,60 @@
--- The loops that put letters in lower case on the way: what is stored, and what is compared.
-use mathlib.Core.Path.{◌≡◌, refl, sym, ◌∙◌}
-use mathlib.Core.Bool.{true, false}
-use mathlib.Core.List.{List, map}
-use Prim.Native.Nat.{ℕ, ◌+◌, ◌≤◌, ◌<◌}
+-- Texts in lower case: what is stored, and what is compared.
+use mathlib.Core.Path.{◌≡◌, refl, sym, ap, ◌∙◌}
+use mathlib.Core.Bool.{Bool, true, false, ◌||◌, false≢true}
+use mathlib.Core.List.{List, [], ◌∷◌, map}
+use Prim.Native.Nat.{ℕ, ◌+◌, ◌-◌, ◌≤◌}
 use native.Mathlib.Omega.{arith}
-use lib.ListN.{length, get_or, set, length-map}
-use Rattle.spec.specs.Bytes.{same}
+use Rattle.std.proofs.Common.{add-zero}
+use borrow.Rule.Slice.PartMut.{put_mid}
+use lib.ListN.{length, take, drop, length-map}
+use lib.Seq.{drop-drop}
+use Rattle.std.specs.Prelude.{◌↔◌, IsTrue}
+use Rattle.std.specs.List.{list_any}
+use Rattle.std.proofs.Common.{Bor}
+use Rattle.std.specs.Char.{to_ascii_lowercase}
+use Rattle.spec.specs.Bytes.{same, member}
 use Rattle.spec.specs.Abnf.{lower}
-use Rattle.copy.specs.Copy.{Put, Copied, copied-begins, copied_more, copied_done, put_none}
-use Rattle.copy.specs.Scan.{Alike, alike_never, alike_begins, alike_stop, alike_more, alike_done}
-use Rattle.langtag.proofs.Letters.{get_d_lower}
+use Rattle.copy.specs.Texts.{same_true, same_refl}
+use Rattle.copy.specs.Copy.{Put, put_true, part_stored, stored_at, length_stored, take_before, drop_stored, part_of}
+use Rattle.langtag.proofs.Letters.{lowercase-lower}
 
--- ---- `lowercase_into`: `i` bytes are stored
+pub lowercase-lowers : (s : List ℕ) → map to_ascii_lowercase s ≡ map lower s
+lowercase-lowers [] = refl
+lowercase-lowers (c ∷ s) = cc (lowercase-lower c, lowercase-lowers s)
 
-pub record Lowered (d : List ℕ) (at : ℕ) (s e : List ℕ) (i : ℕ) : Type 0 where
-  pub upto : i ≤ length s
-  pub fits : at + length s ≤ length d
-  pub same : length e ≡ length d
-  pub copied : Copied d at (map lower s) e i
+-- `lowercase_into`: what was put is put in lower case
+pub lowered : {d s e : List ℕ} {at : ℕ} → Put d at s e true
+    → Put d at (map lower s) (put_mid at (at + length s - at) e (map to_ascii_lowercase (take (at + length s - at) (drop at e)))) true
+unfolding stored_at
+lowered {d} {s} {e} {at} p =
+    let w = put_true p refl in
+    let room : at + length s ≤ length d = w.room in
+    let k : at + length s - at ≡ length s = omega arith in
+    let text : take (at + length s - at) (drop at e) ≡ s = rw w.eq (part_of (stored_at d at s) at (length s) ∙ part_stored d at s room) in
+    let head : take at e ≡ take at d = rw w.eq (take_before d at s room at (omega arith)) in
+    let tail : drop (at + length s - at) (drop at e) ≡ drop (at + length s) d =
+    rw (k, w.eq, drop-drop (length s) at (stored_at d at s)) (rw add-zero at (drop_stored d at s room 0)) in
+    let eq : put_mid at (at + length s - at) e (map to_ascii_lowercase (take (at + length s - at) (drop at e))) ≡ stored_at d at (map lower s) =
+    rw (text, head, tail, lowercase-lowers s, length-map s lower) in
+    record {
+      answer = rw (length-map s lower) p.answer;
+      wrote = λ _. eq;
+      kept = λ l. absurd (let m = rw (length-map s lower) at l in omega arith);
+      same = ap length eq ∙ length_stored d at (map lower s) (rw (length-map s lower) room);
+    }
 
-pub lowered_none : (d : List ℕ) (at : ℕ) (s : List ℕ) → length d < at + length s → Put d at (map lower s) d false
-lowered_none d at s h = put_none (rw (length-map s lower) h)
+-- `irregular`: texts that are the same but for the case of letters
+pub folded : (s w : List ℕ) (r : Bool) → (IsTrue r ↔ (map to_ascii_lowercase s ≡ map to_ascii_lowercase w)) → r ≡ same (map lower s) (map lower w)
+folded s w true h =
+    let e : map lower s ≡ map lower w = sym (lowercase-lowers s) ∙ h.0 refl ∙ lowercase-lowers w in
+    rw e (sym (same_refl (map lower w)))
+folded s w false h = go (same (map lower s) (map lower w)) refl
+  where
+    go : (t : Bool) → same (map lower s) (map lower w) ≡ t → false ≡ t
+    go true e = absurd (false≢true (h.1 (lowercase-lowers s ∙ same_true (map lower s) (map lower w) e ∙ sym (lowercase-lowers w))))
+    go false e = refl
 
-pub lowered_begins : {d s : List ℕ} {at : ℕ} → at + length s ≤ length d → Lowered d at s d 0
-lowered_begins {d} {s} {at} h =
-    record { upto = omega arith; fits = h; same = refl; copied = copied-begins (rw (length-map s lower) h) }
-
-pub lowered_more : {d s e : List ℕ} {at i b : ℕ} → Lowered d at s e i → i < length s → b ≡ lower (get_or s i 0) → Lowered d at s (set e (at + i) b) (i + 1)
-lowered_more {d} {s} {e} {at} {i} {b} h l q =
-    let n : Copied d at (map lower s) (set e (at + i) b) (i + 1) =
-    rw (q ∙ sym (get_d_lower s i)) (copied_more h.copied (rw (length-map s lower) l)) in
-    record { upto = omega arith; fits = h.fits; same = n.same; copied = n }
-
-pub lowered_done : {d s e : List ℕ} {at i : ℕ} → Lowered d at s e i → length s ≤ i → Put d at (map lower s) e true
-lowered_done {d} {s} {e} {at} {i} h l = copied_done h.copied (rw (length-map s lower) l)
-
--- ---- `is_word`: `i` bytes are the same
-
-pub record Folded (a b : List ℕ) (i : ℕ) : Type 0 where
-  pub upto : i ≤ length a
-  pub equal : length a ≡ length b
-  pub alike : Alike (map lower a) b i
-
-pub folded_never : (a b : List ℕ) → (length a ≡ length b → ⊥) → false ≡ same (map lower a) b
-folded_never a b h = alike_never (map lower a) b λ e. h (sym (length-map a lower) ∙ e)
-
-pub folded_begins : {a b : List ℕ} → length a ≡ length b → Folded a b 0
-folded_begins {a} {b} h = record { upto = omega arith; equal = h; alike = alike_begins (length-map a lower ∙ h) }
-
-pub folded_stop : {a b : List ℕ} {i c : ℕ} → Folded a b i → i < length a → c ≡ lower (get_or a i 0) → (c ≡ get_or b i 0 → ⊥) → false ≡ same (map lower a) b
-folded_stop {a} {b} {i} {c} h l q e = alike_stop h.alike (rw (length-map a lower) l) λ d. e (q ∙ sym (get_d_lower a i) ∙ d)
-
-pub folded_more : {a b : List ℕ} {i c : ℕ} → Folded a b i → i < length a → c ≡ lower (get_or a i 0) → c ≡ get_or b i 0 → Folded a b (i + 1)
-folded_more {a} {b} {i} {c} h l q e =
-    record { upto = omega arith; equal = h.equal; alike = alike_more h.alike (rw (length-map a lower) l) (get_d_lower a i ∙ sym q ∙ e) }
-
-pub folded_done : {a b : List ℕ} {i : ℕ} → Folded a b i → length a ≤ i → true ≡ same (map lower a) b
-folded_done {a} {b} {i} h l = alike_done h.alike (rw (length-map a lower) l)
+pub list_any-member : (s : List ℕ) (ws : List (Bor (List ℕ))) → list_any (λ w. same (map lower s) (map lower w.now)) ws ≡ member (map lower s) (map (λ w. map lower w.now) ws)
+unfolding member
+list_any-member s [] = refl
+list_any-member s (w ∷ ws) = ap (same (map lower s) (map lower w.now) ||◌) (list_any-member s ws)

@@ -17,7 +17,6 @@ use Rattle.spec.proofs.Booleans.{and_left, and_right, and_both}
 use Rattle.theorems.specs.Grammar.{accepts_sound, accepts_complete}
 use Rattle.langtag.specs.declared.Place.{Place}
 use Rattle.langtag.specs.declared.Place.TheVariants as P
-use Rattle.langtag.specs.declared.Subtag.{Subtag}
 use Rattle.langtag.specs.declared.Reader.{Reader}
 use Rattle.langtag.specs.Machine.{letter, digit, is_x, fresh, longer, first, grown, follow, final, start, ended, step, reads, composed}
 use Rattle.langtag.proofs.Places as K
@@ -166,9 +165,8 @@ pub record Reading (s : Bytes) (r : Reader) (i : ℕ) : Type 0 where
   pub upto : i ≤ length s
   pub rest : reads start s ≡ reads r (drop i s)
 
-pub reading_begins : {s : Bytes} {u : Subtag} → u ≡ fresh → Reading s (record { place = P.Start; subtag = u }) 0
-unfolding start
-reading_begins {s} {u} e = record { upto = omega arith; rest = rw e }
+pub reading_begins : {s : Bytes} {r : Reader} → r ≡ start → Reading s r 0
+reading_begins {s} {r} e = record { upto = omega arith; rest = rw e }
 
 pub reading_more : {s : Bytes} {r n : Reader} {i : ℕ} → Reading s r i → i < length s → n ≡ step r (get_or s i 0) → Reading s n (i + 1)
 unfolding reads

@@ -2,17 +2,16 @@
 #![tactic(auto)]
 
 ghost use Rattle.std.specs.Prelude.{◌≡◌, map};
-ghost use Rattle.spec.specs.Bytes.{when◌then◌else◌, same, member};
 ghost use Rattle.spec.specs.Abnf.{lower};
 ghost use Rattle.spec.specs.XmlLang.{verdict};
 ghost use Rattle.copy.specs.Copy.{Put};
-ghost use Rattle.langtag.specs.Machine.{letter, digit, is_x, fresh, longer, first, grown, kind, extensions, variants, regions, scripts, extlangs, languages, extended, private, follow, final, ended, step, composed, words, irregular};
+ghost use Rattle.langtag.specs.Machine.{fresh, longer, grown, kind, extensions, variants, regions, scripts, extlangs, languages, extended, private, follow, final, start, ended, step, composed, irregular};
 
 use spec::Verdict;
 
 // What a subtag can serve as, by its length and its bytes: letters and digits are counted, `Variant` is no row of letters,
 // `Other` serves in extensions and private use alone, and `Bad` nowhere.
-#[derive(Clone, Copy)]
+#[derive(Clone, Copy, PartialEq, Eq, Debug)]
 enum Kind {
     X,
     Singleton,
@@ -28,7 +27,7 @@ enum Kind {
 
 // Where in the grammar a tag has come to, by its last subtag. After `Language3` up to three extlangs may follow, after
 // `Region` variants; `Singleton` and `X` lack a subtag yet.
-#[derive(Clone, Copy)]
+#[derive(Clone, Copy, PartialEq, Eq, Debug)]
 enum Place {
     Start,
     Language3,
@@ -63,50 +62,51 @@ struct Reader {
     subtag: Subtag,
 }
 
+// The tags that are registered and not composed as the grammar says.
+const IRREGULAR: [&[u8]; 17] = [
+    b"en-gb-oed",
+    b"i-ami",
+    b"i-bnn",
+    b"i-default",
+    b"i-enochian",
+    b"i-hak",
+    b"i-klingon",
+    b"i-lux",
+    b"i-mingo",
+    b"i-navajo",
+    b"i-pwn",
+    b"i-tao",
+    b"i-tay",
+    b"i-tsu",
+    b"sgn-be-fr",
+    b"sgn-be-nl",
+    b"sgn-ch-de",
+];
+
 // Is the text a well-formed language tag, or the empty one, which clears?
 pub fn parse(s: &[u8]) -> Verdict
     ensures { result ≡ verdict s.now }
 {
-    if s.len() == 0 {
+    if s.is_empty() {
         return Verdict::Clears;
     }
-    if composed(s) {
-        return Verdict::Good;
+    if composed(s) || irregular(s) {
+        Verdict::Good
+    } else {
+        Verdict::Bad
     }
-    if irregular(s) {
-        return Verdict::Good;
-    }
-    Verdict::Bad
 }
 
-// An ASCII letter in lower case, and any other byte as it is.
-fn lowercase(b: u8) -> u8
-    ensures { result ≡ lower b }
-{
-    if b < b'A' {
-        return b;
-    }
-    if b'Z' < b {
-        return b;
-    }
-    32 + b
-}
-
-// `s` in lower case into `dst`, from `at` on. Where it does not fit, nothing changes and the answer is false.
+// `s` in lower case into `dst`, from `at` on. Where it does not fit, nothing changes and the answer is false
+// (a bool, as `Put` of copy says and `start_tag` calls it).
 pub fn lowercase_into(dst: &mut [u8], at: usize, s: &[u8]) -> bool
     ensures { Put dst.old at (map lower s.now) dst.new result }
 {
-    if dst.len() < at {
+    if !copy::put(dst, at, s) {
         return false;
     }
-    if dst.len() - at < s.len() {
-        return false;
-    }
-    let mut i = 0;
-    while i < s.len() {
-        dst[at + i] = lowercase(s[i]);
-        i += 1;
-    }
+    let end = at + s.len();
+    dst[at..end].make_ascii_lowercase();
     true
 }
 
@@ -114,74 +114,112 @@ pub fn lowercase_into(dst: &mut [u8], at: usize, s: &[u8]) -> bool
 fn composed(s: &[u8]) -> bool
     ensures { result ≡ composed s.now }
 {
-    let mut reader = Reader {
-        place: Place::Start,
-        subtag: fresh(),
-    };
-    let mut i = 0;
-    while i < s.len() {
-        reader = step(reader, s[i]);
-        i += 1;
+    let mut reader = Reader::start();
+    for b in s {
+        reader = reader.step(*b);
     }
-    is_final(ended(reader))
+    is_final(reader.ended())
 }
 
-// One byte more.
-fn step(r: Reader, b: u8) -> Reader
-    ensures { result ≡ step r b }
+// Is it one of those listed, letters in either case?
+fn irregular(s: &[u8]) -> bool
+    ensures { result ≡ irregular s.now }
 {
-    if b == b'-' {
-        return Reader {
-            place: ended(r),
-            subtag: fresh(),
-        };
-    }
-    let place = r.place;
-    let subtag = r.subtag;
-    Reader {
-        place: place,
-        subtag: grown(subtag, b),
-    }
+    IRREGULAR.iter().any(|tag| s.eq_ignore_ascii_case(tag))
 }
 
-// Where the tag leads if its last subtag ends here.
-fn ended(r: Reader) -> Place
-    ensures { result ≡ ended r }
-{
-    let place = r.place;
-    let subtag = r.subtag;
-    follow(place, kind_of(subtag))
-}
+impl Reader {
+    fn start() -> Reader
+        ensures { result ≡ start }
+    {
+        Reader {
+            place: Place::Start,
+            subtag: Subtag::fresh(),
+        }
+    }
 
-// ---- subtags
+    // One byte more.
+    fn step(self, b: u8) -> Reader
+        ensures { result ≡ step self b }
+    {
+        if b == b'-' {
+            Reader {
+                place: self.ended(),
+                subtag: Subtag::fresh(),
+            }
+        } else {
+            Reader {
+                place: self.place,
+                subtag: self.subtag.grown(b),
+            }
+        }
+    }
 
-// No byte yet: what is said of all its bytes holds.
-fn fresh() -> Subtag
-    ensures { result ≡ fresh }
-{
-    Subtag {
-        length: 0,
-        letters: true,
-        digits: true,
-        alphanum: true,
-        numbered: false,
-        x: true,
+    // Where the tag leads if its last subtag ends here.
+    fn ended(self) -> Place
+        ensures { result ≡ ended self }
+    {
+        follow(self.place, self.subtag.kind())
     }
 }
 
-fn grown(u: Subtag, b: u8) -> Subtag
-    ensures { result ≡ grown u b }
-{
-    let letter = is_letter(b);
-    let digit = is_digit(b);
-    let x = is_x(b);
-    Subtag {
-        length: longer(u.length),
-        letters: u.letters & letter,
-        digits: u.digits & digit,
-        alphanum: u.alphanum & (letter | digit),
-        numbered: first(u.length, digit, u.numbered),
-        x: u.x & x,
+impl Subtag {
+    // No byte yet: what is said of all its bytes holds.
+    fn fresh() -> Subtag
+        ensures { result ≡ fresh }
+    {
+        Subtag {
+            length: 0,
+            letters: true,
+            digits: true,
+            alphanum: true,
+            numbered: false,
+            x: true,
+        }
+    }
+
+    // One byte more.
+    fn grown(self, b: u8) -> Subtag
+        ensures { result ≡ grown self b }
+    {
+        let letter = b.is_ascii_alphabetic();
+        let digit = b.is_ascii_digit();
+        let x = b.eq_ignore_ascii_case(&b'x');
+        Subtag {
+            length: longer(self.length),
+            letters: self.letters & letter,
+            digits: self.digits & digit,
+            alphanum: self.alphanum & (letter | digit),
+            numbered: if self.length == 0 {
+                digit
+            } else {
+                self.numbered
+            },
+            x: self.x & x,
+        }
+    }
+
+    fn kind(self) -> Kind
+        ensures { result ≡ kind self }
+    {
+        if !self.alphanum {
+            return Kind::Bad;
+        }
+        match self.length {
+            1 if self.x => Kind::X,
+            1 => Kind::Singleton,
+            2 if self.letters => Kind::Letters2,
+            2 => Kind::Other,
+            3 if self.letters => Kind::Letters3,
+            3 if self.digits => Kind::Digits3,
+            3 => Kind::Other,
+            4 if self.letters => Kind::Letters4,
+            4 if self.numbered => Kind::Variant,
+            4 => Kind::Other,
+            5..=8 if self.letters => Kind::Letters5,
+            5..=8 => Kind::Variant,
+            _ => Kind::Bad,
+        }
     }
 }
 
@@ -192,100 +230,16 @@ fn longer(n: u8) -> u8
     if n <= 8 { n + 1 } else { 9 }
 }
 
-// The first byte decides.
-fn first(n: u8, new: bool, old: bool) -> bool
-    ensures { result ≡ first n new old }
-{
-    if n == 0 { new } else { old }
-}
-
-fn is_letter(b: u8) -> bool
-    ensures { result ≡ letter b }
-{
-    let c = lowercase(b);
-    if c < b'a' {
-        return false;
-    }
-    c <= b'z'
-}
-
-fn is_digit(b: u8) -> bool
-    ensures { result ≡ digit b }
-{
-    if b < b'0' {
-        return false;
-    }
-    b <= b'9'
-}
-
-fn is_x(b: u8) -> bool
-    ensures { result ≡ is_x b }
-{
-    lowercase(b) == b'x'
-}
-
-fn kind_of(u: Subtag) -> Kind
-    ensures { result ≡ kind u }
-{
-    let n = u.length;
-    if !u.alphanum {
-        return Kind::Bad;
-    }
-    if n == 1 {
-        return choose(u.x, Kind::X, Kind::Singleton);
-    }
-    if n == 2 {
-        return choose(u.letters, Kind::Letters2, Kind::Other);
-    }
-    if n == 3 {
-        return choose(
-            u.letters,
-            Kind::Letters3,
-            choose(u.digits, Kind::Digits3, Kind::Other),
-        );
-    }
-    if n == 4 {
-        return choose(
-            u.letters,
-            Kind::Letters4,
-            choose(u.numbered, Kind::Variant, Kind::Other),
-        );
-    }
-    if n < 5 {
-        return Kind::Bad;
-    }
-    if 8 < n {
-        return Kind::Bad;
-    }
-    choose(u.letters, Kind::Letters5, Kind::Variant)
-}
-
-fn choose(t: bool, a: Kind, b: Kind) -> Kind
-    ensures { result ≡ (when t then a else b) }
-{
-    if t { a } else { b }
-}
-
 // ---- places
 
 // May a tag end here?
 fn is_final(q: Place) -> bool
     ensures { result ≡ final q }
 {
-    match q {
-        Place::Start => false,
-        Place::Language3 => true,
-        Place::Language2 => true,
-        Place::Language1 => true,
-        Place::Language => true,
-        Place::Script => true,
-        Place::Region => true,
-        Place::Singleton => false,
-        Place::Extension => true,
-        Place::X => false,
-        Place::Private => true,
-        Place::Nowhere => false,
-    }
+    !matches!(
+        q,
+        Place::Start | Place::Singleton | Place::X | Place::Nowhere
+    )
 }
 
 // Where a subtag of a kind leads from a place.
@@ -302,8 +256,7 @@ fn follow(q: Place, k: Kind) -> Place
         Place::Region => variants(k),
         Place::Singleton => extended(Place::Nowhere, k),
         Place::Extension => extended(extensions(k), k),
-        Place::X => private(k),
-        Place::Private => private(k),
+        Place::X | Place::Private => private(k),
         Place::Nowhere => Place::Nowhere,
     }
 }
@@ -313,15 +266,9 @@ fn languages(k: Kind) -> Place
 {
     match k {
         Kind::X => Place::X,
-        Kind::Singleton => Place::Nowhere,
-        Kind::Letters2 => Place::Language3,
-        Kind::Letters3 => Place::Language3,
-        Kind::Letters4 => Place::Language,
-        Kind::Letters5 => Place::Language,
-        Kind::Digits3 => Place::Nowhere,
-        Kind::Variant => Place::Nowhere,
-        Kind::Other => Place::Nowhere,
-        Kind::Bad => Place::Nowhere,
+        Kind::Letters2 | Kind::Letters3 => Place::Language3,
+        Kind::Letters4 | Kind::Letters5 => Place::Language,
+        _ => Place::Nowhere,
     }
 }
 
@@ -330,70 +277,35 @@ fn extlangs(next: Place, k: Kind) -> Place
     ensures { result ≡ extlangs next k }
 {
     match k {
-        Kind::X => Place::X,
-        Kind::Singleton => Place::Singleton,
-        Kind::Letters2 => Place::Region,
         Kind::Letters3 => next,
-        Kind::Letters4 => Place::Script,
-        Kind::Letters5 => Place::Region,
-        Kind::Digits3 => Place::Region,
-        Kind::Variant => Place::Region,
-        Kind::Other => Place::Nowhere,
-        Kind::Bad => Place::Nowhere,
+        _ => scripts(k),
     }
 }
 
 fn scripts(k: Kind) -> Place
     ensures { result ≡ scripts k }
 {
-    let other = regions(k);
     match k {
-        Kind::X => other,
-        Kind::Singleton => other,
-        Kind::Letters2 => other,
-        Kind::Letters3 => other,
         Kind::Letters4 => Place::Script,
-        Kind::Letters5 => other,
-        Kind::Digits3 => other,
-        Kind::Variant => other,
-        Kind::Other => other,
-        Kind::Bad => other,
+        _ => regions(k),
     }
 }
 
 fn regions(k: Kind) -> Place
     ensures { result ≡ regions k }
 {
-    let other = variants(k);
     match k {
-        Kind::X => other,
-        Kind::Singleton => other,
-        Kind::Letters2 => Place::Region,
-        Kind::Letters3 => other,
-        Kind::Letters4 => other,
-        Kind::Letters5 => other,
-        Kind::Digits3 => Place::Region,
-        Kind::Variant => other,
-        Kind::Other => other,
-        Kind::Bad => other,
+        Kind::Letters2 | Kind::Digits3 => Place::Region,
+        _ => variants(k),
     }
 }
 
 fn variants(k: Kind) -> Place
     ensures { result ≡ variants k }
 {
-    let other = extensions(k);
     match k {
-        Kind::X => other,
-        Kind::Singleton => other,
-        Kind::Letters2 => other,
-        Kind::Letters3 => other,
-        Kind::Letters4 => other,
-        Kind::Letters5 => Place::Region,
-        Kind::Digits3 => other,
-        Kind::Variant => Place::Region,
-        Kind::Other => other,
-        Kind::Bad => other,
+        Kind::Letters5 | Kind::Variant => Place::Region,
+        _ => extensions(k),
     }
 }
 
@@ -403,14 +315,7 @@ fn extensions(k: Kind) -> Place
     match k {
         Kind::X => Place::X,
         Kind::Singleton => Place::Singleton,
-        Kind::Letters2 => Place::Nowhere,
-        Kind::Letters3 => Place::Nowhere,
-        Kind::Letters4 => Place::Nowhere,
-        Kind::Letters5 => Place::Nowhere,
-        Kind::Digits3 => Place::Nowhere,
-        Kind::Variant => Place::Nowhere,
-        Kind::Other => Place::Nowhere,
-        Kind::Bad => Place::Nowhere,
+        _ => Place::Nowhere,
     }
 }
 
@@ -419,16 +324,8 @@ fn extended(other: Place, k: Kind) -> Place
     ensures { result ≡ extended other k }
 {
     match k {
-        Kind::X => other,
-        Kind::Singleton => other,
-        Kind::Letters2 => Place::Extension,
-        Kind::Letters3 => Place::Extension,
-        Kind::Letters4 => Place::Extension,
-        Kind::Letters5 => Place::Extension,
-        Kind::Digits3 => Place::Extension,
-        Kind::Variant => Place::Extension,
-        Kind::Other => Place::Extension,
-        Kind::Bad => other,
+        Kind::X | Kind::Singleton | Kind::Bad => other,
+        _ => Place::Extension,
     }
 }
 
@@ -436,59 +333,7 @@ fn private(k: Kind) -> Place
     ensures { result ≡ private k }
 {
     match k {
-        Kind::X => Place::Private,
-        Kind::Singleton => Place::Private,
-        Kind::Letters2 => Place::Private,
-        Kind::Letters3 => Place::Private,
-        Kind::Letters4 => Place::Private,
-        Kind::Letters5 => Place::Private,
-        Kind::Digits3 => Place::Private,
-        Kind::Variant => Place::Private,
-        Kind::Other => Place::Private,
         Kind::Bad => Place::Nowhere,
+        _ => Place::Private,
     }
-}
-
-// ---- grandfathered tags
-
-// The tags that are registered and not composed as the grammar says.
-fn irregular(s: &[u8]) -> bool
-    ensures { result ≡ irregular s.now }
-{
-    listed(
-        s,
-        b"en-gb-oed i-ami i-bnn i-default i-enochian i-hak i-klingon i-lux i-mingo i-navajo i-pwn i-tao i-tay i-tsu sgn-be-fr sgn-be-nl sgn-ch-de",
-    )
-}
-
-// Is `s`, its letters in lower case, one of the words of the text?
-fn listed(s: &[u8], text: &[u8]) -> bool
-    ensures { result ≡ member (map lower s.now) (words text.now) }
-{
-    let mut from = 0;
-    while from < text.len() {
-        let end = from + copy::find(&text[from..], b' ');
-        if is_word(s, &text[from..end]) {
-            return true;
-        }
-        from = end + 1;
-    }
-    false
-}
-
-// Is `s`, its letters in lower case, the word?
-fn is_word(s: &[u8], word: &[u8]) -> bool
-    ensures { result ≡ same (map lower s.now) word.now }
-{
-    if s.len() != word.len() {
-        return false;
-    }
-    let mut i = 0;
-    while i < s.len() {
-        if lowercase(s[i]) != word[i] {
-            return false;
-        }
-        i += 1;
-    }
-    true
 }

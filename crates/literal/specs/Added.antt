@@ -24,17 +24,15 @@ use Rattle.state.specs.declared.Registers.{Registers}
 use Rattle.state.specs.Meaning.{at, start_of, elements_of}
 use Rattle.state.specs.Valid.{Valid}
 use Rattle.state.specs.Held.{room}
-use Rattle.state_stack.specs.declared.Changed.{Changed}
 use Rattle.state_stack.specs.Calls.{top_frame, same_kind, Xmls, may_tail}
 use Rattle.state_stack.specs.Change.{Holds, topped_to, top_frame_lem}
 use Rattle.state_stack.specs.Laws.{by, xml_holds, topmost, top_deep}
 use Rattle.state_inner.specs.Calls.{held_in, held_is}
 use Rattle.event.specs.declared.Done.{Done}
-use Rattle.event.specs.declared.Outcome.{Outcome}
-use Rattle.event.specs.declared.Outcome.TheVariants.{Stop, Did}
 use Rattle.event.specs.Result.{Asks}
 use Rattle.literal.specs.Quiet.{Quiet, Quietly, held_with, held_with_lem, holds_self, holds_as, quiet_over, quiet_done}
 use Rattle.literal.specs.Xml.{adds_nothing, adds_bytes, keeps_read}
+use Rattle.std.specs.Prelude.{Option, unwrap_or, Result, Ok, Err}
 
 -- n is a writer's count of x, whose bytes, if they have room, are the first of `area`
 pub record XmlIn (area : List ℕ) (n : ℕ) (x : Bytes) : Type 0 where
@@ -63,12 +61,12 @@ pub record Grown (r : Registers) (fs bs is w : List ℕ) (x : Bytes) (more : ℕ
   pub holds : Holds (topped_to r top) fs' bs is w' r.mode (start_of r w) (with_xml r fs bs is w x) r.flags.rooted r.counts.labels
   pub fits : held_with (start_of r w) (with_xml r fs bs is w x) + more ≤ 49_152
 
-abbrev pub Grows : Outcome → Registers → List ℕ → List ℕ → List ℕ → List ℕ → Bytes → ℕ → List ℕ → List ℕ → Type 0
-Grows (Stop n) r fs bs is w x more fs' w' = Over r fs bs is w x more n fs' w'
-Grows (Did d) r fs bs is w x more fs' w' = Grown r fs bs is w x more d fs' w'
+abbrev pub Grows : Result Done Refusal → Registers → List ℕ → List ℕ → List ℕ → List ℕ → Bytes → ℕ → List ℕ → List ℕ → Type 0
+Grows (Err n) r fs bs is w x more fs' w' = Over r fs bs is w x more n fs' w'
+Grows (Ok d) r fs bs is w x more fs' w' = Grown r fs bs is w x more d fs' w'
 
 -- what `add` does to a valid state, whatever XML text stands in `area`
-pub record Adds (r : Registers) (fs w area : List ℕ) (n more : ℕ) (o : Outcome) (fs' w' : List ℕ) : Type 0 where
+pub record Adds (r : Registers) (fs w area : List ℕ) (n more : ℕ) (o : Result Done Refusal) (fs' w' : List ℕ) : Type 0 where
   pub grows : (bs is : List ℕ) (x : Bytes) → Valid r fs bs is w → XmlIn area n x → Grows o r fs bs is w x more fs' w'
 
 -- how much of n bytes of XML text is kept
@@ -122,7 +120,7 @@ kept_count r fs {n = n} {x = x} i = go (same_kind (top_frame r fs).kind ParseTyp
     go true = omega (arith, i.counts)
     go false = omega arith
 
-pub add_over : {r : Registers} {fs w area : List ℕ} {n more g : ℕ} → g ≡ kept_of r fs n → 49_152 < held_in r + g + more → Adds r fs w area n more (Stop OverLimit) fs w
+pub add_over : {r : Registers} {fs w area : List ℕ} {n more g : ℕ} → g ≡ kept_of r fs n → 49_152 < held_in r + g + more → Adds r fs w area n more (Err OverLimit) fs w
 add_over {r} {fs} {w} {area} {n} {more} {g} k l =
     record { grows = λ bs is x v i. record { number = refl; over = omega (arith, held_more v x, kept_count r fs i, k); frames = refl; work = refl } }
 
@@ -146,16 +144,16 @@ literal-room {r} {fs} {bs} {is} {w} v y n h =
     )
 
 -- nothing changes where nothing is kept
-unchanged : {r : Registers} {fs w t : List ℕ} {c : Changed} {fs' w' : List ℕ} → Xmls r fs w t c fs' w' → same_kind (top_frame r fs).kind ParseTypeLiteralPropertyElt ≡ false
-    → (c.registers ≡ r) × (fs' ≡ fs) × (w' ≡ w)
+unchanged : {r : Registers} {fs w t : List ℕ} {c : Option Registers} {fs' w' : List ℕ} → Xmls r fs w t c fs' w' → same_kind (top_frame r fs).kind ParseTypeLiteralPropertyElt ≡ false
+    → (unwrap_or c r ≡ r) × (fs' ≡ fs) × (w' ≡ w)
 unchanged {r} {fs} p z =
     by (same_kind (top_frame r fs).kind ParseTypeOtherPropertyElt)
-    (λ o. (ap (λ (d : Changed). d.registers) (p.dropped o).0, (p.dropped o).1, (p.dropped o).2))
+    (λ o. (ap (λ d. unwrap_or d r) (p.dropped o).0, (p.dropped o).1, (p.dropped o).2))
     (λ o. ((p.kept z o).registers, (p.kept z o).words, (p.kept z o).bytes))
 
-module _ {r : Registers} {fs w area : List ℕ} {n more g : ℕ} {c : Changed} {fs' w' : List ℕ} (k : g ≡ kept_of r fs n) (l : held_in r + g + more ≤ 49_152) (a : 49_152 ≤ length area)
+module _ {r : Registers} {fs w area : List ℕ} {n more g : ℕ} {c : Option Registers} {fs' w' : List ℕ} (k : g ≡ kept_of r fs n) (l : held_in r + g + more ≤ 49_152) (a : 49_152 ≤ length area)
     (p : Xmls r fs w (take (g - 0) (drop 0 area)) c fs' w') {bs is : List ℕ} {x : Bytes} (v : Valid r fs bs is w) (i : XmlIn area n x) where
-  grown_none : same_kind (top_frame r fs).kind ParseTypeLiteralPropertyElt ≡ false → Grown r fs bs is w x more (record { written = 0; registers = c.registers }) fs' w'
+  grown_none : same_kind (top_frame r fs).kind ParseTypeLiteralPropertyElt ≡ false → Grown r fs bs is w x more (record { written = 0; registers = unwrap_or c r }) fs' w'
   grown_none z =
       let u = unchanged p z in
       record {
@@ -165,7 +163,7 @@ module _ {r : Registers} {fs w area : List ℕ} {n more g : ℕ} {c : Changed} {
         fits = omega (arith, held_more v x, kept_none r fs (length x) z, kept_none r fs n z);
       }
 
-  grown-literal : same_kind (top_frame r fs).kind ParseTypeLiteralPropertyElt ≡ true → Grown r fs bs is w x more (record { written = 0; registers = c.registers }) fs' w'
+  grown-literal : same_kind (top_frame r fs).kind ParseTypeLiteralPropertyElt ≡ true → Grown r fs bs is w x more (record { written = 0; registers = unwrap_or c r }) fs' w'
   unfolding part
   grown-literal y =
       let kn = kept_all r fs n y in
@@ -183,23 +181,23 @@ module _ {r : Registers} {fs w area : List ℕ} {n more g : ℕ} {c : Changed} {
         fits = omega (arith, held_more v x, kept_all r fs (length x) y);
       }
 
-pub add_done : {r : Registers} {fs w area : List ℕ} {n more g : ℕ} {c : Changed} {fs' w' : List ℕ} → g ≡ kept_of r fs n → held_in r + g + more ≤ 49_152 → 49_152 ≤ length area
-    → Xmls r fs w (take (g - 0) (drop 0 area)) c fs' w' → Adds r fs w area n more (Did (record { written = 0; registers = c.registers })) fs' w'
+pub add_done : {r : Registers} {fs w area : List ℕ} {n more g : ℕ} {c : Option Registers} {fs' w' : List ℕ} → g ≡ kept_of r fs n → held_in r + g + more ≤ 49_152 → 49_152 ≤ length area
+    → Xmls r fs w (take (g - 0) (drop 0 area)) c fs' w' → Adds r fs w area n more (Ok (record { written = 0; registers = unwrap_or c r })) fs' w'
 add_done {r} {fs} k l a p =
     record { grows = λ bs is x v i. by (same_kind (top_frame r fs).kind ParseTypeLiteralPropertyElt) (grown-literal k l a p v i) (grown_none k l a p v i) }
 
 -- ---- an event that only adds XML text
 
 -- e is handled in state r₀; what it leaves open but for the XML text is what state r holds
-pub adds_quietly : {e : Event} {r₀ r : Registers} {fs bs is w area : List ℕ} {n : ℕ} {x : Bytes} {es : List Element} {o : Outcome} {fs' w' : List ℕ}
+pub adds_quietly : {e : Event} {r₀ r : Registers} {fs bs is w area : List ℕ} {n : ℕ} {x : Bytes} {es : List Element} {o : Result Done Refusal} {fs' w' : List ℕ}
     → Asks r₀ fs bs is w → r.flags.closed ≡ false → Holds r fs bs is w r₀.mode (start_of r₀ w) es r₀.flags.rooted r₀.counts.labels → Quiet e r₀ fs bs is w (change_value (takes_xml x) es)
     → Adds r fs w area n 0 o fs' w' → XmlIn area n x → Quietly e r₀ o fs bs is w fs' bs is w'
 adds_quietly {e} {r₀} {r} {fs} {bs} {is} {w} {area} {n} {x} {es} {o} {fs'} {w'} a m h q p i = go o (p.grows bs is x h.valid i)
   where
-    go : (o : Outcome) → Grows o r fs bs is w x 0 fs' w' → Quietly e r₀ o fs bs is w fs' bs is w'
-    go (Stop k) g =
+    go : (o : Result Done Refusal) → Grows o r fs bs is w x 0 fs' w' → Quietly e r₀ o fs bs is w fs' bs is w'
+    go (Err k) g =
         let l : 49_152 < held_with (start_of r w) (with_xml r fs bs is w x) = omega (arith, g.over) in
         rw (g.number, g.frames, g.work) (quiet_over q (rw (h.base, h.elements) at l))
-    go (Did d) g =
+    go (Ok d) g =
         let l : held_with (start_of r w) (with_xml r fs bs is w x) ≤ 49_152 = omega (arith, g.fits) in
         rw g.moved (quiet_done q a (rw (h.base, h.elements) at l) (holds_as g.holds h.chosen h.base (ap (change_value (takes_xml x)) h.elements) h.root h.count) m)

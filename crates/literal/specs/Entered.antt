@@ -18,7 +18,6 @@ use Rattle.state.specs.declared.Registers.{Registers}
 use Rattle.state.specs.Meaning.{start_of, elements_of}
 use Rattle.state.specs.Valid.{Valid}
 use Rattle.state.specs.Held.{room}
-use Rattle.state_stack.specs.declared.Changed.{Changed}
 use Rattle.state_stack.specs.Change.{Holds, topped_to}
 use Rattle.state_inner.specs.Calls.{Opens, may_open, held_is}
 use Rattle.state_inner.specs.Laws.{Written, open_holds}
@@ -27,14 +26,12 @@ use Rattle.start_element.specs.declared.Next.{Next}
 use Rattle.copy.specs.Copy.{part_short}
 use Rattle.start_element.specs.Rows.{Fits, Entered}
 use Rattle.event.specs.declared.Done.{Done}
-use Rattle.event.specs.declared.Outcome.{Outcome}
-use Rattle.event.specs.declared.Outcome.TheVariants.{Stop, Did}
 use Rattle.event.specs.Result.{Asks}
 use Rattle.literal.specs.Quiet.{Quietly, Quiet, held_with, held_with_lem, holds_as, quiet_over, quiet_done}
 use Rattle.literal.specs.Added.{XmlIn, with_xml, Adds, Over, Grown, Grows}
-use Rattle.literal.specs.declared.Judged.{Judged}
-use Rattle.literal.specs.declared.Judged.TheVariants.{Go}
 use Rattle.literal.specs.Judged.{Tag, copied, Judges, judged_quiet, Counted, judged_counts}
+use Rattle.std.specs.declared.option.Option as std
+use Rattle.std.specs.Prelude.{unwrap_or, Result, Ok, Err}
 
 -- bytes of its name and of its bindings
 abbrev pub own_bytes : Bytes → List Binding → ℕ
@@ -78,7 +75,7 @@ module _ {r : Registers} {bs w : List ℕ} {n : Bytes} {all : List Binding} {mor
         words = omega (arith, o.words, o.rows);
       }
 
-  module _ {is u v cs js : List ℕ} {b : Bool} {q : Next} {c : Changed} (p : Put w (r.store.low - more) n u b)
+  module _ {is u v cs js : List ℕ} {b : Bool} {q : Next} {c : std.Option Registers} (p : Put w (r.store.low - more) n u b)
       (e : Entered u bs v cs (record { at = r.store.low - more + length n; row = r.counts.bindings }) q all) (h : Opens r is (r.store.low - more) (length n) q.row c js) where
     written : r.store.top + more ≤ r.store.low → Written r bs w cs v (r.store.low - more) (length n) q.row n all
     written l =
@@ -98,7 +95,7 @@ module _ {r : Registers} {bs w : List ℕ} {n : Bytes} {all : List Binding} {mor
           bindings = rw x (rw y at e.bound);
         }
 
-    pub entered : Enters r bs is w n all more c.registers cs js v
+    pub entered : Enters r bs is w n all more (unwrap_or c r) cs js v
     entered =
         let m = o.size in
         let f = o.fits in
@@ -120,8 +117,8 @@ pub record Ready (r : Registers) (fs bs is w e sp : List ℕ) (n : Bytes) (k : �
   pub counts : Counted r (attributes_of e sp k)
   pub quiet : Quiet (opening n (attributes_of e sp k)) r fs bs is w (copied n (attributes_of e sp k) ∷ with_xml r fs bs is w (start_tag_xml n (attributes_of e sp k)))
 
-pub ready : {r : Registers} {fs bs is w e sp : List ℕ} {n : Bytes} {m c k : ℕ} {area : List ℕ} {j : Judged} → Asks r fs bs is w → most_held_bytes ≤ length area → place_in (elements_of r fs bs is w) ≡ xml
-    → Tag e sp m c k → n ≡ part e 0 m → Judges r bs w n (attributes_of e sp k) j → j ≡ Go → Ready r fs bs is w e sp n k area
+pub ready : {r : Registers} {fs bs is w e sp : List ℕ} {n : Bytes} {m c k : ℕ} {area : List ℕ} {j : Result Unit Refusal} → Asks r fs bs is w → most_held_bytes ≤ length area → place_in (elements_of r fs bs is w) ≡ xml
+    → Tag e sp m c k → n ≡ part e 0 m → Judges r bs w n (attributes_of e sp k) j → j ≡ Ok tt → Ready r fs bs is w e sp n k area
 ready {e = e} {m = m} a l p t q h g =
     record {
       asks = a;
@@ -138,18 +135,18 @@ held-copied : (start : Option Bytes) (n : Bytes) (as' : List Attribute) (es : Li
 unfolding held_with total frame_bytes kind_bytes size_of X.own_bytes
 held-copied start n as' es = omega arith
 
-module _ {r : Registers} {fs bs is w e sp : List ℕ} {n : Bytes} {k : ℕ} {area made fs' w' : List ℕ} {size more : ℕ} {o : Outcome} (y : Ready r fs bs is w e sp n k area)
+module _ {r : Registers} {fs bs is w e sp : List ℕ} {n : Bytes} {k : ℕ} {area made fs' w' : List ℕ} {size more : ℕ} {o : Result Done Refusal} (y : Ready r fs bs is w e sp n k area)
     (i : XmlIn made size (start_tag_xml n (attributes_of e sp k))) (m : more ≡ own_bytes n (declared (attributes_of e sp k))) (a : Adds r fs w made size more o fs' w') where
   grows : Grows o r fs bs is w (start_tag_xml n (attributes_of e sp k)) more fs' w'
   grows = a.grows bs is (start_tag_xml n (attributes_of e sp k)) y.asks.valid i
 
-  pub copy_over : {x : Refusal} → o ≡ Stop x → Quietly (opening n (attributes_of e sp k)) r (Stop x) fs bs is w fs' bs is w'
+  pub copy_over : {x : Refusal} → o ≡ Err x → Quietly (opening n (attributes_of e sp k)) r (Err x) fs bs is w fs' bs is w'
   copy_over {x} q =
       let g : Over r fs bs is w (start_tag_xml n (attributes_of e sp k)) more x fs' w' = rw q at grows in
       let h = held-copied (start_of r w) n (attributes_of e sp k) (with_xml r fs bs is w (start_tag_xml n (attributes_of e sp k))) in
       rw (g.number, g.frames, g.work) (quiet_over y.quiet (omega (arith, g.over)))
 
-  module _ {d : Done} (q : o ≡ Did d) where
+  module _ {d : Done} (q : o ≡ Ok d) where
     grown : Grown r fs bs is w (start_tag_xml n (attributes_of e sp k)) more d fs' w'
     grown = rw q at grows
 
@@ -169,7 +166,7 @@ module _ {r : Registers} {fs bs is w e sp : List ℕ} {n : Bytes} {k : ℕ} {are
         rw registers (record { store = v.store; words = v.binding_words; size = m; low = (room v).low; fits = omega (arith, below); rows = y.counts.few })
 
     pub copy_done : {q' : Registers} {cs js u : List ℕ} → Enters d.registers bs is w' n (declared (attributes_of e sp k)) more q' cs js u
-        → Quietly (opening n (attributes_of e sp k)) r (Did (record { written = 0; registers = q' })) fs bs is w fs' cs js u
+        → Quietly (opening n (attributes_of e sp k)) r (Ok (record { written = 0; registers = q' })) fs bs is w fs' cs js u
     copy_done {q'} {cs} {js} {u} z =
         let g = grown in
         let t : Enters (topped_to r g.top) bs is w' n (declared (attributes_of e sp k)) more q' cs js u = rw registers at z in

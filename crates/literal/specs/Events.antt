@@ -14,13 +14,14 @@ use Rattle.state_words.specs.Words.{row_at, load_row_lem}
 use Rattle.state.specs.declared.Registers.{Registers}
 use Rattle.state.specs.Meaning.{bindings_of, frames_of, inner_of, inners_of, start_of, elements_of, doc_of}
 use Rattle.state.specs.Valid.{Valid}
-use Rattle.state_stack.specs.declared.Changed.{Changed}
-use Rattle.state_stack.specs.declared.Found.{Found}
+use Rattle.state.specs.declared.Span.{Span}
+use Rattle.std.specs.declared.option.Option as std
+use Rattle.state.specs.Language.{bytes_found}
 use Rattle.state_stack.specs.Change.{Holds, inside_element}
 use Rattle.state_inner.specs.Calls.{Closes, name_in}
 use Rattle.state_inner.specs.Laws.{close-holds}
-use Rattle.event.specs.declared.Outcome.TheVariants.{Stop}
 use Rattle.literal.specs.Quiet.{Quietly, Quiet, quiet_refused}
+use Rattle.std.specs.Prelude.{unwrap_or, Err}
 
 -- ---- text
 
@@ -42,13 +43,13 @@ module _ {r : Registers} {fs bs is w : List ℕ} (v : Valid r fs bs is w) (d : 0
   opened = inside_element v (r.counts.inner - 1) (omega arith)
 
   -- its name, as `name` finds it
-  named : {f : Found} → f ≡ name_in r fs is → part w (row_at is (r.counts.inner - 1)).at (row_at is (r.counts.inner - 1)).name ≡ part w f.at f.len
-  unfolding name_in
+  named : {f : std.Option Span} → f ≡ name_in r fs is → part w (row_at is (r.counts.inner - 1)).at (row_at is (r.counts.inner - 1)).name ≡ bytes_found f w
+  unfolding name_in bytes_found
   named e = rw (e, ne_eqb r.counts.inner 0 (λ z. omega arith), load_row_lem is (r.counts.inner - 1) (omega (arith, v.inner_words, v.deep)))
 
-  module _ {n own : Bytes} {f : Found} (e : f ≡ name_in r fs is) (o : own ≡ part w f.at f.len) where
+  module _ {n own : Bytes} {f : std.Option Span} (e : f ≡ name_in r fs is) (o : own ≡ bytes_found f w) where
     -- 6
-    pub end_differs : same n own ≡ false → Quietly (closing n) r (Stop NotWellFormed) fs bs is w fs bs is w
+    pub end_differs : same n own ≡ false → Quietly (closing n) r (Err NotWellFormed) fs bs is w fs bs is w
     unfolding on_event close_element doc_of inner_of require◌or◌ ◌>>◌
     end_differs h = quiet_refused (λ ids. rw (opened, named e, ← o, h))
 
@@ -58,8 +59,8 @@ module _ {r : Registers} {fs bs is w : List ℕ} (v : Valid r fs bs is w) (d : 0
     end_quiet h = record { step = λ ids. rw (opened, named e, ← o, h) }
 
   -- the state without it
-  pub closed-holds : {c : Changed} → Closes r is c → Holds c.registers fs bs is w r.mode (start_of r w) (around r fs bs is w) r.flags.rooted r.counts.labels
-  closed-holds p = close-holds v p (p.answer ∙ lt-ltb 0 r.counts.inner d)
+  pub closed-holds : {c : std.Option Registers} {behind : Registers} → Closes r is c → behind ≡ unwrap_or c r → Holds behind fs bs is w r.mode (start_of r w) (around r fs bs is w) r.flags.rooted r.counts.labels
+  closed-holds p e = rw e (close-holds v p (p.answer ∙ lt-ltb 0 r.counts.inner d))
 
-  pub closed-mark : {c : Changed} → Closes r is c → c.registers.flags.closed ≡ r.flags.closed
-  closed-mark p = ap (λ (q : Registers). q.flags.closed) (p.moved d)
+  pub closed-mark : {c : std.Option Registers} {behind : Registers} → Closes r is c → behind ≡ unwrap_or c r → behind.flags.closed ≡ r.flags.closed
+  closed-mark p e = ap (λ (q : Registers). q.flags.closed) (e ∙ p.moved d)

@@ -23,10 +23,8 @@ use Rattle.state.specs.Valid.{Valid}
 use Rattle.state.specs.Held.{depth}
 use Rattle.state.specs.Live.{in_scope_lem}
 use Rattle.start_names.specs.Tag.{attributes_from, Split, Splits}
-use Rattle.event.specs.declared.Outcome.TheVariants.{Stop as Refused}
-use Rattle.literal.specs.declared.Judged.{Judged}
-use Rattle.literal.specs.declared.Judged.TheVariants.{Stop, Go}
 use Rattle.literal.specs.Quiet.{Quietly, Quiet, quiet_refused}
+use Rattle.std.specs.Prelude.{Result, Ok, Err}
 
 -- what is known of a decoded start tag: its name is the first m bytes, with the colon's place plus 1, or 0, in c, and it has k attributes
 pub record Tag (e w : List ℕ) (m c k : ℕ) : Type 0 where
@@ -35,9 +33,9 @@ pub record Tag (e w : List ℕ) (m c k : ℕ) : Type 0 where
   pub name : Split c (take m e)
   pub names : Splits e w k
 
-abbrev pub decided : Judged → Answer (Unit {0})
-decided (Stop n) = refuse n
-decided Go = good tt
+abbrev pub decided : Result Unit Refusal → Answer (Unit {0})
+decided (Err n) = refuse n
+decided (Ok _) = good tt
 
 -- counts (7): open elements, this one apart, attributes, bindings
 unfoldable pub counts : ℕ → ℕ → ℕ → Bool
@@ -104,7 +102,7 @@ abbrev judged_in : Registers → List ℕ → List ℕ → Bytes → List Attrib
 judged_in r bs w n as' = judgement n as' (r.counts.depth + r.counts.inner) (bindings_of bs w 0 r.counts.bindings)
 
 -- what `judge` answers
-pub record Judges (r : Registers) (bs w : List ℕ) (n : Bytes) (as' : List Attribute) (j : Judged) : Type 0 where
+pub record Judges (r : Registers) (bs w : List ℕ) (n : Bytes) (as' : List Attribute) (j : Result Unit Refusal) : Type 0 where
   pub is : decided j ≡ judged_in r bs w n as'
 
 module _ {r : Registers} {fs bs is w : List ℕ} (v : Valid r fs bs is w) (p : place_in (elements_of r fs bs is w) ≡ xml) where
@@ -113,12 +111,12 @@ module _ {r : Registers} {fs bs is w : List ℕ} (v : Valid r fs bs is w) (p : p
   unfolding on_event doc_of
   answered n as' ids = opening_judged n as' (doc_of r fs bs is w ids) p ∙ rw (depth r fs bs is w, in_scope_lem v)
 
-  module _ {n : Bytes} {as' : List Attribute} {j : Judged} (h : Judges r bs w n as' j) where
-    pub judged_refused : {x : Refusal} → j ≡ Stop x → Quietly (opening n as') r (Refused x) fs bs is w fs bs is w
+  module _ {n : Bytes} {as' : List Attribute} {j : Result Unit Refusal} (h : Judges r bs w n as' j) where
+    pub judged_refused : {x : Refusal} → j ≡ Err x → Quietly (opening n as') r (Err x) fs bs is w fs bs is w
     unfolding ◌>>◌
     judged_refused e = quiet_refused (λ ids. answered n as' ids ∙ rw (← h.is, e))
 
-    pub judged_quiet : j ≡ Go → Quiet (opening n as') r fs bs is w (copied n as' ∷ change_value (takes_xml (start_tag_xml n as')) (elements_of r fs bs is w))
+    pub judged_quiet : j ≡ Ok tt → Quiet (opening n as') r fs bs is w (copied n as' ∷ change_value (takes_xml (start_tag_xml n as')) (elements_of r fs bs is w))
     unfolding ◌>>◌
     judged_quiet e = record { step = λ ids. answered n as' ids ∙ rw (← h.is, e) }
 
@@ -140,7 +138,7 @@ counted n as' d bs h = go (all_legal (declared as') && not (repeats_written as')
     go true false x q = absurd (false≢true (ap is_good q))
     go true true x q = refl
 
-pub judged_counts : {r : Registers} {bs w : List ℕ} {n : Bytes} {as' : List Attribute} {j : Judged} → Judges r bs w n as' j → j ≡ Go → Counted r as'
+pub judged_counts : {r : Registers} {bs w : List ℕ} {n : Bytes} {as' : List Attribute} {j : Result Unit Refusal} → Judges r bs w n as' j → j ≡ Ok tt → Counted r as'
 unfolding counts L.all
 judged_counts {r} {bs} {w} {n} {as'} h e =
     let g : judged_in r bs w n as' ≡ good tt = sym h.is ∙ ap decided e in
@@ -166,30 +164,30 @@ each_known bs (a ∷ as') = go (is_declaration a || is_known bs (name_of a)) (ea
     go true (good us) q = q
 
 module _ {r : Registers} {bs w : List ℕ} {n : Bytes} {as' : List Attribute} where
-  pub judge_illegal : all_legal (declared as') ≡ false → Judges r bs w n as' (Stop NotWellFormed)
+  pub judge_illegal : all_legal (declared as') ≡ false → Judges r bs w n as' (Err NotWellFormed)
   unfolding judgement ◌>>◌ require◌or◌
   judge_illegal h = record { is = rw h }
 
   module _ (l : all_legal (declared as') ≡ true) where
-    pub judge-repeats : repeats_written as' ≡ true → Judges r bs w n as' (Stop NotWellFormed)
+    pub judge-repeats : repeats_written as' ≡ true → Judges r bs w n as' (Err NotWellFormed)
     unfolding judgement ◌>>◌ require◌or◌
     judge-repeats h = record { is = rw (l, h) }
 
     module _ (u : repeats_written as' ≡ false) where
-      pub judge-counts : counts (r.counts.depth + r.counts.inner) (length as') (length (declared as' ++ bindings_of bs w 0 r.counts.bindings)) ≡ false → Judges r bs w n as' (Stop OverLimit)
+      pub judge-counts : counts (r.counts.depth + r.counts.inner) (length as') (length (declared as' ++ bindings_of bs w 0 r.counts.bindings)) ≡ false → Judges r bs w n as' (Err OverLimit)
       unfolding judgement ◌>>◌ require◌or◌
       judge-counts h = record { is = rw (l, u, h) }
 
       module _ (c : counts (r.counts.depth + r.counts.inner) (length as') (length (declared as' ++ bindings_of bs w 0 r.counts.bindings)) ≡ true) where
-        pub judge_element : is_known (declared as' ++ bindings_of bs w 0 r.counts.bindings) n ≡ false → Judges r bs w n as' (Stop NoNamespace)
+        pub judge_element : is_known (declared as' ++ bindings_of bs w 0 r.counts.bindings) n ≡ false → Judges r bs w n as' (Err NoNamespace)
         unfolding judgement ◌>>◌ require◌or◌
         judge_element h = record { is = rw (l, u, c, h) }
 
         module _ (k : is_known (declared as' ++ bindings_of bs w 0 r.counts.bindings) n ≡ true) where
-          pub judge-attributes : all_known (declared as' ++ bindings_of bs w 0 r.counts.bindings) as' ≡ false → Judges r bs w n as' (Stop NoNamespace)
+          pub judge-attributes : all_known (declared as' ++ bindings_of bs w 0 r.counts.bindings) as' ≡ false → Judges r bs w n as' (Err NoNamespace)
           unfolding judgement ◌>>◌ require◌or◌
           judge-attributes h = record { is = rw (l, u, c, k, each_known (declared as' ++ bindings_of bs w 0 r.counts.bindings) as', h) }
 
-          pub judge_good : all_known (declared as' ++ bindings_of bs w 0 r.counts.bindings) as' ≡ true → Judges r bs w n as' Go
+          pub judge_good : all_known (declared as' ++ bindings_of bs w 0 r.counts.bindings) as' ≡ true → Judges r bs w n as' (Ok tt)
           unfolding judgement ◌>>◌ require◌or◌
           judge_good h = record { is = rw (l, u, c, k, each_known (declared as' ++ bindings_of bs w 0 r.counts.bindings) as', h) }

@@ -21,12 +21,12 @@ use Rattle.state.specs.Valid.{Valid}
 use Rattle.state_stack.specs.Change.{Holds, holds-doc}
 use Rattle.state_inner.specs.Calls.{held_in}
 use Rattle.state_inner.specs.Laws.{held_read}
-use Rattle.event.specs.declared.Outcome.{Outcome}
-use Rattle.event.specs.declared.Outcome.TheVariants.{Stop, Did}
 use Rattle.event.specs.Result.{handled_by, refused_on, over_limit, all_fits, fits-held, IdsFit, stopped, done, Handles, Asks}
+use Rattle.std.specs.Prelude.{Result, Ok, Err}
+use Rattle.event.specs.declared.Done.{Done}
 
 -- whatever room there is for lines: none is written
-pub record Quietly (e : Event) (r : Registers) (o : Outcome) (fs bs is w fs' bs' is' w' : List ℕ) : Type 0 where
+pub record Quietly (e : Event) (r : Registers) (o : Result Done Refusal) (fs bs is w fs' bs' is' w' : List ℕ) : Type 0 where
   pub handles : (out : List ℕ) → Handles e r o fs bs is w out fs' bs' is' w' out
 
 -- an event writes no lines, and leaves these elements open
@@ -53,7 +53,7 @@ held_with_lem h = held_read h.valid [] ∙ ap held_bytes (holds-doc h [])
 
 -- the answers of the definitions
 module _ {e : Event} {r : Registers} {fs bs is w : List ℕ} where
-  pub quiet_refused : {n : Refusal} → ((ids : List Bytes) → on_event e (doc_of r fs bs is w ids) ≡ refuse n) → Quietly e r (Stop n) fs bs is w fs bs is w
+  pub quiet_refused : {n : Refusal} → ((ids : List Bytes) → on_event e (doc_of r fs bs is w ids) ≡ refuse n) → Quietly e r (Err n) fs bs is w fs bs is w
   quiet_refused {n} q =
       record { handles = λ out. record { result = λ ids i. stopped (handled_by e (length out) (doc_of r fs bs is w ids) (q ids) ∙ refused_on (length out) n) } }
 
@@ -71,7 +71,7 @@ module _ {e : Event} {r : Registers} {fs bs is w : List ℕ} where
     fits_behind ids i = fits-held (with_frames es (doc_of r fs bs is w ids)) (rw (ids_behind ids) i) ∙ rw (held_behind ids)
 
     -- 7: too much would be held
-    pub quiet_over : 49_152 < held_with (start_of r w) es → Quietly e r (Stop OverLimit) fs bs is w fs bs is w
+    pub quiet_over : 49_152 < held_with (start_of r w) es → Quietly e r (Err OverLimit) fs bs is w fs bs is w
     quiet_over l =
         record {
           handles =
@@ -89,7 +89,7 @@ module _ {e : Event} {r : Registers} {fs bs is w : List ℕ} where
     -- done
     pub quiet_done : {r' : Registers} {fs' bs' is' w' : List ℕ} → Asks r fs bs is w → held_with (start_of r w) es ≤ 49_152
         → Holds r' fs' bs' is' w' r.mode (start_of r w) es r.flags.rooted r.counts.labels → r'.flags.closed ≡ false
-        → Quietly e r (Did (record { written = 0; registers = r' })) fs bs is w fs' bs' is' w'
+        → Quietly e r (Ok (record { written = 0; registers = r' })) fs bs is w fs' bs' is' w'
     unfolding write with_frames doc_of
     quiet_done {r'} {fs'} {bs'} {is'} {w'} a l h m =
         record {

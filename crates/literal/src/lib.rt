@@ -19,19 +19,12 @@ ghost use Rattle.literal.specs.Judged.{Tag, Judges, counts, all_known};
 ghost use Rattle.literal.specs.Known.{known_prefix, known_at};
 ghost use Rattle.literal.specs.Entered.{Ready, Room, Enters};
 
-use event::{Done, Outcome};
+use event::Done;
 use spec::Refusal;
 use start_element::Next;
 use start_names::{Class, Found};
 use state::Registers;
 use state_words::{Frame, Kind, Row};
-
-// What a start tag comes to, before anything changes.
-#[derive(Clone, Copy)]
-enum Judged {
-    Stop(Refusal),
-    Go,
-}
 
 // Text in Literal content.
 pub fn text_inside(
@@ -42,7 +35,7 @@ pub fn text_inside(
     work: &mut [u8],
     area: &mut [u8],
     s: &[u8],
-) -> Outcome
+) -> Result<Done, Refusal>
     requires { Asks r frames.old bindings.now inners.now work.old × (most_held_bytes ≤ length area.old) × (place_in (elements_of r frames.old bindings.now inners.now work.old) ≡ xml) }
     ensures { Quietly (text s.now) r result frames.old bindings.now inners.now work.old frames.new bindings.now inners.now work.new }
 {
@@ -59,15 +52,14 @@ pub fn end_inside(
     work: &mut [u8],
     area: &mut [u8],
     name: &[u8],
-) -> Outcome
+) -> Result<Done, Refusal>
     requires { Asks r frames.old bindings.now inners.now work.old × (most_held_bytes ≤ length area.old) × (0 < r.counts.inner) }
     ensures { Quietly (closing name.now) r result frames.old bindings.now inners.now work.old frames.new bindings.now inners.now work.new }
 {
-    let c = state_inner::close_inside(r, inners);
-    let behind = c.registers;
+    let behind = state_inner::close_inside(r, inners).unwrap_or(r);
     let own = state_inner::name(r, frames, inners);
-    if !copy::equal(name, copy::piece(work, own.at, own.len)) {
-        return Outcome::Stop(Refusal::NotWellFormed);
+    if !copy::equal(name, state::bytes_found(own, work)) {
+        return Err(Refusal::NotWellFormed);
     }
     let n = xmltext::end_tag(area, 0, true, name);
     add(behind, frames, work, area, n, 0)
@@ -87,18 +79,15 @@ pub fn start_inside(
     c: usize,
     k: usize,
     area: &mut [u8],
-) -> Outcome
+) -> Result<Done, Refusal>
     requires { Asks r frames.old bindings.old inners.old work.old × (most_held_bytes ≤ length area.old) × (place_in (elements_of r frames.old bindings.old inners.old work.old) ≡ xml) × Tag scratch.now spans.now m c k }
     ensures { Quietly (opening (take m scratch.now) (attributes_of scratch.now spans.now k)) r result frames.old bindings.old inners.old work.old frames.new bindings.new inners.new work.new }
 {
     let name = copy::piece(scratch, 0, m);
-    let judged = judge(r, bindings, work, scratch, spans, name, c, k);
-    match judged {
-        Judged::Stop(n) => Outcome::Stop(n),
-        Judged::Go => copy_element(
-            r, frames, bindings, inners, work, scratch, spans, name, k, area,
-        ),
-    }
+    judge(r, bindings, work, scratch, spans, name, c, k)?;
+    copy_element(
+        r, frames, bindings, inners, work, scratch, spans, name, k, area,
+    )
 }
 
 // The XML text that stands in `area` from the front, n bytes as a writer counts, behind what the Literal property around has so far;
@@ -110,17 +99,16 @@ fn add(
     area: &[u8],
     n: usize,
     more: usize,
-) -> Outcome
+) -> Result<Done, Refusal>
     requires { most_held_bytes ≤ length area.now }
     ensures { Adds r frames.old work.old area.now n more result frames.new work.new }
 {
     let size = kept(r, frames, n);
     if !has_room(r, size, more) {
-        return Outcome::Stop(Refusal::OverLimit);
+        return Err(Refusal::OverLimit);
     }
-    let c = state_stack::add_xml(r, frames, work, &area[0..size]);
-    let behind = c.registers;
-    Outcome::Did(Done {
+    let behind = state_stack::add_xml(r, frames, work, &area[0..size]).unwrap_or(r);
+    Ok(Done {
         written: 0,
         registers: behind,
     })
@@ -131,8 +119,7 @@ fn kept(r: Registers, frames: &[u32], n: usize) -> usize
     ensures { result ≡ kept_of r frames.now n }
 {
     let f = state_stack::top(r, frames);
-    let kind = f.kind;
-    if state_stack::same_kind(kind, Kind::ParseTypeLiteralPropertyElt) {
+    if f.kind == Kind::ParseTypeLiteralPropertyElt {
         n
     } else {
         0
@@ -164,28 +151,28 @@ fn judge(
     name: &[u8],
     c: usize,
     k: usize,
-) -> Judged
+) -> Result<(), Refusal>
     requires { Split c name.now × Splits scratch.now spans.now k }
     ensures { Judges r bindings.now work.now name.now (attributes_of scratch.now spans.now k) result }
 {
     let n = r.counts.bindings;
     if !start_names::all_legal(scratch, spans, k) {
-        return Judged::Stop(Refusal::NotWellFormed);
+        return Err(Refusal::NotWellFormed);
     }
     if start_names::repeated_written(scratch, spans, k) {
-        return Judged::Stop(Refusal::NotWellFormed);
+        return Err(Refusal::NotWellFormed);
     }
     if !counts_fit(r, scratch, spans, k) {
-        return Judged::Stop(Refusal::OverLimit);
+        return Err(Refusal::OverLimit);
     }
     let prefix = start_names::front_of(name, c);
     if !known(prefix, scratch, spans, k, work, bindings, n) {
-        return Judged::Stop(Refusal::NoNamespace);
+        return Err(Refusal::NoNamespace);
     }
     if !all_known(scratch, spans, k, work, bindings, n) {
-        return Judged::Stop(Refusal::NoNamespace);
+        return Err(Refusal::NoNamespace);
     }
-    Judged::Go
+    Ok(())
 }
 
 // May one more element be open, with k attributes and the bindings that they declare?
@@ -219,12 +206,10 @@ fn all_known(
     requires { Splits scratch.now spans.now k }
     ensures { result ≡ all_known (scope scratch.now spans.now k work.now bindings.now n) (attributes_of scratch.now spans.now k) }
 {
-    let mut j = 0;
-    while j < k {
+    for j in 0..k {
         if !known_at(scratch, spans, k, work, bindings, n, j) {
             return false;
         }
-        j += 1;
     }
     true
 }
@@ -284,26 +269,21 @@ fn copy_element(
     name: &[u8],
     k: usize,
     area: &mut [u8],
-) -> Outcome
+) -> Result<Done, Refusal>
     requires { Ready r frames.old bindings.old inners.old work.old scratch.now spans.now name.now k area.old }
     ensures { Quietly (opening name.now (attributes_of scratch.now spans.now k)) r result frames.old bindings.old inners.old work.old frames.new bindings.new inners.new work.new }
 {
     let size = start_tag(area, scratch, spans, name, k);
     let more = name.len() + start_element::declared_size(scratch, spans, k);
-    let added = add(r, frames, work, area, size, more);
-    match added {
-        Outcome::Stop(n) => Outcome::Stop(n),
-        Outcome::Did(d) => {
-            let behind = d.registers;
-            let open = enter(
-                behind, bindings, inners, work, scratch, spans, name, k, more,
-            );
-            Outcome::Did(Done {
-                written: 0,
-                registers: open,
-            })
-        }
-    }
+    let added = add(r, frames, work, area, size, more)?;
+    let behind = added.registers;
+    let open = enter(
+        behind, bindings, inners, work, scratch, spans, name, k, more,
+    );
+    Ok(Done {
+        written: 0,
+        registers: open,
+    })
 }
 
 // One more element, whose name and bindings have `more` bytes.
@@ -328,8 +308,7 @@ fn enter(
         row: r.counts.bindings,
     };
     let next = start_element::bind_all(work, bindings, from, scratch, spans, k);
-    let c = state_inner::open_inside(r, inners, at, name.len(), next.row);
-    c.registers
+    state_inner::open_inside(r, inners, at, name.len(), next.row).unwrap_or(r)
 }
 
 // The start tag's XML text from the front of `area`.
@@ -346,12 +325,10 @@ fn attributes(area: &mut [u8], at: usize, scratch: &[u8], spans: &[u32], k: usiz
     ensures { Put true area.old area.new at result (attributes_xml (attributes_of scratch.now spans.now k)) }
 {
     let mut to = at;
-    let mut j = 0;
-    while j < k {
+    for j in 0..k {
         let name = start_names::name_of(scratch, spans, j);
         let value = start_names::value_of(scratch, spans, j);
         to = xmltext::attribute(area, to, true, name, value);
-        j += 1;
     }
     to
 }

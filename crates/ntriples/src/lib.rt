@@ -10,14 +10,14 @@ ghost use Rattle.writer.specs.Put.{Put};
 ghost use Rattle.ntriples.specs.Terms.{node_for, subject_of, term_of, as_term, in_rdf, property_of, cell_of};
 
 // What a subject is: its IRI or its label stands beside it.
-#[derive(Clone, Copy)]
+#[derive(Clone, Copy, PartialEq, Eq, Debug)]
 pub enum Node {
     Named,
     Blank,
 }
 
 // What an object is: its IRI, label or text stands beside it, and so does the tag or the datatype of a text.
-#[derive(Clone, Copy)]
+#[derive(Clone, Copy, PartialEq, Eq, Debug)]
 pub enum Term {
     Named,
     Blank,

@@ -27,8 +27,7 @@ use Rattle.pyx.specs.Names.{Name}
 use Rattle.pyx.specs.Escapes.{Stored, Unescapes, data_of}
 use Rattle.pyx.specs.Attributes.{Behind, Laid}
 use Rattle.pyx.specs.Decode.{unread, Means, Says, Decodes, Fits, no_scratch}
-use Rattle.pyx.specs.declared.Unescaped.{Unescaped}
-use Rattle.pyx.specs.declared.Unescaped.TheVariants.{Wrong, Upto}
+use Rattle.std.specs.Prelude.{Option, Some, None}
 use Rattle.pyx.specs.declared.Event.{Event}
 use Rattle.pyx.specs.declared.Event.TheVariants.{Malformed, NoScratch, Instruction, Text, Closing, Opening, Crowded}
 use Rattle.pyx.proofs.Reach.{is_end}
@@ -166,10 +165,10 @@ module _ {s d : Bytes} {n : ℕ} (f : Fits s d n) (h : 0 < n) (o : n + 1 ≡ len
   one_wrong : unescape (take (n - 1) (drop 1 s)) ≡ refuse NotPyx → data_of s ≡ refuse NotPyx
   one_wrong g = data_wrong s f.line f.ended (rw (drop-take s n h) g)
 
-  pub text-one : (e : List ℕ) (r : Unescaped) → Unescapes r (unescape (take (n - 1) (drop 1 s))) (length (take (n - 1) (drop 1 s))) d e 0
+  pub text-one : (e : List ℕ) (r : Option ℕ) → Unescapes r (unescape (take (n - 1) (drop 1 s))) (length (take (n - 1) (drop 1 s))) d e 0
       → Unescapes r (data_of s) (length s) d e 0
-  text-one e Wrong u = (one_wrong u.0, kept_more u.1 (omega (arith, title_size f h)))
-  text-one e (Upto to) u = record { text = u.text; is = one_good u.is; wrote = u.wrote; short = omega (arith, u.short, title_size f h) }
+  text-one e None u = (one_wrong u.0, kept_more u.1 (omega (arith, title_size f h)))
+  text-one e (Some to) u = record { text = u.text; is = one_good u.is; wrote = u.wrote; short = omega (arith, u.short, title_size f h) }
 
 -- ---- the kinds of events
 

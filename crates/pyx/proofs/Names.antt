@@ -17,8 +17,7 @@ use Rattle.utils.specs.Plain.{plain}
 use Rattle.utils.proofs.Names.{before, none_colon, some-colon, prefix_is, local_is, by_local, by_parts, no_prefix, has_prefix}
 use Rattle.utils.proofs.Plain.{part_none, part_start, part_on, part-name}
 use Rattle.copy.specs.Copy.{Put, Wrote, stored_at, part, part-part, put-fits, then as and_then, wrote_one, wrote_same, wrote_before}
-use Rattle.pyx.specs.declared.Colon.{Colon as Answer}
-use Rattle.pyx.specs.declared.Colon.TheVariants.{NotName, At}
+use Rattle.std.specs.Prelude.{Option, Some, None}
 use Rattle.pyx.specs.Names.{colon_of, Name, Named, Spelled, Around}
 use Rattle.pyx.proofs.Lines.{kept_then, kept_wrote}
 
@@ -95,10 +94,10 @@ pub put-name : {c : ℕ} {s : Bytes} {d e : List ℕ} {at : ℕ} {r : Bool} → 
 put-name h p room = record { qname = h.0; colon = h.1; wrote = put-fits p room }
 
 -- over bytes that were changed before
-pub named_around : (r : Answer) (s : Bytes) {d e : List ℕ} (f : List ℕ) {at : ℕ} → Around d e at (length s) → Named r s e f at → Named r s d f at
+pub named_around : (r : Option ℕ) (s : Bytes) {d e : List ℕ} (f : List ℕ) {at : ℕ} → Around d e at (length s) → Named r s e f at → Named r s d f at
 unfolding stored_at
-named_around NotName s f a m = (m.0, kept_then a.kept m.1)
-named_around (At c) s {d} {e} f {at} a m =
+named_around None s f a m = (m.0, kept_then a.kept m.1)
+named_around (Some c) s {d} {e} f {at} a m =
     let w = m.wrote in
     record {
       qname = m.qname;

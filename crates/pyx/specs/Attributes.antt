@@ -1,5 +1,5 @@
 -- Attributes in the scratch, and the words that tell where they are: four for each.
-use Rattle.std.specs.Prelude.{◌≡◌, false, List, [], ◌∷◌, ◌++◌, ℕ, zero, suc, ◌+◌, ◌-◌, ◌*◌, ◌/◌, ◌<◌, ◌≤◌, length, take, drop, get_or}
+use Rattle.std.specs.Prelude.{◌≡◌, false, List, [], ◌∷◌, ◌++◌, ℕ, zero, suc, ◌+◌, ◌-◌, ◌*◌, ◌/◌, ◌<◌, ◌≤◌, Option, Some, None, length, take, drop, get_or}
 use Rattle.spec.specs.Bytes.{Bytes, each}
 use Rattle.spec.specs.Numbers.{refuse, good}
 use Rattle.spec.specs.declared.Refusal.TheVariants.{NotPyx}
@@ -7,10 +7,7 @@ use Rattle.spec.specs.Pyx.{Attribute, attribute, read_attribute}
 use Rattle.copy.specs.Copy.{Wrote, part}
 use Rattle.pyx.specs.Lines.{lines_of, spaced, Kept}
 use Rattle.pyx.specs.Names.{colon_of}
-use Rattle.pyx.specs.declared.Line.{Line}
-use Rattle.pyx.specs.declared.Line.TheVariants.{Wrong, Held}
-use Rattle.pyx.specs.declared.Tag.{Tag}
-use Rattle.pyx.specs.declared.Tag.TheVariants.{Wrong as WrongTag, Held as HeldTag}
+use Rattle.pyx.specs.declared.Entry.{Entry}
 
 -- ---- what the words say
 
@@ -63,9 +60,9 @@ pub record Read (l : Bytes) (d e : List ℕ) (at n c v : ℕ) : Type 0 where
   pub short : n + v ≤ length l
 
 -- `put_attribute`
-abbrev pub Reads : Line → Bytes → List ℕ → List ℕ → ℕ → Type 0
-Reads Wrong l d e at = (read_attribute l ≡ refuse NotPyx) × Kept d e (at + length l)
-Reads (Held n c v) l d e at = Read l d e at n c v
+abbrev pub Reads : Option Entry → Bytes → List ℕ → List ℕ → ℕ → Type 0
+Reads None l d e at = (read_attribute l ≡ refuse NotPyx) × Kept d e (at + length l)
+Reads (Some r) l d e at = (r.start ≡ at) × Read l d e at r.name r.colon r.value
 
 -- `enter`: what fits a word
 pub record Small (start name colon value : ℕ) : Type 0 where
@@ -96,6 +93,6 @@ pub record Laid (s : Bytes) (from size : ℕ) (d e w v : List ℕ) (k : ℕ) : T
   pub told : k ≤ length w / 4 → attributes ≡ attributes_of e v k
   pub placed : k ≤ length w / 4 → (j : ℕ) → j < k → Placed e v j (length s)
 
-abbrev pub Lays : Tag → Bytes → ℕ → ℕ → List ℕ → List ℕ → List ℕ → List ℕ → Type 0
-Lays WrongTag s from size d e w v = (each read_attribute (lines_of (drop from s)) ≡ refuse NotPyx) × (Kept d e (length s)) × (length v ≡ length w)
-Lays (HeldTag k) s from size d e w v = Laid s from size d e w v k
+abbrev pub Lays : Option ℕ → Bytes → ℕ → ℕ → List ℕ → List ℕ → List ℕ → List ℕ → Type 0
+Lays None s from size d e w v = (each read_attribute (lines_of (drop from s)) ≡ refuse NotPyx) × (Kept d e (length s)) × (length v ≡ length w)
+Lays (Some k) s from size d e w v = Laid s from size d e w v k

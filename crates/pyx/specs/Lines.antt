@@ -1,5 +1,5 @@
 -- An event's lines, and what is kept of the scratch.
-use Rattle.std.specs.Prelude.{◌≡◌, Bool, true, false, ◌&&◌, ◌||◌, ℕ, ◌-◌, ◌<◌, eqb, length, take, drop, get_or}
+use Rattle.std.specs.Prelude.{◌≡◌, Bool, true, false, ◌&&◌, ◌||◌, ℕ, ◌-◌, ◌<◌, Result, Ok, Err, eqb, length, take, drop, get_or}
 use mathlib.Core.List.{List, [], ◌∷◌, ◌++◌, drop_last}
 use Rattle.spec.specs.Bytes.{Bytes, ascii, byte, begins, split, up_to, every, ◌>>=◌}
 use Rattle.spec.specs.Utf8.{as_characters}
@@ -8,8 +8,8 @@ use Rattle.spec.specs.Numbers.{Answer, refuse, good}
 use Rattle.spec.specs.declared.Refusal.TheVariants.{NotPyx}
 use Rattle.spec.specs.Pyx.{read_event}
 use Rattle.utils.specs.Plain.{printable}
-use Rattle.pyx.specs.declared.FirstLine.{FirstLine}
-use Rattle.pyx.specs.declared.FirstLine.TheVariants.{Spaced, Wrong, Held}
+use Rattle.pyx.specs.declared.LineError.{LineError}
+use Rattle.pyx.specs.declared.LineError.TheVariants.{Spaced, NotText}
 
 -- the lines that have an end
 unfoldable pub lines_of : Bytes → List Bytes
@@ -45,7 +45,7 @@ pub record Headed (s : Bytes) (n : ℕ) : Type 0 where
   pub ended : n < length s
 
 -- `first_line`
-abbrev pub Begins : FirstLine → Bytes → Type 0
-Begins Spaced s = true ≡ spaced s
-Begins Wrong s = (false ≡ spaced s) × (read_event s ≡ refuse NotPyx)
-Begins (Held n) s = Headed s n
+abbrev pub Begins : Result ℕ LineError → Bytes → Type 0
+Begins (Ok n) s = Headed s n
+Begins (Err Spaced) s = true ≡ spaced s
+Begins (Err NotText) s = (false ≡ spaced s) × (read_event s ≡ refuse NotPyx)

@@ -1,21 +1,19 @@
 -- A name, and the place of its colon.
-use Rattle.std.specs.Prelude.{◌≡◌, true, false, List, ℕ, suc, ◌+◌, ◌-◌, ◌<◌, ◌≤◌, length, take, drop, get_or}
+use Rattle.std.specs.Prelude.{◌≡◌, true, false, List, ℕ, suc, ◌+◌, ◌-◌, ◌<◌, ◌≤◌, Option, Some, None, length, take, drop, get_or}
 use Rattle.spec.specs.Bytes.{Bytes, ascii, when◌then◌else◌, among, up_to}
 use Rattle.spec.specs.XmlNames.{no_colon, is_nc_name, is_q_name}
 use Rattle.utils.specs.Names.{PlainPart}
 use Rattle.copy.specs.Copy.{Wrote}
 use Rattle.pyx.specs.Lines.{Kept}
-use Rattle.pyx.specs.declared.Colon.{Colon}
-use Rattle.pyx.specs.declared.Colon.TheVariants.{NotName, At}
 
 -- the place of the first colon plus 1, or 0
 unfoldable pub colon_of : Bytes → ℕ
 colon_of s = when no_colon s then 0 else suc (length (up_to (among (ascii ":")) s))
 
 -- `colon_of`
-abbrev pub Colons : Colon → Bytes → Type 0
-Colons NotName s = is_q_name s ≡ false
-Colons (At c) s = (is_q_name s ≡ true) × (c ≡ colon_of s)
+abbrev pub Colons : Option ℕ → Bytes → Type 0
+Colons None s = is_q_name s ≡ false
+Colons (Some c) s = (is_q_name s ≡ true) × (c ≡ colon_of s)
 
 -- a name that was put into the scratch
 pub record Name (c : ℕ) (s : Bytes) (d e : List ℕ) (at : ℕ) : Type 0 where
@@ -24,9 +22,9 @@ pub record Name (c : ℕ) (s : Bytes) (d e : List ℕ) (at : ℕ) : Type 0 where
   pub wrote : Wrote d e at (at + length s) s
 
 -- `put_name`
-abbrev pub Named : Colon → Bytes → List ℕ → List ℕ → ℕ → Type 0
-Named NotName s d e at = (is_q_name s ≡ false) × Kept d e (at + length s)
-Named (At c) s d e at = Name c s d e at
+abbrev pub Named : Option ℕ → Bytes → List ℕ → List ℕ → ℕ → Type 0
+Named None s d e at = (is_q_name s ≡ false) × Kept d e (at + length s)
+Named (Some c) s d e at = Name c s d e at
 
 -- ---- a name in ASCII
 
@@ -43,9 +41,9 @@ pub record Spelled (s : Bytes) (i p : ℕ) : Type 0 where
   pub prefix : 0 < p → Prefix s (p - 1)
 
 -- `next_part`
-abbrev pub Spells : Colon → Bytes → ℕ → Type 0
-Spells NotName s i = Unit {0}
-Spells (At p) s i = Spelled s (i + 1) p
+abbrev pub Spells : Option ℕ → Bytes → ℕ → Type 0
+Spells None s i = Unit {0}
+Spells (Some p) s i = Spelled s (i + 1) p
 
 -- nothing changed but n bytes from `at` on
 pub record Around (d e : List ℕ) (at n : ℕ) : Type 0 where
@@ -53,6 +51,6 @@ pub record Around (d e : List ℕ) (at n : ℕ) : Type 0 where
   pub kept : Kept d e (at + n)
 
 -- `put_plain_name`
-abbrev pub PlainNamed : Colon → Bytes → List ℕ → List ℕ → ℕ → Type 0
-PlainNamed NotName s d e at = Around d e at (length s)
-PlainNamed (At c) s d e at = Name c s d e at
+abbrev pub PlainNamed : Option ℕ → Bytes → List ℕ → List ℕ → ℕ → Type 0
+PlainNamed None s d e at = Around d e at (length s)
+PlainNamed (Some c) s d e at = Name c s d e at

@@ -7,11 +7,12 @@ ghost use Rattle.std.proofs.Math.Option.{none};
 ghost use Rattle.spec.specs.Modes.{base_mode};
 ghost use Rattle.spec.specs.Pyx2nt.{last_line};
 ghost use Rattle.copy.specs.Copy.{Wrote};
+ghost use Rattle.reader_contract.specs.Meets.{number_of};
 ghost use Rattle.convert.specs.Way.{start, Ended};
 ghost use Rattle.convert.specs.Places.{Comes, Few};
 
 use convert::{How, Outcome};
-use spec::Mode;
+use spec::{Mode, Refusal};
 use std::io::{Stderr, Stdin, Stdout};
 use streams::Stream;
 
@@ -41,7 +42,7 @@ fn end(source: &Stream<Stdin>, target: &mut Stream<Stdout>, stderr: Stderr, outc
     let bytes = outcome.bytes;
     let how = outcome.how;
     match how {
-        How::Done(number) => print_last(target, stderr, number, event, bytes),
+        How::Done(answer) => print_last(target, stderr, answer, event, bytes),
         How::Unwritten => tell_unwritten(target, stderr, event, bytes),
         How::Unread => streams::tell(
             stderr,
@@ -51,7 +52,7 @@ fn end(source: &Stream<Stdin>, target: &mut Stream<Stdout>, stderr: Stderr, outc
             bytes,
         ),
         // Without a base no start is refused: by its proof nothing comes here.
-        How::Unstarted(number) => print_last(target, stderr, number, event, bytes),
+        How::Unstarted(why) => print_last(target, stderr, Err(why), event, bytes),
     }
 }
 
@@ -69,11 +70,17 @@ fn tell_unwritten(target: &Stream<Stdout>, stderr: Stderr, event: usize, bytes: 
 }
 
 // The last line, if there is one, printed behind `bytes` bytes of lines.
-fn print_last(target: &mut Stream<Stdout>, stderr: Stderr, number: u8, event: usize, bytes: usize)
-    requires { Ended (start base_mode none) number event bytes × (bytes < 9_223_372_036_854_775_808) }
+fn print_last(
+    target: &mut Stream<Stdout>,
+    stderr: Stderr,
+    answer: Result<(), Refusal>,
+    event: usize,
+    bytes: usize,
+)
+    requires { Ended (start base_mode none) (number_of answer) event bytes × (bytes < 9_223_372_036_854_775_808) }
 {
     let mut line = [0u8; 64];
-    let n = last_line(&mut line, number, event);
+    let n = last_line(&mut line, answer, event);
     let printed = streams::print(target, &line[..n]);
     let whole = printed.is_whole();
     let taken = printed.taken();
@@ -84,15 +91,17 @@ fn print_last(target: &mut Stream<Stdout>, stderr: Stderr, number: u8, event: us
 }
 
 // The line after a refusal, to the front of `line`: its length.
-fn last_line(line: &mut [u8], number: u8, event: usize) -> usize
+fn last_line(line: &mut [u8], answer: Result<(), Refusal>, event: usize) -> usize
     requires { length line.old ≡ 64 }
-    ensures { Wrote line.old line.new 0 result (last_line number event) }
+    ensures { Wrote line.old line.new 0 result (last_line (number_of answer) event) }
 {
-    if number == 0 {
-        return 0;
+    match answer {
+        Ok(()) => 0,
+        Err(why) => {
+            let n = streams::put_number(line, 0, b"# refused ", u8::from(why) as u64);
+            let m = streams::put_number(line, n, b" at event ", event as u64);
+            copy::put(line, m, b"\n");
+            m + 1
+        }
     }
-    let n = streams::put_number(line, 0, b"# refused ", number as u64);
-    let m = streams::put_number(line, n, b" at event ", event as u64);
-    copy::put(line, m, b"\n");
-    m + 1
 }

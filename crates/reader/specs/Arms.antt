@@ -21,9 +21,6 @@ use Rattle.start_names.specs.Tag.{attributes_of}
 use Rattle.state_ids.specs.Ids.{ids_of}
 use Rattle.state.specs.declared.Registers.{Registers}
 use Rattle.state.specs.Meaning.{elements_of, doc_of}
-use Rattle.event.specs.declared.Outcome.{Outcome}
-use Rattle.event.specs.declared.Progress.{Progress}
-use Rattle.event.specs.declared.Progress.TheVariants.{Stop}
 use Rattle.event.specs.Result.{parsed, Handles}
 use Rattle.event.specs.Progress.{Lent, lent, doc_in, Progresses, HandlesAll, stopped}
 use Rattle.literal.specs.Quiet.{Quiet, Quietly}
@@ -32,6 +29,9 @@ use Rattle.start_form.specs.Tie.{colon_tells, splits}
 use Rattle.start_form.specs.Crowd.{Crowd, Refuses, crowd, refused_call}
 use Rattle.reader.specs.Asked.{Asks, Roomy, Tagged, handler_asks}
 use Rattle.reader.specs.Dispatch.{with_ids, without_ids, decoded_malformed, decoded_instruction, decoded_text, decoded_closing, decoded_opening, never_unread}
+use Rattle.std.specs.Prelude.{Result, Err}
+use Rattle.event.specs.declared.Done.{Done}
+use Rattle.event.specs.declared.Advance.{Advance}
 
 -- ---- a decoded start tag
 
@@ -63,7 +63,7 @@ tagged s {d} u y h =
 -- ---- by what was decoded
 
 -- the same answer, said otherwise
-progress_as : {a b : Answer Step} {o : Progress} {l l' : Lent} → Progresses a o l l' → a ≡ b → Progresses b o l l'
+progress_as : {a b : Answer Step} {o : Result Advance Refusal} {l l' : Lent} → Progresses a o l l' → a ≡ b → Progresses b o l l'
 progress_as p e = rw (← e) p
 
 module _ (s : Bytes) {d e x v : List ℕ} {y : Event} (u : unread s d ≡ false) (z : Decodes y s d e x v) where
@@ -92,15 +92,15 @@ module _ (s : Bytes) {d e x v : List ℕ} {y : Event} (u : unread s d ≡ false)
   crowds t q = crowd u t.spans (as_decoded q)
 
   module _ {r : Registers} {count used : ℕ} {fs bs is w ia il st out : List ℕ} (a : Asks r count used (lent fs bs is w ia il st out)) where
-    pub on_malformed : y ≡ Malformed → Progresses (parsed s (length out) (doc_in r count (lent fs bs is w ia il st out))) (Stop NotPyx) (lent fs bs is w ia il st out) (lent fs bs is w ia il st out)
+    pub on_malformed : y ≡ Malformed → Progresses (parsed s (length out) (doc_in r count (lent fs bs is w ia il st out))) (Err NotPyx) (lent fs bs is w ia il st out) (lent fs bs is w ia il st out)
     on_malformed q = stopped (decoded_malformed s d e x v (length out) (doc_in r count (lent fs bs is w ia il st out)) (as_decoded q))
 
     pub on_crowded : {n : Refusal} {room : List ℕ} → Roomy d x room → y ≡ Crowded → Refuses n s r fs bs w
-        → Progresses (parsed s (length out) (doc_in r count (lent fs bs is w ia il st out))) (Stop n) (lent fs bs is w ia il st out) (lent fs bs is w ia il st out)
+        → Progresses (parsed s (length out) (doc_in r count (lent fs bs is w ia il st out))) (Err n) (lent fs bs is w ia il st out) (lent fs bs is w ia il st out)
     unfolding doc_in
     on_crowded t q h = stopped (refused_call h (crowds t q) a.lawful.valid (length out) (ids_of ia il st count))
 
-    pub on_opening_lem : {m c k : ℕ} {p : Progress} {l' : Lent} → y ≡ Opening m c k → HandlesAll (P.opening (take m e) (attributes_of e v k)) r count p (lent fs bs is w ia il st out) l'
+    pub on_opening_lem : {m c k : ℕ} {p : Result Advance Refusal} {l' : Lent} → y ≡ Opening m c k → HandlesAll (P.opening (take m e) (attributes_of e v k)) r count p (lent fs bs is w ia il st out) l'
         → Progresses (parsed s (length out) (doc_in r count (lent fs bs is w ia il st out))) p (lent fs bs is w ia il st out) l'
     on_opening_lem q h = progress_as h (decoded_opening s d e x v (length out) (doc_in r count (lent fs bs is w ia il st out)) (as_decoded q))
 
@@ -108,7 +108,7 @@ module _ (s : Bytes) {d e x v : List ℕ} {y : Event} (u : unread s d ≡ false)
     unfolding on_event with_frames doc_of
     unmoved = record { step = λ ids. refl }
 
-    module _ {o : Outcome} {p : Progress} (i : p ≡ with_ids o count used) where
+    module _ {o : Result Done Refusal} {p : Result Advance Refusal} (i : p ≡ with_ids o count used) where
       pub on_instruction : y ≡ Instruction → Unchanged r o
           → Progresses (parsed s (length out) (doc_in r count (lent fs bs is w ia il st out))) p (lent fs bs is w ia il st out) (lent fs bs is w ia il st out)
       on_instruction q h =

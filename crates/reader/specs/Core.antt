@@ -19,12 +19,10 @@ use Rattle.pyx.specs.Decode.{unread}
 use Rattle.pyx.proofs.Clear.{first_read}
 use Rattle.state.specs.declared.Registers.{Registers}
 use Rattle.event.specs.declared.Advance.{Advance}
-use Rattle.event.specs.declared.Progress.{Progress}
-use Rattle.event.specs.declared.Progress.TheVariants as progress
 use Rattle.event.specs.Result.{parsed, accepted_as, accept-parsed}
 use Rattle.event.specs.Progress.{Lent, Lawful, doc_in, Advanced, Progresses}
 use Rattle.reader.specs.declared.stream.Taken.{Taken}
-use Rattle.reader.specs.declared.stream.Taken.TheVariants.{Stop, Did}
+use Rattle.std.specs.Prelude.{Result, Ok, Err}
 
 -- ---- what is done
 
@@ -44,12 +42,12 @@ pub record Accepts (a : Answer Accepted) (s : Bytes) (n : ℕ) (d : Advance) (l 
   pub mark : d.registers.flags.closed ≡ false
   pub doc : doc_in d.registers d.count l' ≡ what.behind
 
-abbrev pub Cases : Answer Accepted → Bytes → Taken → Lent → Lent → Type 0
-Cases a s (Stop n) l l' = (a ≡ refuse n) × (l' ≡ l)
-Cases a s (Did n d) l l' = Accepts a s n d l l'
+abbrev pub Cases : Answer Accepted → Bytes → Result Taken Refusal → Lent → Lent → Type 0
+Cases a s (Err n) l l' = (a ≡ refuse n) × (l' ≡ l)
+Cases a s (Ok t) l l' = Accepts a s t.consumed t.behind l l'
 
 -- in a document that registers and tables mean, with `count` rdf:IDs
-pub record Takes (last : Bool) (s : Bytes) (r : Registers) (count : ℕ) (o : Taken) (l l' : Lent) : Type 0 where
+pub record Takes (last : Bool) (s : Bytes) (r : Registers) (count : ℕ) (o : Result Taken Refusal) (l l' : Lent) : Type 0 where
   pub frame_words : length l'.frames ≡ length l.frames
   pub binding_words : length l'.bindings ≡ length l.bindings
   pub inner_words : length l'.inners ≡ length l.inners
@@ -61,20 +59,20 @@ pub record Takes (last : Bool) (s : Bytes) (r : Registers) (count : ℕ) (o : Ta
   pub cases : Cases (first_accepted last s (length l.out) (doc_in r count l)) s o l l'
 
 -- by what an event of n bytes has done
-abbrev pub taken_as : ℕ → Progress → Taken
-taken_as n (progress.Stop k) = Stop k
-taken_as n (progress.Did a) = Did n a
+abbrev pub taken_as : ℕ → Result Advance Refusal → Result Taken Refusal
+taken_as n (Err k) = Err k
+taken_as n (Ok a) = Ok (record { consumed = n; behind = a })
 
-pub taken_stop : {o : Progress} {k : Refusal} (n : ℕ) → o ≡ progress.Stop k → Stop k ≡ taken_as n o
+pub taken_stop : {o : Result Advance Refusal} {k : Refusal} (n : ℕ) → o ≡ Err k → Err k ≡ taken_as n o
 taken_stop n e = rw e
 
-pub taken_did : {o : Progress} {a : Advance} (n : ℕ) → o ≡ progress.Did a → Did n a ≡ taken_as n o
+pub taken_did : {o : Result Advance Refusal} {a : Advance} (n : ℕ) → o ≡ Ok a → Ok (record { consumed = n; behind = a }) ≡ taken_as n o
 taken_did n e = rw e
 
 -- ---- no event
 
 module _ {last : Bool} {s : Bytes} {r : Registers} {count : ℕ} {l : Lent} where
-  stays : {n : Refusal} → first_accepted last s (length l.out) (doc_in r count l) ≡ refuse n → Takes last s r count (Stop n) l l
+  stays : {n : Refusal} → first_accepted last s (length l.out) (doc_in r count l) ≡ refuse n → Takes last s r count (Err n) l l
   stays e =
       record {
         frame_words = refl;
@@ -89,15 +87,15 @@ module _ {last : Bool} {s : Bytes} {r : Registers} {count : ℕ} {l : Lent} wher
       }
 
   module _ {f : First} (c : Cuts f last s) where
-    pub take_wait : f ≡ Wait → Takes last s r count (Stop Incomplete) l l
+    pub take_wait : f ≡ Wait → Takes last s r count (Err Incomplete) l l
     unfolding first_accepted first_event ◌>>=◌
     take_wait q = stays (rw (← c.means, q))
 
-    pub take_unended : f ≡ Unended → Takes last s r count (Stop NotPyx) l l
+    pub take_unended : f ≡ Unended → Takes last s r count (Err NotPyx) l l
     unfolding first_accepted first_event ◌>>=◌
     take_unended q = stays (rw (← c.means, q))
 
-    pub take_long : f ≡ TooLong → Takes last s r count (Stop OverLimit) l l
+    pub take_long : f ≡ TooLong → Takes last s r count (Err OverLimit) l l
     unfolding first_accepted first_event ◌>>=◌
     take_long q = stays (rw (← c.means, q))
 
@@ -128,8 +126,8 @@ module _ {last : Bool} {s : Bytes} {f : First} {n : ℕ} (c : Cuts f last s) (q 
     unfolding ◌>>=◌ accepted_as
     take_good e = whole-accepted ∙ rw e
 
-  module _ {r : Registers} {count : ℕ} {o : Progress} {l l' : Lent} (p : Progresses (parsed (take n s) (length l.out) (doc_in r count l)) o l l') where
-    taken : {t : Taken} → Cases (first_accepted last s (length l.out) (doc_in r count l)) s t l l' → Takes last s r count t l l'
+  module _ {r : Registers} {count : ℕ} {o : Result Advance Refusal} {l l' : Lent} (p : Progresses (parsed (take n s) (length l.out) (doc_in r count l)) o l l') where
+    taken : {t : Result Taken Refusal} → Cases (first_accepted last s (length l.out) (doc_in r count l)) s t l l' → Takes last s r count t l l'
     taken h =
         record {
           frame_words = p.frame_words;
@@ -143,15 +141,15 @@ module _ {last : Bool} {s : Bytes} {f : First} {n : ℕ} (c : Cuts f last s) (q 
           cases = h;
         }
 
-    take_stop : {k : Refusal} → o ≡ progress.Stop k → Takes last s r count (Stop k) l l'
+    take_stop : {k : Refusal} → o ≡ Err k → Takes last s r count (Err k) l l'
     take_stop {k} e =
         let x : (parsed (take n s) (length l.out) (doc_in r count l) ≡ refuse k) × (l' ≡ l) = rw e at p.cases in
-        taken {t = Stop k} (take-refused (length l.out) (doc_in r count l) x.0, x.1)
+        taken {t = Err k} (take-refused (length l.out) (doc_in r count l) x.0, x.1)
 
-    take_did : {a : Advance} → o ≡ progress.Did a → Takes last s r count (Did n a) l l'
+    take_did : {a : Advance} → o ≡ Ok a → Takes last s r count (Ok (record { consumed = n; behind = a })) l l'
     take_did {a} e =
         let x : Advanced (parsed (take n s) (length l.out) (doc_in r count l)) a l l' = rw e at p.cases in
-        taken {t = Did n a}
+        taken {t = Ok (record { consumed = n; behind = a })}
         (record {
           what = record { size = n; lines = write x.step.0; behind = x.step.1 };
           answer = take_good (length l.out) (doc_in r count l) x.answer;
@@ -164,10 +162,10 @@ module _ {last : Bool} {s : Bytes} {f : First} {n : ℕ} (c : Cuts f last s) (q 
           doc = x.doc;
         })
 
-  by_progress : {r : Registers} {count : ℕ} {l l' : Lent} (o : Progress) → Progresses (parsed (take n s) (length l.out) (doc_in r count l)) o l l' → Takes last s r count (taken_as n o) l l'
-  by_progress (progress.Stop k) p = take_stop p refl
-  by_progress (progress.Did a) p = take_did p refl
+  by_progress : {r : Registers} {count : ℕ} {l l' : Lent} (o : Result Advance Refusal) → Progresses (parsed (take n s) (length l.out) (doc_in r count l)) o l l' → Takes last s r count (taken_as n o) l l'
+  by_progress (Err k) p = take_stop p refl
+  by_progress (Ok a) p = take_did p refl
 
-  pub take-parsed : {r : Registers} {count : ℕ} {l l' : Lent} {o : Progress} {t : Taken} → Progresses (parsed (take n s) (length l.out) (doc_in r count l)) o l l'
+  pub take-parsed : {r : Registers} {count : ℕ} {l l' : Lent} {o : Result Advance Refusal} {t : Result Taken Refusal} → Progresses (parsed (take n s) (length l.out) (doc_in r count l)) o l l'
       → t ≡ taken_as n o → Takes last s r count t l l'
   take-parsed {o = o} p e = rw e (by_progress o p)

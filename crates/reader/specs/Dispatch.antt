@@ -16,38 +16,36 @@ use Rattle.pyx.specs.Decode.{unread, no_scratch, Decodes, Says, Opened, Over}
 use Rattle.start_names.specs.Tag.{attributes_of}
 use Rattle.state_ids.specs.Ids.{ids_of, ValidIds, length_ids, total_ids}
 use Rattle.state.specs.declared.Registers.{Registers}
-use Rattle.event.specs.declared.Outcome.{Outcome}
-use Rattle.event.specs.declared.Outcome.TheVariants as outcome
 use Rattle.event.specs.declared.Done.{Done}
-use Rattle.event.specs.declared.Progress.{Progress}
-use Rattle.event.specs.declared.Progress.TheVariants.{Stop, Did}
 use Rattle.event.specs.Result.{handled, parsed, IdsFit, Handles}
 use Rattle.event.specs.Progress.{Lent, lent, doc_in, Progresses, HandlesAll, stopped, without_stop, without_did}
 use Rattle.start_form.specs.Tie.{attributes-same}
+use Rattle.std.specs.Prelude.{Result, Ok, Err}
+use Rattle.event.specs.declared.Advance.{Advance}
 
 -- ---- an event that enters no rdf:ID
 
-abbrev pub with_ids : Outcome → ℕ → ℕ → Progress
-with_ids (outcome.Stop n) count used = Stop n
-with_ids (outcome.Did d) count used = Did (record { written = d.written; registers = d.registers; count = count; used = used })
+abbrev pub with_ids : Result Done Refusal → ℕ → ℕ → Result Advance Refusal
+with_ids (Err n) count used = Err n
+with_ids (Ok d) count used = Ok (record { written = d.written; registers = d.registers; count = count; used = used })
 
-pub ids_stop : {o : Outcome} {n : Refusal} (count used : ℕ) → o ≡ outcome.Stop n → Stop n ≡ with_ids o count used
+pub ids_stop : {o : Result Done Refusal} {n : Refusal} (count used : ℕ) → o ≡ Err n → Err n ≡ with_ids o count used
 ids_stop count used e = rw e
 
-pub ids_did : {o : Outcome} {d : Done} (count used : ℕ) → o ≡ outcome.Did d → Did (record { written = d.written; registers = d.registers; count = count; used = used }) ≡ with_ids o count used
+pub ids_did : {o : Result Done Refusal} {d : Done} (count used : ℕ) → o ≡ Ok d → Ok (record { written = d.written; registers = d.registers; count = count; used = used }) ≡ with_ids o count used
 ids_did count used e = rw e
 
 ids_fit : {count used : ℕ} {ia il st : List ℕ} → ValidIds count used ia il st → IdsFit (ids_of ia il st count)
 unfolding most_ids most_id_bytes
 ids_fit {count} {used} {ia} {il} {st} v = record { few = rw (length_ids ia il st count) v.few; small = rw (total_ids v) v.within }
 
-by_outcome : {e : P.Event} {r : Registers} {count used : ℕ} {fs bs is w out fs' bs' is' w' out' : List ℕ} (ia il st : List ℕ) (o : Outcome)
+by_outcome : {e : P.Event} {r : Registers} {count used : ℕ} {fs bs is w out fs' bs' is' w' out' : List ℕ} (ia il st : List ℕ) (o : Result Done Refusal)
     → ValidIds count used ia il st → Handles e r o fs bs is w out fs' bs' is' w' out'
     → HandlesAll e r count (with_ids o count used) (lent fs bs is w ia il st out) (lent fs' bs' is' w' ia il st out')
-by_outcome {count = count} ia il st (outcome.Stop n) v h = without_stop count ia il st (ids_fit v) h refl
-by_outcome {count = count} ia il st (outcome.Did d) v h = without_did count ia il st (ids_fit v) h refl v
+by_outcome {count = count} ia il st (Err n) v h = without_stop count ia il st (ids_fit v) h refl
+by_outcome {count = count} ia il st (Ok d) v h = without_did count ia il st (ids_fit v) h refl v
 
-pub without_ids : {e : P.Event} {r : Registers} {count used : ℕ} {fs bs is w ia il st out fs' bs' is' w' out' : List ℕ} {o : Outcome} {p : Progress}
+pub without_ids : {e : P.Event} {r : Registers} {count used : ℕ} {fs bs is w ia il st out fs' bs' is' w' out' : List ℕ} {o : Result Done Refusal} {p : Result Advance Refusal}
     → ValidIds count used ia il st → Handles e r o fs bs is w out fs' bs' is' w' out' → p ≡ with_ids o count used
     → HandlesAll e r count p (lent fs bs is w ia il st out) (lent fs' bs' is' w' ia il st out')
 without_ids {ia = ia} {il} {st} {o = o} v h q = rw q (by_outcome ia il st o v h)

@@ -1,5 +1,5 @@
 -- Events one after another: what `feed` does.
-use Rattle.std.specs.Prelude.{ℕ, suc, ◌+◌, ◌*◌, ◌-◌, ◌≤◌, ◌<◌, ◌≡◌, refl, Bool, false, List, [], ◌++◌, length, take, drop}
+use Rattle.std.specs.Prelude.{ℕ, suc, ◌+◌, ◌*◌, ◌-◌, ◌≤◌, ◌<◌, ◌≡◌, refl, Bool, false, List, [], ◌++◌, length, take, drop, Result, Ok, Err}
 use Rattle.std.proofs.Common.{ap, ◌∙◌, add-one, add-zero, arith, length-append, length-take, take-append-drop}
 use Rattle.std.proofs.Math.ListN.{length-drop}
 use Rattle.spec.specs.Limits.{program_room}
@@ -14,12 +14,10 @@ use Rattle.event.specs.declared.Advance.{Advance}
 use Rattle.event.specs.Progress.{Lent, lent, doc_in, Lawful}
 use Rattle.reader.specs.Asked.{Asks, Roomy, Areas}
 use Rattle.reader.specs.declared.stream.Taken.{Taken}
-use Rattle.reader.specs.declared.stream.Taken.TheVariants as taken
 use Rattle.reader.specs.Core.{first_accepted, Accepts, Takes}
-use Rattle.reader_contract.specs.declared.fed.Pause.{Pause}
-use Rattle.reader_contract.specs.declared.fed.Pause.TheVariants.{Full, Stop}
 use Rattle.reader_contract.specs.declared.fed.Fed.{Fed}
 use Rattle.reader_contract.specs.Fed.{nothing, further, Sums, stopped}
+use Rattle.std.specs.Prelude.{Option, None, Some}
 
 -- k events from the front of s, one behind the other, each done within its room: n bytes of s, output o, from the document d to d'
 pub data Does (last : Bool) (s : Bytes) (d : Doc) : ℕ → ℕ → Bytes → Doc → Type 0 where
@@ -28,9 +26,9 @@ pub data Does (last : Bool) (s : Bytes) (d : Doc) : ℕ → ℕ → Bytes → Do
       → Does last s d (suc k) (n + a.size) (o ++ a.lines) a.behind
 
 -- why no further event was done, in a document d, with the input s and `free` bytes of output left
-abbrev pub Ends : Bool → Bytes → Doc → ℕ → Pause → Type 0
-Ends last s d free Full = free < program_room
-Ends last s d free (Stop n) = first_accepted last s program_room d ≡ refuse n
+abbrev pub Ends : Bool → Bytes → Doc → ℕ → Option Refusal → Type 0
+Ends last s d free None = free < program_room
+Ends last s d free (Some n) = first_accepted last s program_room d ≡ refuse n
 
 -- k events of n bytes were done, from the registers r with i rdf:IDs on, to r' with i', whose bytes are the first u of their store: the m bytes
 -- written are theirs, and all is lawful and means the document behind them
@@ -57,7 +55,7 @@ WentTo last s r count f l l' = Went last s f.events f.consumed f.written r count
 -- and no further one was
 pub record Goes (last : Bool) (s : Bytes) (r : Registers) (count : ℕ) (f : Fed) (l l' : Lent) : Type 0 where
   pub went : WentTo last s r count f l l'
-  pub ends : Ends last (drop f.consumed s) (doc_in f.registers f.count l') (length l.out - f.written) f.pause
+  pub ends : Ends last (drop f.consumed s) (doc_in f.registers f.count l') (length l.out - f.written) f.refusal
 
 -- ---- scratch is as long as it was
 
@@ -71,7 +69,7 @@ still_roomy p h = record { scratch = p.scratch ∙ h.scratch; spans = p.spans �
 
 pub record Going (last : Bool) (s : Bytes) (r : Registers) (count : ℕ) (f : Fed) (l l' : Lent) : Type 0 where
   pub went : WentTo last s r count f l l'
-  pub full : f.pause ≡ Full
+  pub full : f.refusal ≡ None
 
 -- from `f`, which nothing is done to yet
 pub going_begins : {last : Bool} {s : Bytes} {r : Registers} {count used : ℕ} {l : Lent} {f : Fed} → f ≡ nothing r count used → Lawful r count used l → r.flags.closed ≡ false
@@ -131,7 +129,7 @@ wrote_back d at n {y} {to} {s} h w =
     }
 
 module _ {last : Bool} {s : Bytes} {r : Registers} {count : ℕ} {f : Fed} {l : Lent} {fs bs is w ia il st out : List ℕ} (g : Going last s r count f l (lent fs bs is w ia il st out))
-    (fits : f.written + 65_536 ≤ length out) {o : Taken} {fs' bs' is' w' ia' il' st' y : List ℕ}
+    (fits : f.written + 65_536 ≤ length out) {o : Result Taken Refusal} {fs' bs' is' w' ia' il' st' y : List ℕ}
     (t : Takes last (take (length s - f.consumed) (drop f.consumed s)) f.registers f.count o
     (lent fs bs is w ia il st (take (f.written + 65_536 - f.written) (drop f.written out))) (lent fs' bs' is' w' ia' il' st' y)) where
   abbrev rest : Bytes
@@ -155,10 +153,10 @@ module _ {last : Bool} {s : Bytes} {r : Registers} {count : ℕ} {f : Fed} {l : 
   unfolding doc_in program_room
   given = rw (length_part out f.written 65_536 fits)
 
-  done : {n : ℕ} {a : Advance} → o ≡ taken.Did n a → Accepts answer rest n a (lent fs bs is w ia il st free) (lent fs' bs' is' w' ia' il' st' y)
+  done : {d : Taken} → o ≡ Ok d → Accepts answer rest d.consumed d.behind (lent fs bs is w ia il st free) (lent fs' bs' is' w' ia' il' st' y)
   done q = rw given at (rw q at parts.cases)
 
-  undone : {n : Refusal} → o ≡ taken.Stop n → (answer ≡ refuse n) × (lent fs' bs' is' w' ia' il' st' y ≡ lent fs bs is w ia il st free)
+  undone : {n : Refusal} → o ≡ Err n → (answer ≡ refuse n) × (lent fs' bs' is' w' ia' il' st' y ≡ lent fs bs is w ia il st free)
   undone q = rw given at (rw q at parts.cases)
 
   pub back_room : length back ≡ length l.out
@@ -166,7 +164,7 @@ module _ {last : Bool} {s : Bytes} {r : Registers} {count : ℕ} {f : Fed} {l : 
       let k : length y ≡ 65_536 = parts.room ∙ length_part out f.written 65_536 fits in
       simp (length-append, length-take, length-drop) (omega (arith, g.went.room))
 
-  pub goes_stop : {n : Refusal} {f' : Fed} → o ≡ taken.Stop n → f' ≡ stopped f n → Goes last s r count f' l (lent fs' bs' is' w' ia' il' st' back)
+  pub goes_stop : {n : Refusal} {f' : Fed} → o ≡ Err n → f' ≡ stopped f n → Goes last s r count f' l (lent fs' bs' is' w' ia' il' st' back)
   goes_stop q e =
       let x = undone q in
       let same : lent fs' bs' is' w' ia' il' st' back ≡ lent fs bs is w ia il st out =
@@ -196,10 +194,10 @@ module _ {last : Bool} {s : Bytes} {r : Registers} {count : ℕ} {f : Fed} {l : 
         mark = x.mark;
       }
 
-  pub going_further : {n : ℕ} {a : Advance} {f' : Fed} → o ≡ taken.Did n a → f' ≡ further f n a → Going last s r count f' l (lent fs' bs' is' w' ia' il' st' back)
+  pub going_further : {d : Taken} {f' : Fed} → o ≡ Ok d → f' ≡ further f d.consumed d.behind → Going last s r count f' l (lent fs' bs' is' w' ia' il' st' back)
   going_further q e = rw e (record { went = further_went (done q); full = refl })
 
-  pub further_counts : {n : ℕ} {a : Advance} → o ≡ taken.Did n a → length s * 1 < 9_223_372_036_854_775_808 → length l.out * 1 < 9_223_372_036_854_775_808 → Sums f n a
+  pub further_counts : {d : Taken} → o ≡ Ok d → length s * 1 < 9_223_372_036_854_775_808 → length l.out * 1 < 9_223_372_036_854_775_808 → Sums f d.consumed d.behind
   further_counts q h k =
       let x = further_went (done q) in
       record {
@@ -210,5 +208,5 @@ module _ {last : Bool} {s : Bytes} {r : Registers} {count : ℕ} {f : Fed} {l : 
         lines = omega (arith, x.wrote.up, x.wrote.room);
       }
 
-  pub further_less : {n : ℕ} {a : Advance} {f' : Fed} → o ≡ taken.Did n a → f' ≡ further f n a → length s - f'.consumed < length s - f.consumed
+  pub further_less : {d : Taken} {f' : Fed} → o ≡ Ok d → f' ≡ further f d.consumed d.behind → length s - f'.consumed < length s - f.consumed
   further_less q e = let x = done q in rw e (omega (arith, x.some, x.within, length-drop f.consumed s))

@@ -20,9 +20,9 @@ use Rattle.copy.specs.Copy.{wrote_front}
 use Rattle.state.specs.declared.Registers.{Registers}
 use Rattle.event.specs.Progress.{Lent, doc_in}
 use Rattle.reader.specs.Core.{first_accepted}
-use Rattle.reader_contract.specs.declared.fed.Pause.TheVariants.{Stop}
 use Rattle.reader_contract.specs.declared.fed.Fed.{Fed}
 use Rattle.reader.specs.Goes.{Does, none, one, Goes}
+use Rattle.std.specs.Prelude.{Some}
 
 -- a program's way from event k on, over a rest at hand and pieces to come; the last is all that it prints
 pub data Prints : ℕ → Bytes → List Bytes → Doc → Bytes → Type 0 where
@@ -43,7 +43,7 @@ module _ {ps : List Bytes} {rest : Bytes} {r : Registers} {count : ℕ} {f : Fed
       → Prints k rest ps (doc_in r count l) (take f.written l'.out ++ w)
   goes_on_lem p = rw (wrote_front g.went.wrote) (feeds g.went.does p)
 
-  pub goes_refused : {n : Refusal} → f.pause ≡ Stop n → (n ≡ Incomplete → ⊥) → Prints k (drop f.consumed rest) ps (doc_in f.registers f.count l') (last_line (number n) k)
+  pub goes_refused : {n : Refusal} → f.refusal ≡ Some n → (n ≡ Incomplete → ⊥) → Prints k (drop f.consumed rest) ps (doc_in f.registers f.count l') (last_line (number n) k)
   goes_refused q h = refused (rw q at g.ends) h
 
 -- ---- what a program prints is what a host's run gives

@@ -28,22 +28,18 @@ use Rattle.state.specs.Live.{started_with, started_means}
 use Rattle.state.specs.Live.{started as valid-fresh}
 use Rattle.event.specs.Progress.{Lent, doc_in}
 use Rattle.reader_contract.specs.declared.State.{State}
-use Rattle.reader_contract.specs.declared.Answer.{Answer}
-use Rattle.reader_contract.specs.declared.Answer.TheVariants.{Done, Refused}
 use Rattle.reader_contract.specs.declared.Report.{Report}
-use Rattle.reader.specs.declared.Begun.{Begun}
-use Rattle.reader.specs.declared.Begun.TheVariants.{On}
-use Rattle.reader.specs.declared.Begun.TheVariants as begun
 use Rattle.reader_contract.specs.Meaning.{base_of, lawful_state, meaning_of, closed_state, marked, meaning-closed, means_unlawful, means_closed, means_open, over_in, over_read, Fresh, fresh_means}
 use Rattle.reader_contract.specs.Meets.{Starts, Finishes, lengths_right, refusing, doing, meets_refused, meets_marked}
+use Rattle.std.specs.Prelude.{Result, Ok, Err}
 
 -- an answer, in the definitions' words
-abbrev pub told : Answer → numbers.Answer (Unit {0})
-told Done = good tt
-told (Refused n) = refuse n
+abbrev pub told : Result Unit Refusal → numbers.Answer (Unit {0})
+told (Ok _) = good tt
+told (Err n) = refuse n
 
 -- may a document start?
-pub record Judges (a : Answer) (lengths based : Bool) (base : Bytes) : Type 0 where
+pub record Judges (a : Result Unit Refusal) (lengths based : Bool) (base : Bytes) : Type 0 where
   pub means : told a ≡ may_start lengths (base_of based base)
 
 -- how many bytes of `base` are the start base
@@ -53,7 +49,7 @@ size_of_base based b = pick based (length b) 0
 -- ---- the refusals of start, in order
 
 module _ {base : Bytes} {l based : Bool} where
-  pub no_lengths : l ≡ false → Judges (Refused BadState) l based base
+  pub no_lengths : l ≡ false → Judges (Err BadState) l based base
   unfolding may_start ◌>>◌ require◌or◌
   no_lengths e = record { means = rw e (go based) }
     where
@@ -62,21 +58,21 @@ module _ {base : Bytes} {l based : Bool} where
       go false = refl
 
   module _ (e : l ≡ true) where
-    pub no_base : based ≡ false → Judges Done l based base
+    pub no_base : based ≡ false → Judges (Ok tt) l based base
     unfolding may_start require◌or◌
     no_base f = record { means = rw (f, e) }
 
     module _ (f : based ≡ true) where
-      pub no_iri : is_iri base ≡ false → Judges (Refused BadIri) l based base
+      pub no_iri : is_iri base ≡ false → Judges (Err BadIri) l based base
       unfolding may_start ◌>>◌ require◌or◌
       no_iri h = record { means = rw (f, e, h) }
 
       module _ (h : is_iri base ≡ true) where
-        pub base-long : 1_024 < length base → Judges (Refused OverLimit) l based base
+        pub base-long : 1_024 < length base → Judges (Err OverLimit) l based base
         unfolding may_start ◌>>◌ require◌or◌ most_name_bytes
         base-long b = record { means = rw (f, e, h, lt-leb (length base) 1_024 b) }
 
-        pub base_good : length base ≤ 1_024 → Judges Done l based base
+        pub base_good : length base ≤ 1_024 → Judges (Ok tt) l based base
         unfolding may_start ◌>>◌ require◌or◌ most_name_bytes
         base_good b = record { means = rw (f, e, h, le-leb (length base) 1_024 b) }
 
@@ -124,13 +120,13 @@ pub record Opened (mode : Mode) (based : Bool) (base : Bytes) (w i : List ℕ) (
   pub stored : base_of based (part w' 0 (size_of_base based base)) ≡ base_of based base
 
 -- refused, it changes nothing
-abbrev pub BeginsBy : Mode → Bool → Bytes → List ℕ → List ℕ → Begun → List ℕ → Type 0
-BeginsBy mode based base w i (On r) w' = Opened mode based base w i r w'
-BeginsBy mode based base w i (begun.Refused n) w' =
+abbrev pub BeginsBy : Mode → Bool → Bytes → List ℕ → List ℕ → Result Registers Refusal → List ℕ → Type 0
+BeginsBy mode based base w i (Ok r) w' = Opened mode based base w i r w'
+BeginsBy mode based base w i (Err n) w' =
     (may_start (lengths_right w i) (base_of based base) ≡ refuse n) × (w' ≡ w)
 
 -- what a start did on lent stores
-pub record Begins (mode : Mode) (based : Bool) (base : Bytes) (w i : List ℕ) (b : Begun) (w' : List ℕ) : Type 0 where
+pub record Begins (mode : Mode) (based : Bool) (base : Bytes) (w i : List ℕ) (b : Result Registers Refusal) (w' : List ℕ) : Type 0 where
   pub store : length w' ≡ length w
   pub cases : BeginsBy mode based base w i b w'
 
@@ -147,13 +143,13 @@ module _ (based : Bool) (base : Bytes) (w i : List ℕ) (h : may_start (lengths_
   unfolding id_store_bytes
   ids_whole = eqb-true (length i) 32_768 (and_right (eqb (length w) work_store_bytes) _ may.lengths)
 
-module _ (mode : Mode) (based : Bool) (base w i : List ℕ) {a : Answer}
+module _ (mode : Mode) (based : Bool) (base w i : List ℕ) {a : Result Unit Refusal}
     (h : Judges a (lengths_right w i) based base) where
-  pub begin_refused : {n : Refusal} → a ≡ Refused n → Begins mode based base w i (begun.Refused n) w
+  pub begin_refused : {n : Refusal} → a ≡ Err n → Begins mode based base w i (Err n) w
   begin_refused q = record { store = refl; cases = (sym h.means ∙ ap told q, refl) }
 
-  pub begin_done : {w' : List ℕ} {n : ℕ} {z : Bool} {r : Registers} → a ≡ Done → n ≡ size_of_base based base → Put w 0 (take n base) w' z → r ≡ started_with mode based n
-      → Begins mode based base w i (On r) w'
+  pub begin_done : {w' : List ℕ} {n : ℕ} {z : Bool} {r : Registers} → a ≡ Ok tt → n ≡ size_of_base based base → Put w 0 (take n base) w' z → r ≡ started_with mode based n
+      → Begins mode based base w i (Ok r) w'
   begin_done {w'} q k p e =
       let m : may_start (lengths_right w i) (base_of based base) ≡ good tt = sym h.means ∙ ap told q in
       let b = (may based base w i m).short in
@@ -177,16 +173,16 @@ module _ {mode : Mode} {based : Bool} {base w i : List ℕ} {r : Registers} (l :
       (valid-fresh mode based (size_of_base based base) l.frames l.bindings l.inners l.work
       f b n k (omega arith) (size-empty based base))
 
-module _ (mode : Mode) (based : Bool) (base : Bytes) (s : State) (w i : List ℕ) {b : Begun} {w' : List ℕ}
+module _ (mode : Mode) (based : Bool) (base : Bytes) (s : State) (w i : List ℕ) {b : Result Registers Refusal} {w' : List ℕ}
     (h : Begins mode based base w i b w') where
-  pub start_refused : {n : Refusal} {r : Report} → b ≡ begun.Refused n → r ≡ refusing s n
+  pub start_refused : {n : Refusal} {r : Report} → b ≡ Err n → r ≡ refusing s n
       → Starts mode based base s w i r w'
   unfolding call_start started
   start_refused {n} q e =
-      let m : BeginsBy mode based base w i (begun.Refused n) w' = rw q at h.cases in
+      let m : BeginsBy mode based base w i (Err n) w' = rw q at h.cases in
       rw (e, m.1) (record { meets = meets_refused {left = λ n. s} n (rw m.0) refl })
 
-  pub start_done : {g : Registers} {n : ℕ} {s' : State} {r : Report} → b ≡ On g → n ≡ size_of_base based base → Fresh mode based n s' → r ≡ doing s' → Starts mode based base s w i r w'
+  pub start_done : {g : Registers} {n : ℕ} {s' : State} {r : Report} → b ≡ Ok g → n ≡ size_of_base based base → Fresh mode based n s' → r ≡ doing s' → Starts mode based base s w i r w'
   unfolding call_start started
   start_done {g} {n} {s'} q k f e =
       let o : Opened mode based base w i g w' = rw q at h.cases in

@@ -1,5 +1,5 @@
 -- How step comes to its answer.
-use Rattle.std.specs.Prelude.{ℕ, Bool, true, false, List, length}
+use Rattle.std.specs.Prelude.{ℕ, Bool, true, false, List, length, Result, Ok, Err}
 use Rattle.std.proofs.Math.Path.{◌≡◌, refl, ap}
 use Rattle.std.proofs.Common.{◌∙◌, arith}
 use Rattle.spec.specs.Bytes.{Bytes}
@@ -12,7 +12,6 @@ use Rattle.event.specs.Progress.{Lent, lent, doc_in}
 use Rattle.reader_contract.specs.declared.State.{State}
 use Rattle.reader_contract.specs.declared.Report.{Report}
 use Rattle.reader.specs.declared.stream.Taken.{Taken}
-use Rattle.reader.specs.declared.stream.Taken.TheVariants.{Stop, Did}
 use Rattle.reader_contract.specs.Meaning.{lent_by, lawful_state, doc_from, meaning_of, marked, means_unlawful, means_closed, means_open, facts_lawful}
 use Rattle.reader_contract.specs.Meets.{Steps, refusing, state_of, accepting, meets_marked}
 use Rattle.reader.specs.Core.{first_accepted, Accepts, Takes}
@@ -30,7 +29,7 @@ module _ {last : Bool} {input : Bytes} {s : State} {w i out : List ℕ} {r : Rep
 
 -- ---- an event
 
-module _ {last : Bool} {input : Bytes} (s : State) {w i out : List ℕ} (h : lawful_state s w i ≡ true) (c : s.registers.flags.closed ≡ false) {o : Taken} {fs bs is w' ia il i' out' : List ℕ}
+module _ {last : Bool} {input : Bytes} (s : State) {w i out : List ℕ} (h : lawful_state s w i ≡ true) (c : s.registers.flags.closed ≡ false) {o : Result Taken Refusal} {fs bs is w' ia il i' out' : List ℕ}
     (t : Takes last input s.registers s.ids.count o (lent_by s w i out) (lent fs bs is w' ia il i' out')) where
   -- the output is no part of the document
   same-doc : doc_in s.registers s.ids.count (lent_by s w i out) ≡ doc_from s w i
@@ -41,7 +40,7 @@ module _ {last : Bool} {input : Bytes} (s : State) {w i out : List ℕ} (h : law
   unfolding call_step first_accepted
   reported = rw (means_open s w i h c, same-doc)
 
-  pub step_stop : {n : Refusal} {s' : State} {r : Report} → o ≡ Stop n → s' ≡ marked n s → r ≡ refusing s' n → Steps last input s w i out r w' i' out'
+  pub step_stop : {n : Refusal} {s' : State} {r : Report} → o ≡ Err n → s' ≡ marked n s → r ≡ refusing s' n → Steps last input s w i out r w' i' out'
   unfolding stepped
   step_stop {n} q m e =
       let x : (first_accepted last input (length out) (doc_in s.registers s.ids.count (lent_by s w i out)) ≡ refuse n) × (lent fs bs is w' ia il i' out' ≡ lent_by s w i out) = rw q at t.cases in
@@ -50,10 +49,10 @@ module _ {last : Bool} {input : Bytes} (s : State) {w i out : List ℕ} (h : law
       let oo : out' ≡ out = ap (λ (l : Lent). l.out) x.1 in
       rw (e, m, ww, ii, oo) (record { meets = meets_marked s n (reported ∙ rw (x.0, means_open s w i h c)) })
 
-  pub step_did : {n : ℕ} {a : Advance} {r : Report} → o ≡ Did n a → r ≡ accepting n a fs bs is ia il → Steps last input s w i out r w' i' out'
+  pub step_did : {d : Taken} {r : Report} → o ≡ Ok d → r ≡ accepting d.consumed d.behind fs bs is ia il → Steps last input s w i out r w' i' out'
   unfolding stepped doc_from doc_in
-  step_did {n} {a} q e =
-      let x : Accepts (first_accepted last input (length out) (doc_in s.registers s.ids.count (lent_by s w i out))) input n a (lent_by s w i out) (lent fs bs is w' ia il i' out') = rw q at t.cases in
+  step_did {d} q e =
+      let x : Accepts (first_accepted last input (length out) (doc_in s.registers s.ids.count (lent_by s w i out))) input d.consumed d.behind (lent_by s w i out) (lent fs bs is w' ia il i' out') = rw q at t.cases in
       rw e
       (record {
         meets = record {
@@ -63,7 +62,7 @@ module _ {last : Bool} {input : Bytes} (s : State) {w i out : List ℕ} (h : law
           answer = rw (reported, x.answer);
           consumed = rw (reported, x.answer) x.consumed;
           wrote = rw (reported, x.answer) x.wrote;
-          behind = rw (reported, x.answer) (means_open (state_of a fs bs is ia il) w' i' (facts_lawful (state_of a fs bs is ia il) x.lawful) x.mark ∙ ap is_open x.doc);
+          behind = rw (reported, x.answer) (means_open (state_of d.behind fs bs is ia il) w' i' (facts_lawful (state_of d.behind fs bs is ia il) x.lawful) x.mark ∙ ap is_open x.doc);
           kept = λ k y. let z : ◌≡◌ {A = ℕ} 0 1 = cc in absurd (omega arith);
         };
       })

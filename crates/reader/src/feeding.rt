@@ -3,7 +3,6 @@ ghost use Rattle.event.specs.Progress.{lent};
 ghost use Rattle.reader.specs.Asked.{Asks, Roomy, Areas};
 ghost use Rattle.reader.specs.Goes.{Goes};
 
-use crate::stream::Taken;
 use reader_contract::fed::Fed;
 use start_names::Class;
 use state::Registers;
@@ -36,6 +35,7 @@ pub fn feed(
 {
     let mut classes = [0usize; Class::TABLE];
     let mut fed = Fed::none(registers, count, used);
+    // An event takes as much of the input and the output as it needs, so no range counts the turns.
     while Fed::ROOM <= out.len() - fed.written {
         let registers = fed.registers;
         let from = fed.consumed;
@@ -61,8 +61,8 @@ pub fn feed(
             &mut classes,
         );
         match taken {
-            Taken::Stop(why) => return fed.stopped(why),
-            Taken::Did(n, a) => fed = fed.further(n, a),
+            Err(why) => return fed.stopped(why),
+            Ok(t) => fed = fed.further(t.consumed, t.behind),
         }
     }
     fed

@@ -11,19 +11,12 @@ pub mod parser;
 pub mod stream;
 
 use crate::stream::Taken;
-use reader_contract::{Answer, Report, State};
+use reader_contract::{Report, State};
 use resolve::Resolved;
 use spec::{Mode, Refusal};
 use start_names::Class;
 use state::Registers;
 use state_ids::IdTable;
-
-// What a start on lent stores comes to: the registers of the document that begins, or a refusal.
-#[derive(Drop)]
-pub enum Begun {
-    On(Registers),
-    Refused(Refusal),
-}
 
 // A document begins in this mode, with a start base or without. The ID store is emptied by a fresh table.
 pub fn start(
@@ -38,25 +31,27 @@ pub fn start(
 {
     let begun = begin(mode, based, base, work, ids);
     match begun {
-        Begun::Refused(why) => Report::refused(state, why),
-        Begun::On(_) => Report::done(State::fresh(mode, based, base_size(based, base))),
+        Err(why) => Report::refused(state, why),
+        Ok(_) => Report::done(State::fresh(mode, based, base_size(based, base))),
     }
 }
 
-// The same for a program that keeps tables of its own: the base at the front of the work store, and the registers.
-pub fn begin(mode: Mode, based: bool, base: &[u8], work: &mut [u8], ids: &[u8]) -> Begun
+// The same for a program that keeps tables of its own: the base at the front of the work store, and the registers
+// of the document that begins.
+pub fn begin(
+    mode: Mode,
+    based: bool,
+    base: &[u8],
+    work: &mut [u8],
+    ids: &[u8],
+) -> Result<Registers, Refusal>
     ensures { Begins mode based base.now work.old ids.now result work.new }
 {
     let lengths = (work.len() == Registers::STORE) & (ids.len() == IdTable::BYTES);
-    let answer = may_start(lengths, based, base);
-    match answer {
-        Answer::Refused(why) => Begun::Refused(why),
-        Answer::Done => {
-            let n = base_size(based, base);
-            copy::put(work, 0, &base[..n]);
-            Begun::On(Registers::started(mode, based, n))
-        }
-    }
+    may_start(lengths, based, base)?;
+    let n = base_size(based, base);
+    copy::put(work, 0, &base[..n]);
+    Ok(Registers::started(mode, based, n))
 }
 
 // The first event of the input, which is what is left of it; `last` where no more follows. Its lines go to the front of `out`.
@@ -118,8 +113,8 @@ pub fn step(
         &mut classes,
     );
     match taken {
-        Taken::Stop(why) => Report::refused(state.marked(why), why),
-        Taken::Did(n, a) => Report::accepted(n, a, frames, bindings, inners, at, len),
+        Err(why) => Report::refused(state.marked(why), why),
+        Ok(t) => Report::accepted(t.consumed, t.behind, frames, bindings, inners, at, len),
     }
 }
 
@@ -179,22 +174,22 @@ fn is_lawful(
 }
 
 // 3, 11 and 7, in this order.
-fn may_start(lengths: bool, based: bool, base: &[u8]) -> Answer
+fn may_start(lengths: bool, based: bool, base: &[u8]) -> Result<(), Refusal>
     ensures { Judges result lengths based base.now }
 {
     if !lengths {
-        return Answer::Refused(Refusal::BadState);
+        return Err(Refusal::BadState);
     }
     if !based {
-        return Answer::Done;
+        return Ok(());
     }
     if !iri::is_iri(base) {
-        return Answer::Refused(Refusal::BadIri);
+        return Err(Refusal::BadIri);
     }
     if base.len() > Resolved::MOST_BYTES {
-        return Answer::Refused(Refusal::OverLimit);
+        return Err(Refusal::OverLimit);
     }
-    Answer::Done
+    Ok(())
 }
 
 // How many bytes of `base` are a start base.

@@ -12,7 +12,7 @@ ghost use Rattle.reader.specs.Asked.{Asks, Roomy, Areas, Tagged};
 ghost use Rattle.reader.specs.Tags.{is_literal};
 ghost use Rattle.reader.specs.Dispatch.{with_ids};
 
-use event::{Advance, Outcome, Place, Progress};
+use event::{Advance, Done, Place};
 use pyx::Event;
 use spec::Refusal;
 use start_names::Class;
@@ -37,7 +37,7 @@ pub fn parse_event(
     spans: &mut [u32],
     area: &mut [u8],
     classes: &mut [usize; Class::TABLE],
-) -> Progress
+) -> Result<Advance, Refusal>
     requires { Asks registers count used (lent frames.old bindings.old inners.old work.old places.old sizes.old ids.old out.old) × Roomy scratch.old spans.old area.old × (unread event.now scratch.old ≡ false) }
     ensures { Progresses (parsed event.now (length out.old) (doc_in registers count (lent frames.old bindings.old inners.old work.old places.old sizes.old ids.old out.old))) result
         (lent frames.old bindings.old inners.old work.old places.old sizes.old ids.old out.old)
@@ -46,9 +46,9 @@ pub fn parse_event(
 {
     let decoded = pyx::decode(event, scratch, spans);
     match decoded {
-        Event::Malformed => Progress::Stop(Refusal::NotPyx),
+        Event::Malformed => Err(Refusal::NotPyx),
         // no answer for an event that is read
-        Event::NoScratch => Progress::Stop(Refusal::NotPyx),
+        Event::NoScratch => Err(Refusal::NotPyx),
         Event::Instruction => with_ids(text::unchanged(registers), count, used),
         Event::Text(m) => {
             let outcome = text::parse_text_event(
@@ -83,7 +83,7 @@ pub fn parse_event(
             let why = start_form::crowded::refusal(
                 registers, frames, bindings, work, event, scratch,
             );
-            Progress::Stop(why)
+            Err(why)
         }
     }
 }
@@ -108,7 +108,7 @@ fn parse_start_event(
     area: &mut [u8],
     classes: &mut [usize; Class::TABLE],
     out: &mut [u8],
-) -> Progress
+) -> Result<Advance, Refusal>
     requires { Asks r count used (lent frames.old bindings.old inners.old work.old places.old sizes.old ids.old out.old) × Tagged scratch.now spans.now m c k area.old }
     ensures { HandlesAll (opening (take m scratch.now) (attributes_of scratch.now spans.now k)) r count result
         (lent frames.old bindings.old inners.old work.old places.old sizes.old ids.old out.old)
@@ -137,7 +137,7 @@ fn parse_end_event(
     area: &mut [u8],
     name: &[u8],
     out: &mut [u8],
-) -> Outcome
+) -> Result<Done, Refusal>
     requires { handler.Asks r frames.old bindings.now inners.now work.old × (most_held_bytes ≤ length area.old) }
     ensures { Handles (closing name.now) r result frames.old bindings.now inners.now work.old out.old frames.new bindings.now inners.now work.new out.new }
 {
@@ -162,20 +162,14 @@ fn stands_in_literal(r: Registers, frames: &[u32]) -> bool
 }
 
 // What an event that enters no rdf:ID has done.
-fn with_ids(outcome: Outcome, count: usize, used: usize) -> Progress
+fn with_ids(outcome: Result<Done, Refusal>, count: usize, used: usize) -> Result<Advance, Refusal>
     ensures { result ≡ with_ids outcome count used }
 {
-    match outcome {
-        Outcome::Stop(why) => Progress::Stop(why),
-        Outcome::Did(done) => {
-            let written = done.written;
-            let registers = done.registers;
-            Progress::Did(Advance {
-                written,
-                registers,
-                count,
-                used,
-            })
-        }
-    }
+    let done = outcome?;
+    Ok(Advance {
+        written: done.written,
+        registers: done.registers,
+        count,
+        used,
+    })
 }

@@ -4,7 +4,7 @@ ghost use Rattle.event.specs.Progress.{lent};
 ghost use Rattle.reader.specs.Asked.{Asks, Roomy, Areas};
 ghost use Rattle.reader.specs.Core.{Takes, taken_as};
 
-use event::{Advance, Progress};
+use event::Advance;
 use pyx::{Event, First};
 use spec::Refusal;
 use start_names::Class;
@@ -12,11 +12,11 @@ use start_references::reference::Area;
 use state::Registers;
 use state_ids::IdTable;
 
-// The first event of the input is refused, and nothing lent has changed; or it is done: how many bytes it has, and what is behind it.
-#[derive(Drop)]
-pub enum Taken {
-    Stop(Refusal),
-    Did(usize, Advance),
+// The first event of the input, done: how many bytes it has, and what is behind it.
+#[derive(Clone, Copy)]
+pub struct Taken {
+    pub consumed: usize,
+    pub behind: Advance,
 }
 
 impl Taken {
@@ -28,7 +28,7 @@ impl Taken {
     pub const AREA: usize = Area::BYTES;
 }
 
-// The first event of the input, in an open document. The last four are scratch.
+// The first event of the input, in an open document. Where it is refused, nothing lent has changed. The last four are scratch.
 pub fn core(
     registers: Registers,
     count: usize,
@@ -47,7 +47,7 @@ pub fn core(
     spans: &mut [u32],
     area: &mut [u8],
     classes: &mut [usize; Class::TABLE],
-) -> Taken
+) -> Result<Taken, Refusal>
     requires { Asks registers count used (lent frames.old bindings.old inners.old work.old places.old sizes.old ids.old out.old) × Roomy scratch.old spans.old area.old }
     ensures { Takes last input.now registers count result
         (lent frames.old bindings.old inners.old work.old places.old sizes.old ids.old out.old)
@@ -55,9 +55,9 @@ pub fn core(
         × Areas scratch.old spans.old area.old scratch.new spans.new area.new }
 {
     match pyx::first_event(input, last) {
-        First::Wait => Taken::Stop(Refusal::Incomplete),
-        First::Unended => Taken::Stop(Refusal::NotPyx),
-        First::TooLong => Taken::Stop(Refusal::OverLimit),
+        First::Wait => Err(Refusal::Incomplete),
+        First::Unended => Err(Refusal::NotPyx),
+        First::TooLong => Err(Refusal::OverLimit),
         First::Whole(n) => {
             let progress = crate::parser::parse_event(
                 registers,
@@ -83,11 +83,12 @@ pub fn core(
 }
 
 // What an event of `n` bytes has done.
-fn took(n: usize, progress: Progress) -> Taken
+fn took(n: usize, progress: Result<Advance, Refusal>) -> Result<Taken, Refusal>
     ensures { result ≡ taken_as n progress }
 {
-    match progress {
-        Progress::Stop(why) => Taken::Stop(why),
-        Progress::Did(a) => Taken::Did(n, a),
-    }
+    let behind = progress?;
+    Ok(Taken {
+        consumed: n,
+        behind,
+    })
 }

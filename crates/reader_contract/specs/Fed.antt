@@ -3,12 +3,12 @@ use Rattle.std.specs.Prelude.{ℕ, ◌+◌, ◌<◌}
 use Rattle.spec.specs.declared.Refusal.{Refusal}
 use Rattle.state.specs.declared.Registers.{Registers}
 use Rattle.event.specs.declared.Advance.{Advance}
-use Rattle.reader_contract.specs.declared.fed.Pause.TheVariants.{Full, Stop}
 use Rattle.reader_contract.specs.declared.fed.Fed.{Fed}
+use Rattle.std.specs.Prelude.{None, Some}
 
 -- no event yet, one event more, and none further
 abbrev pub nothing : Registers → ℕ → ℕ → Fed
-nothing r count used = record { registers = r; count = count; used = used; events = 0; consumed = 0; written = 0; pause = Full }
+nothing r count used = record { registers = r; count = count; used = used; events = 0; consumed = 0; written = 0; refusal = None }
 
 abbrev pub further : Fed → ℕ → Advance → Fed
 further f n a =
@@ -19,7 +19,7 @@ further f n a =
       events = f.events + 1;
       consumed = f.consumed + n;
       written = f.written + a.written;
-      pause = Full;
+      refusal = None;
     }
 
 -- its counts fit a word, since they are those of bytes at hand
@@ -39,5 +39,5 @@ stopped f n =
       events = f.events;
       consumed = f.consumed;
       written = f.written;
-      pause = Stop n;
+      refusal = Some n;
     }

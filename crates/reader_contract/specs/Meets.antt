@@ -13,14 +13,13 @@ use Rattle.copy.specs.Copy.{Wrote, wrote_none}
 use Rattle.event.specs.declared.Advance.{Advance}
 use Rattle.reader_contract.specs.declared.State.{State}
 use Rattle.reader_contract.specs.declared.Report.{Report}
-use Rattle.reader_contract.specs.declared.Answer.{Answer}
-use Rattle.reader_contract.specs.declared.Answer.TheVariants.{Done, Refused}
 use Rattle.reader_contract.specs.Meaning.{base_of, meaning_of, marked, meaning-marked}
+use Rattle.std.specs.Prelude.{Result, Ok, Err}
 
 -- document 01, "Numbers returned"
-abbrev pub number_of : Answer → ℕ
-number_of Done = 0
-number_of (Refused n) = number n
+abbrev pub number_of : Result Unit Refusal → ℕ
+number_of (Ok _) = 0
+number_of (Err n) = number n
 
 -- all but 1 to 4 close the document
 pub closing_numbers : (r : Refusal) → ltb 4 (number r) ≡ closes r
@@ -62,7 +61,7 @@ pub record Meets (d : calls.Report) (left : Refusal → State) (w i out : List �
   pub consumed : r.consumed ≡ d.consumed
   pub wrote : Wrote out out' 0 r.written d.output
   pub behind : meaning_of r.state w' i' ≡ d.behind
-  pub kept : (n : Refusal) → r.answer ≡ Refused n → Kept (left n) w i out r w' i' out'
+  pub kept : (n : Refusal) → r.answer ≡ Err n → Kept (left n) w i out r w' i' out'
 
 -- both stores have their lengths
 abbrev pub lengths_right : List ℕ → List ℕ → Bool
@@ -83,14 +82,14 @@ pub record Finishes (s : State) (w i : List ℕ) (r : Report) : Type 0 where
 
 -- ---- reports with nothing consumed and nothing written
 
-abbrev pub bare : State → Answer → Report
+abbrev pub bare : State → Result Unit Refusal → Report
 bare s a = record { state = s; answer = a; consumed = 0; written = 0 }
 
 abbrev pub refusing : State → Refusal → Report
-refusing s n = bare s (Refused n)
+refusing s n = bare s (Err n)
 
 abbrev pub doing : State → Report
-doing s = bare s Done
+doing s = bare s (Ok tt)
 
 -- ---- the report of an event, with the state that is made of what it left
 
@@ -99,11 +98,11 @@ state_of a fs bs is ia il =
     record { registers = a.registers; frames = fs; bindings = bs; inners = is; ids = record { count = a.count; used = a.used; at = ia; len = il } }
 
 abbrev pub accepting : ℕ → Advance → List ℕ → List ℕ → List ℕ → List ℕ → List ℕ → Report
-accepting n a fs bs is ia il = record { state = state_of a fs bs is ia il; answer = Done; consumed = n; written = a.written }
+accepting n a fs bs is ia il = record { state = state_of a fs bs is ia il; answer = Ok tt; consumed = n; written = a.written }
 
 -- ---- refused
 
-same_refusal : {m n : Refusal} → Refused m ≡ Refused n → m ≡ n
+same_refusal : {m n : Refusal} → ◌≡◌ {A = Result (Unit {0}) Refusal} (Err m) (Err n) → m ≡ n
 same_refusal e = cc
 
 -- refused, with this state behind, which means what the definitions have there

@@ -23,12 +23,11 @@ use Rattle.theorems.specs.Calls.{number_positive, step_by_table, zero_counts}
 use Rattle.copy.specs.Copy.{wrote_front}
 use Rattle.state.specs.Live.{started_with}
 use Rattle.reader_contract.specs.declared.State.{State}
-use Rattle.reader_contract.specs.declared.Answer.{Answer}
-use Rattle.reader_contract.specs.declared.Answer.TheVariants.{Done, Refused}
 use Rattle.reader_contract.specs.declared.Report.{Report}
 use Rattle.reader_contract.specs.Meaning.{meaning_of, Fresh, fresh_means}
 use Rattle.reader_contract.specs.Meets.{number_of, Steps}
 use Rattle.state_words.specs.Parts.{TABLE}
+use Rattle.std.specs.Prelude.{Result, Ok, Err}
 
 -- ---- a step as a function
 
@@ -64,11 +63,11 @@ Obeys D f = (a : Handed) → D a
 
 -- "refusing always"
 abbrev pub RefusesAlways : (Handed → Type 0) → Call → Type 0
-RefusesAlways D f = (a : Handed) → D a → (f a).report.answer ≡ Done → ⊥
+RefusesAlways D f = (a : Handed) → D a → (f a).report.answer ≡ Ok tt → ⊥
 
 -- "one fixed answer"
 abbrev pub OneAnswer : (Handed → Type 0) → Call → Type 0
-OneAnswer D f = (n : Answer) × ((a : Handed) → D a → (f a).report.answer ≡ n)
+OneAnswer D f = (n : Result Unit Refusal) × ((a : Handed) → D a → (f a).report.answer ≡ n)
 
 -- a call wrote nothing, by its count or in fact
 abbrev pub Silent : Handed → Back → Type 0
@@ -80,7 +79,7 @@ WritesNothing D f = (a : Handed) → D a → Silent a (f a)
 
 -- "working on the first event and then only advancing": behind a call that is done, the next writes nothing
 abbrev pub OnlyAdvances : (Handed → Type 0) → Call → Type 0
-OnlyAdvances D f = (a : Handed) → D a → (f a).report.answer ≡ Done → (last : Bool) (input : Bytes) (out : List ℕ)
+OnlyAdvances D f = (a : Handed) → D a → (f a).report.answer ≡ Ok tt → (last : Bool) (input : Bytes) (out : List ℕ)
     → D (again (f a) last input out) → Silent (again (f a) last input out) (f (again (f a) last input out))
 
 -- of an accepted event the counts are not its bytes and the bytes of its lines, or of a refusal they are not 0
@@ -89,7 +88,7 @@ pub data Invents (a : Handed) (b : Back) : Type 0 where
       → meaning_of a.state a.work a.ids ≡ is_open d → cut a.last a.input ≡ whole bytes
       → read_event bytes ≡ good e → next e d ≡ good (us, d') → leb (length (write us)) (length a.out) ≡ true
       → ((b.report.consumed ≡ length bytes) × (b.report.written ≡ length (write us)) → ⊥) → Invents a b
-  of_refusal : (n : Refusal) → b.report.answer ≡ Refused n
+  of_refusal : (n : Refusal) → b.report.answer ≡ Err n
       → ((b.report.consumed ≡ 0) × (b.report.written ≡ 0) → ⊥) → Invents a b
 
 -- "inventing counts"
@@ -140,7 +139,7 @@ AreBytes s = every (λ b. leb b 255) s ≡ true
 -- The set has the first calls of that document, and behind a call that is done the next.
 pub record Made (D : Handed → Type 0) (f : Call) : Type 0 where
   pub firsts : (input : Bytes) → AreBytes input → D (first input)
-  pub nexts : (a : Handed) → D a → (f a).report.answer ≡ Done → (input : Bytes) → AreBytes input → D (again (f a) true input (zeros 128))
+  pub nexts : (a : Handed) → D a → (f a).report.answer ≡ Ok tt → (input : Bytes) → AreBytes input → D (again (f a) true input (zeros 128))
 
 -- what the definitions report of it
 abbrev told : Bytes → calls.Report
@@ -185,9 +184,9 @@ property_writes = refl
 
 -- ---- what a call does that meets the contract
 
-done : (a : Answer) → number_of a ≡ 0 → a ≡ Done
-done Done e = refl
-done (Refused n) e = absurd (number_positive n e)
+done : (a : Result Unit Refusal) → number_of a ≡ 0 → a ≡ Ok tt
+done (Ok _) e = refl
+done (Err n) e = absurd (number_positive n e)
 
 take_zeros : (k n c : ℕ) (s : Bytes) → take k (zeros n) ≡ c ∷ s → c ≡ 0
 unfolding zeros
@@ -212,7 +211,7 @@ module _ (D : Handed → Type 0) (f : Call) (made : Made D f) (obeys : Obeys D f
     first_answer : (n : ℕ) → (told input).answer ≡ n → number_of (f (first input)).report.answer ≡ n
     first_answer n e = first_obeys.meets.answer ∙ (ap (λ (q : calls.Report). q.answer) (told_first input) ∙ e)
 
-    first_done : (told input).answer ≡ 0 → (f (first input)).report.answer ≡ Done
+    first_done : (told input).answer ≡ 0 → (f (first input)).report.answer ≡ Ok tt
     first_done e = done _ (first_answer 0 e)
 
   -- an instruction is accepted
@@ -241,7 +240,7 @@ module _ (D : Handed → Type 0) (f : Call) (made : Made D f) (obeys : Obeys D f
   not_only_advancing h =
       let b : Back = f (first node) in
       let in-set : D (first node) = made.firsts node refl in
-      let is-done : b.report.answer ≡ Done = first_done node refl node_done in
+      let is-done : b.report.answer ≡ Ok tt = first_done node refl node_done in
       let second : D (again b true property (zeros 128)) = made.nexts (first node) in-set is-done property refl in
       let means : meaning_of b.report.state b.work b.ids ≡ (told node).behind =
       (first_obeys node refl).meets.behind ∙ ap (λ (q : calls.Report). q.behind) (told_first node) in
@@ -259,7 +258,7 @@ module _ (D : Handed → Type 0) (f : Call) (made : Made D f) (obeys : Obeys D f
       let up : (f a).report.written ≡ 0 + length o = (obeys a in-set).meets.wrote.up ∙ ap (λ (u : Bytes). 0 + length u) q in
       ((obeys a in-set).meets.consumed ∙ p, omega (arith, up))
 
-  refused_none : (a : Handed) → D a → (n : Refusal) → (f a).report.answer ≡ Refused n → ((f a).report.consumed ≡ 0) × ((f a).report.written ≡ 0)
+  refused_none : (a : Handed) → D a → (n : Refusal) → (f a).report.answer ≡ Err n → ((f a).report.consumed ≡ 0) × ((f a).report.written ≡ 0)
   refused_none a in-set n is =
       let t : calls.State = meaning_of a.state a.work a.ids in
       let z : ((call_step a.last a.input (length a.out) t).consumed ≡ 0) × ((call_step a.last a.input (length a.out) t).output ≡ []) =

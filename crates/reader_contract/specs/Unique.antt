@@ -8,11 +8,10 @@ use Rattle.spec.specs.declared.Refusal.TheVariants.{BadState}
 use Rattle.spec.specs.Calls as calls
 use Rattle.theorems.specs.Calls.{number_positive, number_injective}
 use Rattle.reader_contract.specs.declared.State.{State}
-use Rattle.reader_contract.specs.declared.Answer.{Answer}
-use Rattle.reader_contract.specs.declared.Answer.TheVariants.{Done, Refused}
 use Rattle.reader_contract.specs.declared.Report.{Report}
 use Rattle.reader_contract.specs.Meaning.{meaning_of, marked}
 use Rattle.reader_contract.specs.Meets.{number_of, Kept, Meets, Starts, Steps, Finishes}
+use Rattle.std.specs.Prelude.{Result, Ok, Err}
 
 -- two results: a report, work store, ID store and output each
 pub record Same (r : Report) (w i out : List ℕ) (q : Report) (v j o : List ℕ) : Type 0 where
@@ -21,16 +20,16 @@ pub record Same (r : Report) (w i out : List ℕ) (q : Report) (v j o : List ℕ
   pub written : r.written ≡ q.written
   pub output : out ≡ o
   pub meaning : meaning_of r.state w i ≡ meaning_of q.state v j
-  pub refused : (n : Refusal) → r.answer ≡ Refused n → (r ≡ q) × (w ≡ v) × (i ≡ j)
+  pub refused : (n : Refusal) → r.answer ≡ Err n → (r ≡ q) × (w ≡ v) × (i ≡ j)
 
 -- the number tells the answer
-pub number_tells : (a b : Answer) → number_of a ≡ number_of b → a ≡ b
-number_tells Done Done e = refl
-number_tells Done (Refused n) e = absurd (number_positive n (sym e))
-number_tells (Refused n) Done e = absurd (number_positive n e)
-number_tells (Refused m) (Refused n) e = ap Refused (number_injective m n e)
+pub number_tells : (a b : Result Unit Refusal) → number_of a ≡ number_of b → a ≡ b
+number_tells (Ok _) (Ok _) e = refl
+number_tells (Ok _) (Err n) e = absurd (number_positive n (sym e))
+number_tells (Err n) (Ok _) e = absurd (number_positive n e)
+number_tells (Err m) (Err n) e = ap Err (number_injective m n e)
 
-made : {s t : State} {a b : Answer} {c d k l : ℕ} → s ≡ t → a ≡ b → c ≡ d → k ≡ l
+made : {s t : State} {a b : Result Unit Refusal} {c d k l : ℕ} → s ≡ t → a ≡ b → c ≡ d → k ≡ l
     → ◌≡◌ {A = Report} (record { state = s; answer = a; consumed = c; written = k }) (record { state = t; answer = b; consumed = d; written = l })
 made p q r s = rw (p, q, r, s)
 
@@ -72,8 +71,8 @@ finish_unique x y = unique x.meets y.meets
 pub step_three_keeps : {last : Bool} {input : Bytes} {s : State} {w i out : List ℕ} {r : Report} {w' i' out' : List ℕ}
     → Steps last input s w i out r w' i' out' → number_of r.answer ≡ 3 → Kept s w i out r w' i' out'
 unfolding marked
-step_three_keeps {r = r} x e = x.meets.kept BadState (number_tells r.answer (Refused BadState) e)
+step_three_keeps {r = r} x e = x.meets.kept BadState (number_tells r.answer (Err BadState) e)
 
 pub finish_three_keeps : {s : State} {w i : List ℕ} {r : Report} → Finishes s w i r → number_of r.answer ≡ 3 → Kept s w i [] r w i []
 unfolding marked
-finish_three_keeps {r = r} x e = x.meets.kept BadState (number_tells r.answer (Refused BadState) e)
+finish_three_keeps {r = r} x e = x.meets.kept BadState (number_tells r.answer (Err BadState) e)

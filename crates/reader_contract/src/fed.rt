@@ -6,15 +6,9 @@ use event::Advance;
 use spec::Refusal;
 use state::Registers;
 
-// Why no further event was done: the output is too full to give it its room, or it is refused.
+// How far the events went: what is behind them, how many they were, the bytes that they took and wrote, and why no further one
+// was done: it is refused, or, where there is no refusal, the output is too full to give it its room.
 #[derive(Clone, Copy)]
-pub enum Pause {
-    Full,
-    Stop(Refusal),
-}
-
-// How far the events went: what is behind them, how many they were, the bytes that they took and wrote, and why they ended.
-#[derive(Drop)]
 pub struct Fed {
     pub registers: Registers,
     pub count: usize,
@@ -22,7 +16,7 @@ pub struct Fed {
     pub events: usize,
     pub consumed: usize,
     pub written: usize,
-    pub pause: Pause,
+    pub refusal: Option<Refusal>,
 }
 
 impl Fed {
@@ -33,7 +27,6 @@ impl Fed {
     pub fn none(registers: Registers, count: usize, used: usize) -> Self
         ensures { result ≡ nothing registers count used }
     {
-        let pause = Pause::Full;
         Fed {
             registers,
             count,
@@ -41,7 +34,7 @@ impl Fed {
             events: 0,
             consumed: 0,
             written: 0,
-            pause,
+            refusal: None,
         }
     }
 
@@ -50,16 +43,14 @@ impl Fed {
         requires { Sums self n a }
         ensures { result ≡ further self n a }
     {
-        let registers = a.registers;
-        let pause = Pause::Full;
         Fed {
-            registers,
+            registers: a.registers,
             count: a.count,
             used: a.used,
             events: self.events + 1,
             consumed: self.consumed + n,
             written: self.written + a.written,
-            pause,
+            refusal: None,
         }
     }
 
@@ -67,16 +58,9 @@ impl Fed {
     pub fn stopped(self, why: Refusal) -> Self
         ensures { result ≡ stopped self why }
     {
-        let registers = self.registers;
-        let pause = Pause::Stop(why);
         Fed {
-            registers,
-            count: self.count,
-            used: self.used,
-            events: self.events,
-            consumed: self.consumed,
-            written: self.written,
-            pause,
+            refusal: Some(why),
+            ..self
         }
     }
 }

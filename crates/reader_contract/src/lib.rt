@@ -2,7 +2,7 @@
 #![tactic(auto)]
 
 ghost use Rattle.std.specs.Prelude.{◌≡◌};
-ghost use Rattle.spec.specs.Numbers.{number, closes};
+ghost use Rattle.spec.specs.Numbers.{closes};
 ghost use Rattle.reader_contract.specs.Meaning.{closed_state, marked, over_in, Fresh, Nothing};
 ghost use Rattle.reader_contract.specs.Meets.{number_of, bare, refusing, doing, accepting};
 
@@ -24,18 +24,11 @@ pub struct State {
     pub ids: IdTable,
 }
 
-// A call is done, or refused.
-#[derive(Clone, Copy)]
-pub enum Answer {
-    Done,
-    Refused(Refusal),
-}
-
-// What a call hands back: bytes of the input consumed, bytes of the output written.
+// What a call hands back: that it is done, or why it is refused; bytes of the input consumed, bytes of the output written.
 #[derive(Drop)]
 pub struct Report {
     pub state: State,
-    pub answer: Answer,
+    pub answer: Result<(), Refusal>,
     pub consumed: usize,
     pub written: usize,
 }
@@ -91,29 +84,27 @@ impl State {
     }
 }
 
-impl Answer {
-    // As document 01 numbers it.
-    pub fn number(self) -> u8
-        ensures { result ≡ number_of self }
+impl Report {
+    // Its answer as document 01 numbers it: 0 where the call is done.
+    pub fn number(&self) -> u8
+        ensures { result ≡ number_of self.now.answer }
     {
-        match self {
-            Answer::Done => 0,
-            Answer::Refused(why) => number_of(why),
+        match self.answer {
+            Ok(()) => 0,
+            Err(why) => u8::from(why),
         }
     }
-}
 
-impl Report {
     pub fn refused(state: State, why: Refusal) -> Self
         ensures { result ≡ refusing state why }
     {
-        Report::bare(state, Answer::Refused(why))
+        Report::bare(state, Err(why))
     }
 
     pub fn done(state: State) -> Self
         ensures { result ≡ doing state }
     {
-        Report::bare(state, Answer::Done)
+        Report::bare(state, Ok(()))
     }
 
     // An event of `n` bytes is done.
@@ -142,7 +133,7 @@ impl Report {
             inners,
             ids,
         };
-        let answer = Answer::Done;
+        let answer = Ok(());
         Report {
             state,
             answer,
@@ -152,7 +143,7 @@ impl Report {
     }
 
     // Nothing was consumed or written.
-    fn bare(state: State, answer: Answer) -> Self
+    fn bare(state: State, answer: Result<(), Refusal>) -> Self
         ensures { result ≡ bare state answer }
     {
         Report {
@@ -171,36 +162,9 @@ pub fn may_finish(r: Registers) -> bool
     (r.counts.inner == 0) & ((r.counts.depth == 0) & r.flags.rooted)
 }
 
-// The number that document 01 gives a refusal.
-pub fn number_of(r: Refusal) -> u8
-    ensures { result ≡ number r }
-{
-    match r {
-        Refusal::Incomplete => 1,
-        Refusal::NoRoom => 2,
-        Refusal::BadState => 3,
-        Refusal::Closed => 4,
-        Refusal::NotPyx => 5,
-        Refusal::NotWellFormed => 6,
-        Refusal::OverLimit => 7,
-        Refusal::NoNamespace => 8,
-        Refusal::NotNcName => 9,
-        Refusal::BadLanguage => 10,
-        Refusal::BadIri => 11,
-        Refusal::RepeatedId => 12,
-        Refusal::BadLabel => 13,
-        Refusal::Reserved => 14,
-        Refusal::TwoNames => 15,
-        Refusal::StrayText => 16,
-        Refusal::EmptyLiteral => 17,
-        Refusal::LabelsSpent => 18,
-        Refusal::ProfileBroken => 19,
-    }
-}
-
 // Does it close the document? All do but 1 to 4.
 fn closes(r: Refusal) -> bool
     ensures { result ≡ closes r }
 {
-    number_of(r) > 4
+    u8::from(r) > 4
 }

@@ -1,16 +1,15 @@
 -- The contracts of the calls for a host: crate `reader`'s, for the state that the bytes stand for.
-use Rattle.std.specs.Prelude.{ℕ, ◌≤◌, ◌<◌, ◌≡◌, Bool, true, false, not, List, eqb, length}
+use Rattle.std.specs.Prelude.{ℕ, ◌≤◌, ◌<◌, ◌≡◌, Bool, not, List, eqb, length}
 use Rattle.std.proofs.Math.Option.{none, some}
 use Rattle.spec.specs.Bytes.{Bytes}
 use Rattle.spec.specs.declared.Refusal.{Refusal}
 use Rattle.spec.specs.declared.Mode.{Mode}
 use Rattle.reader_contract.specs.declared.State.{State}
 use Rattle.reader_contract.specs.declared.Report.{Report}
-use Rattle.reader_contract.specs.declared.Answer.TheVariants.{Done, Refused}
 use Rattle.reader_contract.specs.Meaning.{Nothing}
 use Rattle.reader_contract.specs.Meets.{number_of, Starts, Steps, Finishes}
-use Rattle.reader_host.specs.declared.Image.{Image}
 use Rattle.reader_host.specs.Image.{state_bytes, mode_of, encode, decode}
+use Rattle.std.specs.Prelude.{Option, Some, None, Ok, Err}
 
 -- every number but 0 says yes
 abbrev pub yes : ℕ → Bool
@@ -22,9 +21,9 @@ pub record Stands (b : Bytes) (s : State) : Type 0 where
   pub written : b ≡ encode s
 
 -- what is read from bytes
-pub record Loads (b : Bytes) (i : Image) : Type 0 where
-  pub bad : i.good ≡ false → decode b ≡ none
-  pub good : i.good ≡ true → Stands b i.state
+pub record Loads (b : Bytes) (s : Option State) : Type 0 where
+  pub bad : s ≡ None → decode b ≡ none
+  pub good : (t : State) → s ≡ Some t → Stands b t
 
 -- From the bytes of s a call of `reader` gave this report; the host has its number, and the state behind it in the bytes.
 pub record Does (b : Bytes) (s : State) (R : Report → Type 0) (n : ℕ) (b' : Bytes) : Type 0 where
@@ -43,8 +42,8 @@ pub record Begins (mode : Mode) (based : Bool) (base : Bytes) (b w i : List ℕ)
   pub report : Report
   pub call : Starts mode based base before w i report w'
   pub answer : n ≡ number_of report.answer
-  pub refused : (k : Refusal) → report.answer ≡ Refused k → b' ≡ b
-  pub done : report.answer ≡ Done → Stands b' report.state
+  pub refused : (k : Refusal) → report.answer ≡ Err k → b' ≡ b
+  pub done : report.answer ≡ Ok tt → Stands b' report.state
 
 -- in the mode of a number, if it is one's
 pub record StartsIn (mode : ℕ) (based : Bool) (base : Bytes) (b w i : List ℕ) (n : ℕ) (b' w' : List ℕ) : Type 0 where

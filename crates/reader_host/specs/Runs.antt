@@ -5,7 +5,6 @@ use Rattle.std.proofs.Math.Option.{some}
 use Rattle.spec.specs.Bytes.{Bytes}
 use Rattle.spec.specs.NTriplesGrammar.{is_n_triples}
 use Rattle.reader_contract.specs.declared.State.{State}
-use Rattle.reader_contract.specs.declared.Answer.TheVariants.{Done}
 use Rattle.reader_contract.specs.Unique.{number_tells}
 use Rattle.reader_theorems.specs.Runs.{Ran, step_never_three, finish_never_three}
 use Rattle.reader_theorems.specs.Runs as reader
@@ -13,6 +12,7 @@ use Rattle.reader_theorems.specs.Whole.{run_n_triples}
 use Rattle.reader_host.specs.Image.{mode_of, decode}
 use Rattle.reader_host.specs.Meets.{StartsIn, StepsIn, FinishesIn}
 use Rattle.reader_host.specs.Use.{fitting, start_fits, start_unfit, start_leaves}
+use Rattle.std.specs.Prelude.{Ok}
 
 -- the calls from an accepted start on, in the mode of a number: state, work store and ID store as they are left, and all bytes that the steps wrote
 pub data RanIn (mode : ℕ) (based : Bool) (base : Bytes) : Bytes → List ℕ → List ℕ → Bytes → Type 0 where
@@ -39,7 +39,7 @@ begun {mode} {based} {base} {b} {w} {i} {b'} {w'} x = go (fitting mode b) refl
     go false e = let z = (start_unfit x e).0 in absurd (omega arith)
     go true e =
         let h = start_fits x e in
-        let q = number_tells h.report.answer Done (sym h.answer) in
+        let q = number_tells h.report.answer (Ok tt) (sym h.answer) in
         record { state = h.report.state; read = (h.done q).read; ran = reader.started h.call q }
 
 module _ {mode : ℕ} {based : Bool} {base b w i o : Bytes} (f : Runs mode based base b w i o) where

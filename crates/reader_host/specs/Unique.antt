@@ -13,14 +13,13 @@ use Rattle.spec.specs.Calls as calls
 use Rattle.theorems.specs.Calls.{number_positive}
 use Rattle.copy.specs.Copy.{Wrote, wrote_none}
 use Rattle.reader_contract.specs.declared.State.{State}
-use Rattle.reader_contract.specs.declared.Answer.{Answer}
-use Rattle.reader_contract.specs.declared.Answer.TheVariants.{Done}
 use Rattle.reader_contract.specs.Meaning.{base_of, meaning_of}
 use Rattle.reader_contract.specs.Meets.{lengths_right}
 use Rattle.reader_contract.specs.Unique.{number_tells}
 use Rattle.reader_host.specs.Image.{mode_of, decode}
 use Rattle.reader_host.specs.Meets.{StartsIn, StepsIn, FinishesIn}
 use Rattle.reader_host.specs.Use.{marked_bytes, by_state, fitting, start_fits, start_unfit, start_leaves, step_leaves, finish_leaves}
+use Rattle.std.specs.Prelude.{Ok}
 
 -- what a host keeps: the state's bytes, the work store and the ID store
 abbrev pub kept : Option State → List ℕ → List ℕ → calls.State
@@ -126,7 +125,7 @@ start_reports {mode} {based} {base} {b} {w} {i} {n} {b'} {w'} x = go (fitting mo
           a ∙ start_number (lengths_right w i) (mode_of mode) (base_of based base) (meaning_of h.before w i)
               (means_in b w i),
           ⊎_elim
-              (λ y. means_some b' w' i (h.done (number_tells h.report.answer Done (m.answer ∙ y.0))).read ∙ (m.behind ∙ y.1))
+              (λ y. means_some b' w' i (h.done (number_tells h.report.answer (Ok tt) (m.answer ∙ y.0))).read ∙ (m.behind ∙ y.1))
               (λ y. let z = start_leaves x (λ q. y.0 (sym a ∙ q)) in rw (z.0, z.1) (sym y.1))
               (start_behind (lengths_right w i) (mode_of mode) (base_of based base) (meaning_of h.before w i)
               (means_in b w i)),

@@ -1,5 +1,5 @@
 -- The rules of use that host/iceshaft.h states, as theorems about the contracts.
-use Rattle.std.specs.Prelude.{ℕ, suc, ◌≤◌, ◌<◌, ◌≡◌, refl, Bool, true, false, ◌&&◌, List, [], ◌∷◌, ◌++◌, eqb, leb, ltb, length, set}
+use Rattle.std.specs.Prelude.{ℕ, suc, ◌≤◌, ◌≡◌, refl, Bool, true, false, ◌&&◌, List, [], ◌∷◌, ◌++◌, eqb, leb, ltb, length, set}
 use Rattle.std.proofs.Common.{sym, ap, ◌∙◌, arith, eqb-true, leb-true, leb-false, ltb-false}
 use Rattle.std.proofs.Math.Option.{Option, none, some}
 use Rattle.std.proofs.lemmas.Bool.{eqb-false}
@@ -17,13 +17,12 @@ use Rattle.theorems.specs.Refusals.{Why, no_event, given-only_when}
 use Rattle.state_words.specs.Words.{pick}
 use Rattle.reader_contract.specs.declared.State.{State}
 use Rattle.reader_contract.specs.declared.Report.{Report}
-use Rattle.reader_contract.specs.declared.Answer.{Answer}
-use Rattle.reader_contract.specs.declared.Answer.TheVariants.{Done, Refused}
 use Rattle.reader_contract.specs.Meaning.{closed_state, marked, meaning_of}
 use Rattle.reader_contract.specs.Meets.{number_of, closing_numbers, Meets}
 use Rattle.reader_host.specs.Little.{little, rows}
 use Rattle.reader_host.specs.Image.{flag, state_bytes, mode_of, numbers_of, encode, decode}
 use Rattle.reader_host.specs.Meets.{Stands, Begins, StartsIn, StepsIn, FinishesIn}
+use Rattle.std.specs.Prelude.{Result, Ok, Err}
 
 -- ---- the closing mark in the bytes
 
@@ -55,9 +54,9 @@ encode-marked k s = rw (closing_numbers k) (go (closes k))
 -- ---- a refusal
 
 -- an answer that is not 0
-refusal : (a : Answer) → (number_of a ≡ 0 → ⊥) → (k : Refusal) × (a ≡ Refused k)
-refusal Done h = absurd (h refl)
-refusal (Refused k) h = (k, refl)
+refusal : (a : Result Unit Refusal) → (number_of a ≡ 0 → ⊥) → (k : Refusal) × (a ≡ Err k)
+refusal (Ok _) h = absurd (h refl)
+refusal (Err k) h = (k, refl)
 
 -- nothing is consumed and nothing written; all stays but the mark
 pub record Leaves (b w i out : List ℕ) (n c k : ℕ) (b' w' i' out' : List ℕ) : Type 0 where

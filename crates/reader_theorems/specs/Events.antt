@@ -19,9 +19,8 @@ use Rattle.spec.specs.Lists.{After, here, event}
 use Rattle.spec.specs.Inside.{Element}
 use Rattle.theorems.specs.Always.{Always, always_bind, always_require, always_self}
 use Rattle.reader_contract.specs.declared.State.{State}
-use Rattle.reader_contract.specs.declared.Answer as called
-use Rattle.reader_contract.specs.declared.Answer.TheVariants.{Done, Refused}
 use Rattle.reader_theorems.specs.Runs.{Ran, started, stepped, ended, declined}
+use Rattle.std.specs.Prelude.{Result, Ok, Err}
 
 -- ---- of the calls
 
@@ -30,10 +29,10 @@ unfoldable pub first_of : Bool → Bytes → Answer Event
 first_of last input = first_event (cut last input) >>= read_event
 
 -- a step takes it, unless it is refused
-unfoldable pub taken : called.Answer → Answer Event → List Event
-taken Done (good e) = e ∷ []
-taken Done (refuse n) = []
-taken (Refused n) a = []
+unfoldable pub taken : Result Unit Refusal → Answer Event → List Event
+taken (Ok _) (good e) = e ∷ []
+taken (Ok _) (refuse n) = []
+taken (Err n) a = []
 
 -- all that the steps took, in order
 unfoldable pub run_events : {mode : Mode} {based : Bool} {base : Bytes} {s : State} {w i : List ℕ} {o : Bytes} → Ran mode based base s w i o → List Event

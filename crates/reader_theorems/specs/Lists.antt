@@ -17,7 +17,6 @@ use Rattle.spec.specs.Inside.{innermost, children}
 use Rattle.theorems.specs.Cells.{no_cell_shared}
 use Rattle.theorems.specs.Children.{collections_read_back, no_cell_in_two_collections}
 use Rattle.reader_contract.specs.declared.State.{State}
-use Rattle.reader_contract.specs.declared.Answer.TheVariants.{Done}
 use Rattle.reader_contract.specs.declared.Report.{Report}
 use Rattle.reader_contract.specs.Meaning.{base_of}
 use Rattle.reader_contract.specs.Meets.{Steps}
@@ -26,6 +25,7 @@ use Rattle.reader_theorems.specs.Events.{first_of, taken, run_events, last-same}
 use Rattle.reader_theorems.specs.Whole.{run-lines, more_lines, more_bytes, run_further}
 use Rattle.reader_theorems.specs.Elements.{Closed, closed}
 use Rattle.reader_theorems.specs.Collections.{InCollection, began, stayed}
+use Rattle.std.specs.Prelude.{Ok}
 
 -- an element of a run's own events, which the last of them closed
 abbrev pub ClosedIn : {mode : Mode} {based : Bool} {base : Bytes} {s : State} {w i : List ℕ} {o : Bytes} → Ran mode based base s w i o → Type 0
@@ -37,13 +37,13 @@ module _ {mode : Mode} {based : Bool} {base : Bytes} {s : State} {w i : List ℕ
     (h : Ran mode based base s w i o)
     {last : Bool} {input : Bytes} {out : List ℕ} {r : Report} {w' i' out' : List ℕ} (x : Steps last input s w i out r w' i' out') where
   -- an event that it takes is one more of the run
-  pub took : (e : Event) → r.answer ≡ Done → first_of last input ≡ good e
+  pub took : (e : Event) → r.answer ≡ Ok tt → first_of last input ≡ good e
       → run_events (stepped h x) ≡ run_events h ++ (e ∷ [])
   unfolding run_events taken
   took e a f = rw (a, f) refl
 
   -- An end tag that it takes closes an element of the run's own events, and what it writes are the lines of that end tag.
-  pub run_element : {n : Bytes} → r.answer ≡ Done → first_of last input ≡ good (closing n)
+  pub run_element : {n : Bytes} → r.answer ≡ Ok tt → first_of last input ≡ good (closing n)
       → (c : ClosedIn (stepped h x)) × (c.element.last ≡ (run-lines h).doc) × (take r.written out' ≡ write c.element.end_lines)
   run_element {n} a f = go (more_lines (run-lines h) (run-lines (stepped h x)) (closing n) (took (closing n) a f))
     where
@@ -56,7 +56,7 @@ module _ {mode : Mode} {based : Bool} {base : Bytes} {s : State} {w i : List ℕ
 
   -- it closes a Collection of this property: it takes an end tag, and the innermost open element is one
   pub record ClosesCollection (p : Property) : Type 0 where
-    pub done : r.answer ≡ Done
+    pub done : r.answer ≡ Ok tt
     pub name : Bytes
     pub takes : first_of last input ≡ good (closing name)
     pub inner : InCollection p (run-lines h).doc.frames
@@ -75,7 +75,7 @@ module _ {mode : Mode} {based : Bool} {base : Bytes} {s : State} {w i : List ℕ
         → Reads (run-lines h).doc.labels (run-lines (stepped h x)).doc.labels (run-lines k).lines list (children closes.element.begun)
 
   -- where the element that it closes was opened as a Collection, it closes a Collection
-  pub run-closes : {n : Bytes} (a : r.answer ≡ Done) (f : first_of last input ≡ good (closing n)) (p : Property)
+  pub run-closes : {n : Bytes} (a : r.answer ≡ Ok tt) (f : first_of last input ≡ good (closing n)) (p : Property)
       → InCollection p (run_element a f).0.element.begun.first.frames → ClosesCollection p
   run-closes {n} a f p is = let c = run_element a f in record { done = a; name = n; takes = f; inner = rw c.1 at (stayed c.0.element p is) }
 

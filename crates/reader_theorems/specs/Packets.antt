@@ -14,7 +14,6 @@ use Rattle.theorems.specs.Packets.{packets}
 use Rattle.theorems.specs.ModeRefusals.{packets_never_12, packets_never_17}
 use Rattle.theorems.specs.OneSubject.{one_described, one-subject}
 use Rattle.reader_contract.specs.declared.State.{State}
-use Rattle.reader_contract.specs.declared.Answer.TheVariants.{Done}
 use Rattle.reader_contract.specs.declared.Report.{Report}
 use Rattle.reader_contract.specs.Meaning.{base_of}
 use Rattle.reader_contract.specs.Meets.{number_of, Steps}
@@ -22,6 +21,7 @@ use Rattle.reader_theorems.specs.Runs.{Ran, stepped, Later, step_never}
 use Rattle.reader_theorems.specs.Events.{first_of}
 use Rattle.reader_theorems.specs.Whole.{run-lines, more_lines, run_further}
 use Rattle.reader_theorems.specs.Lists.{took}
+use Rattle.std.specs.Prelude.{Ok}
 
 module _ {based : Bool} {base : Bytes} {s : State} {w i : List ℕ} {o : Bytes} (h : Ran xmp_mode based base s w i o) where
   -- All that was written are the lines that the base gives for the packet's rdf:RDF, with the same base and the
@@ -43,7 +43,7 @@ module _ {based : Bool} {base : Bytes} {s : State} {w i : List ℕ} {o : Bytes} 
 
     -- it begins a top-level element: it takes a start tag, directly in rdf:RDF
     pub record BeginsTop : Type 0 where
-      pub done : r.answer ≡ Done
+      pub done : r.answer ≡ Ok tt
       pub name : Bytes
       pub attributes : List Attribute
       pub takes : first_of last input ≡ good (opening name attributes)

@@ -25,10 +25,10 @@ use Rattle.state_ids.specs.Ids.{valid_ids}
 use Rattle.state.specs.Valid.{valid_state}
 use Rattle.state.specs.Valid as state
 use Rattle.reader_contract.specs.declared.State.{State}
-use Rattle.reader_contract.specs.declared.Answer.TheVariants.{Done, Refused}
 use Rattle.reader_contract.specs.declared.Report.{Report}
 use Rattle.reader_contract.specs.Meaning.{base_of, lawful_state, meaning_of, means_unlawful}
 use Rattle.reader_contract.specs.Meets.{number_of, lengths_right, Starts, Steps, Finishes}
+use Rattle.std.specs.Prelude.{Ok, Err}
 
 -- ---- what the calls of `spec` leave
 
@@ -124,21 +124,21 @@ finish_done (is_closed d) e = rw (finish-closes (is_closed d)) tt
 finish_done (is_open d) e = rw (finish-closes (is_open d)) tt
 
 pub start_lawful : {mode : Mode} {based : Bool} {base : Bytes} {s : State} {w i : List ℕ} {r : Report} {w' : List ℕ}
-    → Starts mode based base s w i r w' → r.answer ≡ Done → lawful_state r.state w' i ≡ true
+    → Starts mode based base s w i r w' → r.answer ≡ Ok tt → lawful_state r.state w' i ≡ true
 start_lawful x q = sound_lawful _ _ _ (rw (x.meets.behind, (start_opens _ _ _ _ (sym x.meets.answer ∙ ap number_of q)).1) tt)
 
 pub step_lawful : {last : Bool} {input : Bytes} {s : State} {w i out : List ℕ} {r : Report} {w' i' out' : List ℕ}
-    → Steps last input s w i out r w' i' out' → r.answer ≡ Done → lawful_state r.state w' i' ≡ true
+    → Steps last input s w i out r w' i' out' → r.answer ≡ Ok tt → lawful_state r.state w' i' ≡ true
 step_lawful x q = sound_lawful _ _ _ (rw x.meets.behind (step_done _ _ _ _ (sym x.meets.answer ∙ ap number_of q)))
 
-pub finish_lawful : {s : State} {w i : List ℕ} {r : Report} → Finishes s w i r → r.answer ≡ Done → lawful_state r.state w i ≡ true
+pub finish_lawful : {s : State} {w i : List ℕ} {r : Report} → Finishes s w i r → r.answer ≡ Ok tt → lawful_state r.state w i ≡ true
 finish_lawful x q = sound_lawful _ _ _ (rw x.meets.behind (finish_done _ (sym x.meets.answer ∙ ap number_of q)))
 
 -- ---- a document
 
 -- the calls from an accepted start on: state, work store and ID store as they are left, and all bytes that the steps wrote
 pub data Ran (mode : Mode) (based : Bool) (base : Bytes) : State → List ℕ → List ℕ → Bytes → Type 0 where
-  started : {s : State} {w i : List ℕ} {r : Report} {w' : List ℕ} → Starts mode based base s w i r w' → r.answer ≡ Done → Ran mode based base r.state w' i []
+  started : {s : State} {w i : List ℕ} {r : Report} {w' : List ℕ} → Starts mode based base s w i r w' → r.answer ≡ Ok tt → Ran mode based base r.state w' i []
   stepped : {s : State} {w i : List ℕ} {o : Bytes} {last : Bool} {input : Bytes} {out : List ℕ} {r : Report} {w' i' out' : List ℕ}
       → Ran mode based base s w i o → Steps last input s w i out r w' i' out'
       → Ran mode based base r.state w' i' (o ++ take r.written out')
@@ -146,7 +146,7 @@ pub data Ran (mode : Mode) (based : Bool) (base : Bytes) : State → List ℕ �
   -- a start that is refused changes nothing
   declined : {s : State} {w i : List ℕ} {o : Bytes} {m : Mode} {a : Bool} {b : Bytes} {r : Report} {w' : List ℕ}
       (n : Refusal)
-      → Ran mode based base s w i o → Starts m a b s w i r w' → r.answer ≡ Refused n
+      → Ran mode based base s w i o → Starts m a b s w i r w' → r.answer ≡ Err n
       → Ran mode based base r.state w' i o
 
 -- further calls behind those of h
@@ -159,7 +159,7 @@ pub data Onward {mode : Mode} {based : Bool} {base : Bytes} {s : State} {w i : L
   and_ended : {s' : State} {w' i' : List ℕ} {o' : Bytes} {k : Ran mode based base s' w' i' o'} {r : Report}
       → Onward h s' w' i' o' k → (x : Finishes s' w' i' r) → Onward h r.state w' i' o' (ended k x)
   and_declined : {s' : State} {w' i' : List ℕ} {o' : Bytes} {k : Ran mode based base s' w' i' o'} {m : Mode} {a : Bool} {b : Bytes} {r : Report} {w'' : List ℕ} (n : Refusal)
-      → Onward h s' w' i' o' k → (x : Starts m a b s' w' i' r w'') (q : r.answer ≡ Refused n) → Onward h r.state w'' i' o' (declined n k x q)
+      → Onward h s' w' i' o' k → (x : Starts m a b s' w' i' r w'') (q : r.answer ≡ Err n) → Onward h r.state w'' i' o' (declined n k x q)
 
 -- the same document at the same state or a later one
 abbrev pub Later : {mode : Mode} {based : Bool} {base : Bytes} {s : State} {w i : List ℕ} {o : Bytes} {s' : State} {w' i' : List ℕ} {o' : Bytes}

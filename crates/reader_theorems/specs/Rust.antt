@@ -29,12 +29,12 @@ use Rattle.rio.specs.Related.{Related, Both, Same}
 use Rattle.rio.proofs.SameAsRust.{NeverCleared, event_same, accepted-same, begins_related, at_end, parse_more, parse_fails}
 use Rattle.reader_contract.specs.declared.State.{State}
 use Rattle.reader_contract.specs.declared.Report.{Report}
-use Rattle.reader_contract.specs.declared.Answer.TheVariants.{Done, Refused}
 use Rattle.reader_contract.specs.Meaning.{base_of, meaning_of}
 use Rattle.reader_contract.specs.Meets.{number_of, Steps, Finishes}
 use Rattle.reader_theorems.specs.Runs.{Ran}
 use Rattle.reader_theorems.specs.Events.{first_of, run_events, events_of}
 use Rattle.reader_theorems.specs.Whole.{run-lines}
+use Rattle.std.specs.Prelude.{Ok as Done, Err as Refused}
 
 -- ---- of the definitions
 
@@ -132,7 +132,7 @@ module _ {based : Bool} {base : Bytes} {s : State} {w i : List ℕ} {o : Bytes}
   run-same = ((run-lines h).lines, rust.reader, rust.accepts, (run-lines h).bytes)
 
   -- And where finish accepts the document, the Rust is where it began: no element is open.
-  pub run-whole-same : {r : Report} → Finishes s w i r → r.answer ≡ Done
+  pub run-whole-same : {r : Report} → Finishes s w i r → r.answer ≡ Done tt
       → (ts : List Triple) × (r' : RdfXmlReader)
       × (parse_all (run_events h) (new (base_of based base)) ≡ (ts, Ok r')) × (o ≡ write ts)
       × (r'.state ≡ P.Doc (base_of based base) ∷ [])

@@ -31,12 +31,11 @@ use Rattle.theorems.specs.SameBytes.{part-given, whole-given, same_bytes_same_tr
 use Rattle.copy.specs.Copy.{wrote_front}
 use Rattle.reader_contract.specs.declared.State.{State}
 use Rattle.reader_contract.specs.declared.Report.{Report}
-use Rattle.reader_contract.specs.declared.Answer as called
-use Rattle.reader_contract.specs.declared.Answer.TheVariants.{Done, Refused}
 use Rattle.reader_contract.specs.Meaning.{base_of, meaning_of}
 use Rattle.reader_contract.specs.Meets.{number_of, Starts, Steps, Finishes}
 use Rattle.reader_theorems.specs.Runs.{Ran, started, stepped, ended, declined, now, and_stepped, and_ended, and_declined, Later, follows, start_opens, finish-closes}
 use Rattle.reader_theorems.specs.Events.{first_of, taken, run_events, events_of, same-events, one_more_lem, Reported, did, gave, reported}
+use Rattle.std.specs.Prelude.{Result, Ok, Err}
 
 -- ---- lines
 
@@ -62,25 +61,25 @@ closed_or_open becomes_closed d = inr refl
 
 -- refused, a step takes no event and changes no more than the mark
 lines_kept : {mode : Mode} {b : Option Bytes} {es : List Event} {m : calls.State} {o : Bytes} (f : Lines mode b es m o)
-    (a : called.Answer) (e : Answer Event) (x : Refusal) (m' : calls.State)
+    (a : Result Unit Refusal) (e : Answer Event) (x : Refusal) (m' : calls.State)
     → number_of a ≡ number x → (m' ≡ is_open f.doc) ⊎ (m' ≡ is_closed f.doc)
     → Lines mode b (es ++ taken a e) m' (o ++ [])
 unfolding taken
-lines_kept f Done e x m' n h = absurd (number_positive x (sym n))
-lines_kept {es} {o} f (Refused y) e x m' n h =
+lines_kept f (Ok _) e x m' n h = absurd (number_positive x (sym n))
+lines_kept {es} {o} f (Err y) e x m' n h =
     rw (append-nil es, append-nil o) (record { doc = f.doc; lines = f.lines; after = f.after; events = f.events; bytes = f.bytes; means = h })
 
 lines_step : {mode : Mode} {b : Option Bytes} {es : List Event} {m : calls.State} {o : Bytes} (last : Bool) (s : Bytes)
-    (room : ℕ) (a : called.Answer) (f : Lines mode b es m o)
+    (room : ℕ) (a : Result Unit Refusal) (f : Lines mode b es m o)
     → number_of a ≡ (call_step last s room m).answer
     → Lines mode b (es ++ taken a (first_of last s)) (call_step last s room m).behind
     (o ++ (call_step last s room m).output)
 unfolding taken events_of refused_in refused call_step marked_by
 lines_step {mode} {b} {es} {m} {o} last s room a f n = go f.means
   where
-    on-report : (a : called.Answer) (e : Answer Event) (r : calls.Report) → Reported f.doc e r → number_of a ≡ r.answer → Lines mode b (es ++ taken a e) r.behind (o ++ r.output)
+    on-report : (a : Result Unit Refusal) (e : Answer Event) (r : calls.Report) → Reported f.doc e r → number_of a ≡ r.answer → Lines mode b (es ++ taken a e) r.behind (o ++ r.output)
     on-report a e r (gave x) n = lines_kept f a e x _ n (closed_or_open (effect x) f.doc)
-    on-report Done e r (did i us d' k p q) n =
+    on-report (Ok _) e r (did i us d' k p q) n =
         rw p (record {
           doc = d';
           lines = f.lines ++ us;
@@ -89,7 +88,7 @@ lines_step {mode} {b} {es} {m} {o} last s room a f n = go f.means
           bytes = rw f.bytes (sym (write-append f.lines us));
           means = inl refl;
         })
-    on-report (Refused y) e r (did i us d' k p q) n = absurd (number_positive y n)
+    on-report (Err y) e r (did i us d' k p q) n = absurd (number_positive y n)
 
     go : (m ≡ is_open f.doc) ⊎ (m ≡ is_closed f.doc) → Lines mode b (es ++ taken a (first_of last s)) (call_step last s room m).behind (o ++ (call_step last s room m).output)
     go (inl e) = rw e (on-report a (first_of last s) (call_step last s room (is_open f.doc)) (reported last s room f.doc) (rw e at n))
@@ -105,7 +104,7 @@ lines_end {m} f = record { doc = f.doc; lines = f.lines; after = f.after; events
     go (inr e) = rw e
 
 -- by call
-lines-started : {mode : Mode} {based : Bool} {base : Bytes} {s : State} {w i : List ℕ} {r : Report} {w' : List ℕ} → Starts mode based base s w i r w' → r.answer ≡ Done
+lines-started : {mode : Mode} {based : Bool} {base : Bytes} {s : State} {w i : List ℕ} {r : Report} {w' : List ℕ} → Starts mode based base s w i r w' → r.answer ≡ Ok tt
     → Lines mode (base_of based base) [] (meaning_of r.state w' i) []
 unfolding events_of write
 lines-started x q =
@@ -121,7 +120,7 @@ module _ {mode : Mode} {b : Option Bytes} {es : List Event} {s : State} {w i : L
   lines-ended : Finishes s w i r → Lines mode b es (meaning_of r.state w i) o
   lines-ended x = rw (x.meets.behind, finish-closes) (lines_end f)
 
-  lines_declined : {m : Mode} {a : Bool} {c : Bytes} {w' : List ℕ} (n : Refusal) → Starts m a c s w i r w' → r.answer ≡ Refused n → Lines mode b es (meaning_of r.state w' i) o
+  lines_declined : {m : Mode} {a : Bool} {c : Bytes} {w' : List ℕ} (n : Refusal) → Starts m a c s w i r w' → r.answer ≡ Err n → Lines mode b es (meaning_of r.state w' i) o
   lines_declined n x q = let k = x.meets.kept n q in rw (k.state, k.work) f
 
 -- the calls of a document accepted its events, and wrote their lines
@@ -158,11 +157,11 @@ further_same : {mode : Mode} {b : Option Bytes} {es es' es'' : List Event} {m m'
 further_same f g k e h = let r = same_lines g k e in rw (r.0, r.1) h
 
 further_step : {mode : Mode} {b : Option Bytes} {es es' es'' : List Event} {m m' m'' : calls.State} {o o' o'' : Bytes} (f : Lines mode b es m o) (g : Lines mode b es' m' o') (k : Lines mode b es'' m'' o'')
-    (a : called.Answer) (e : Answer Event) → es'' ≡ es' ++ taken a e → Further f g → Further f k
+    (a : Result Unit Refusal) (e : Answer Event) → es'' ≡ es' ++ taken a e → Further f g → Further f k
 unfolding taken
-further_step {es'} f g k Done (refuse n) q h = further_same f g k (q ∙ append-nil es') h
-further_step {es'} f g k (Refused n) e q h = further_same f g k (q ∙ append-nil es') h
-further_step f g k Done (good e) q (vs, a, is) =
+further_step {es'} f g k (Ok _) (refuse n) q h = further_same f g k (q ∙ append-nil es') h
+further_step {es'} f g k (Err n) e q h = further_same f g k (q ∙ append-nil es') h
+further_step f g k (Ok _) (good e) q (vs, a, is) =
     let r = more_lines g k e q in
     (vs ++ r.0, event a e k.doc r.0 r.1, r.2 ∙ (ap (◌++ r.0) is ∙ append_assoc f.lines vs r.0))
 

@@ -6,7 +6,6 @@ use Rattle.std.proofs.Math.Bool.{true, false, not}
 use Rattle.std.proofs.lemmas.Bool.{false≢true}
 use Rattle.std.proofs.Math.Option.{Option, none, some}
 use mathlib.Core.List.{[], ◌∷◌, ◌++◌, append_assoc, append-nil}
-use Prim.Native.Nat.compare
 use native.Mathlib.Omega.{arith}
 use Rattle.std.proofs.Math.Nat.{zero-add}
 use Rattle.std.proofs.Math.Dec.{eqb}
@@ -17,7 +16,6 @@ use Rattle.spec.specs.Bytes.{Bytes, ascii, when◌then◌else◌, begins, after,
 use Rattle.spec.specs.Rfc3986.{marked, past, scheme_of, after_scheme, parse, with_mark}
 use Rattle.spec.proofs.Booleans.{and_left, and_right, and_both}
 use Rattle.copy.specs.Copy.{rest_of}
-use Rattle.copy.specs.Scan.{Sought, sought_stop, sought_done}
 use Rattle.copy.specs.Texts.{begins_true, after_drop, from-drop}
 use Rattle.resolve.specs.Texts.{cut, Headed, from_headed, and-false}
 use Rattle.resolve.specs.declared.parts.Parts.{Parts}
@@ -399,29 +397,6 @@ module _ (s : Bytes) where
           ∙ ap (authority_text s ++◌) (hash_behind (parse s).path _ clean_path ∙ ap ((parse s).path ++◌) rest))
 
 -- ---- what the functions find
-
--- a byte is of a set if a search for it ends before the set's end
-among-found : (set : Bytes) (b : ℕ) → ltb (length (up_to (λ c. eqb c b) set)) (length set) ≡ among set b
-unfolding up_to among when◌then◌else◌
-among-found [] b = refl
-among-found (a ∷ set) b = go (eqb a b) (among-found set b)
-  where
-    go : (t : Bool) → ltb (length (up_to (λ c. eqb c b) set)) (length set) ≡ among set b
-        → ltb (length (when t then [] else (a ∷ up_to (λ c. eqb c b) set))) (length (a ∷ set)) ≡ (t || among set b)
-    go true h = lt-ltb 0 (length (a ∷ set)) (omega arith)
-    go false h = simp compare.suc-suc h
-
--- the search of `among`, where it ends
-module _ {set : Bytes} (b : ℕ) {i : ℕ} (h : Sought (λ c. eqb c b) set i) where
-  pub among_stop : i < length set → get_or set i 0 ≡ b → true ≡ among set b
-  among_stop l e =
-      let n = sought_stop h l (eq-eqb (get_or set i 0) b e) in
-      sym (lt-ltb (length (up_to (λ c. eqb c b) set)) (length set) (omega arith)) ∙ among-found set b
-
-  pub among_done : length set ≤ i → false ≡ among set b
-  among_done l =
-      let n = sought_done h l in
-      sym (le-ltb (length (up_to (λ c. eqb c b) set)) (length set) (omega arith)) ∙ among-found set b
 
 -- a scheme has a name, and ":" behind it
 unfoldable pub name_size : Bytes → ℕ

@@ -1,7 +1,7 @@
 -- What `resolve` promises: RFC 3986, section 5.2, within the limit of document 01.
 use Rattle.std.proofs.Math.Path.{◌≡◌, refl, ap}
 use Rattle.std.proofs.Common.{sym, ◌∙◌, length-append, length-take}
-use Rattle.std.specs.Prelude.{Bool, ◌&&◌, ◌||◌, eqb, leb, ltb, drop}
+use Rattle.std.specs.Prelude.{Some, None, Result, Ok, Err, Bool, ◌&&◌, ◌||◌, eqb, leb, ltb, drop}
 use Rattle.std.proofs.Math.Bool.{true, false, not}
 use mathlib.Core.List.{[], ◌∷◌, ◌++◌, append_assoc}
 use Prim.Native.Nat.{ℕ, zero, suc, ◌+◌, ◌-◌, min, ◌<◌, ◌≤◌}
@@ -18,11 +18,12 @@ use Rattle.resolve.specs.Last.{Beginning, beginning-length}
 use Rattle.resolve.specs.Turns.{removed_length}
 use Rattle.resolve.specs.Segments.{appended, outputs, begun_after, removed_on_the_way, merged_on_the_way}
 use Rattle.resolve.specs.Output.{backs, backs-beginning, Beyond, Within, Stands, stands-begins, Grown}
-use Rattle.resolve.specs.Target.{Aimed, front_of, merged_of, whole_of, form_of}
+use Rattle.resolve.specs.Target.{leads, lead_end, Aimed, front_of, merged_of, whole_of, form_of}
 use Rattle.resolve.specs.declared.path.Output.{Output}
 use Rattle.resolve.specs.declared.target.Target.{Target}
 use Rattle.resolve.specs.declared.Resolved.{Resolved}
-use Rattle.resolve.specs.declared.Resolved.TheVariants.{Length, NoForm, TooLong, NoArea}
+use Rattle.resolve.specs.declared.ResolveError.{ResolveError}
+use Rattle.resolve.specs.declared.ResolveError.TheVariants.{NoForm, TooLong, NoArea}
 
 -- how long an area has to be at most: an IRI that is too long by a byte, and two bytes of its path
 unfoldable pub most_area : ℕ
@@ -48,16 +49,24 @@ pub need_is : (base reference : Bytes) → need base reference ≡ needed (lengt
 unfolding need most_area most_name_bytes
 need_is base reference = refl
 
+-- so many bytes of the area are the reference
+abbrev pub of_length : ℕ → Result Resolved ResolveError
+of_length n = Ok (record { len = n })
+
+abbrev len_of : Result Resolved ResolveError → ℕ
+len_of (Ok r) = r.len
+len_of (Err e) = 0
+
 -- the answer on a text, where there is an area: `form` says whether the text is a form that RFC 3986 has
-unfoldable pub answered : Bool → Bytes → Resolved
-answered form text = when form then (when leb (length text) most_name_bytes then Length (length text) else TooLong) else NoForm
+unfoldable pub answered : Bool → Bytes → Result Resolved ResolveError
+answered form text = when form then (when leb (length text) most_name_bytes then of_length (length text) else Err TooLong) else Err NoForm
 
 -- What `resolve` answers, `r`, and leaves in the area, `after`. Of a refusal by form or length nothing is said of what the area holds,
 -- nor of what stands there behind the resolved reference.
-pub record Result (base reference area after : Bytes) (r : Resolved) : Type 0 where
-  pub short : length area < need base reference → (r ≡ NoArea) × (after ≡ area)
+pub record Resolves (base reference area after : Bytes) (r : Result Resolved ResolveError) : Type 0 where
+  pub short : length area < need base reference → (r ≡ Err NoArea) × (after ≡ area)
   pub enough : need base reference ≤ length area → r ≡ answered (resolves base reference) (resolve base reference)
-  pub written : (n : ℕ) → r ≡ Length n → take n after ≡ resolve base reference
+  pub written : (n : ℕ) → r ≡ of_length n → take n after ≡ resolve base reference
   pub same : length after ≡ length area
 
 -- ---- what stands before the path
@@ -111,7 +120,7 @@ abbrev pub empty : ℕ → Output
 empty from = record { end = from; beyond = 0; begun = false }
 
 module _ (base reference : Bytes) (t : Target) {area after : Bytes} {from k : ℕ} {r : Output} where
-  pub pathed_own : {b : Bool} → t.merged ≡ false → Grown area after from (empty from) r k b (outputs false false (split 47 (part reference t.own (t.path - t.own))))
+  pub pathed_own : {b : Bool} → t.lead ≡ None → Grown area after from (empty from) r k b (outputs false false (split 47 (part reference t.own (t.path - t.own))))
       → Pathed area from (remove_dot_segments (merged_of base reference t)) after r
   unfolding merged_of when◌then◌else◌
   pathed_own e g =
@@ -122,19 +131,19 @@ module _ (base reference : Bytes) (t : Target) {area after : Bytes} {from k : �
         stands = rw (e, removed_on_the_way (part reference t.own (t.path - t.own))) (g.stands [] stands-begins);
       }
 
-  pub pathed_merged : {mid : Bytes} {o : Output} {l : ℕ} {x : Bool} → t.merged ≡ true
-      → Grown area mid from (empty from) o l (begun_after false (split 47 (part base t.front (t.lead - t.front)))) (outputs false true (split 47 (part base t.front (t.lead - t.front))))
+  pub pathed_merged : {mid : Bytes} {o : Output} {l end : ℕ} {x : Bool} → t.lead ≡ Some end
+      → Grown area mid from (empty from) o l (begun_after false (split 47 (part base t.front (end - t.front)))) (outputs false true (split 47 (part base t.front (end - t.front))))
       → Grown mid after from o r k x (outputs o.begun false (split 47 (part reference t.own (t.path - t.own))))
       → Pathed area from (remove_dot_segments (merged_of base reference t)) after r
   unfolding merged_of when◌then◌else◌
-  pathed_merged e g h =
+  pathed_merged {end = end} e g h =
       record {
         same = h.same ∙ g.same;
         before = h.before ∙ g.before;
         within = h.within;
         stands =
-            rw (e, merged_on_the_way (part base t.front (t.lead - t.front)) (part reference t.own (t.path - t.own)), ← g.begun)
-            (h.stands (outputs false true (split 47 (part base t.front (t.lead - t.front))) []) (g.stands [] stands-begins));
+            rw (e, merged_on_the_way (part base t.front (end - t.front)) (part reference t.own (t.path - t.own)), ← g.begun)
+            (h.stands (outputs false true (split 47 (part base t.front (end - t.front))) []) (g.stands [] stands-begins));
       }
 
 -- ---- the last step
@@ -147,10 +156,10 @@ pub record Made (area : Bytes) (from : ℕ) (out : Output) (rest : ℕ) (f p : B
   pub stands : Stands area from out p
   pub room : min (length f + length p + rest) most_area ≤ length area
 
--- as `Result`, for these texts and `q` behind them
-pub record Recomposed (authority : Bool) (f p q area after : Bytes) (r : Resolved) : Type 0 where
+-- as `Resolves`, for these texts and `q` behind them
+pub record Recomposed (authority : Bool) (f p q area after : Bytes) (r : Result Resolved ResolveError) : Type 0 where
   pub is : r ≡ answered (authority || not (begins (ascii "//") p)) (f ++ (p ++ q))
-  pub written : (n : ℕ) → r ≡ Length n → take n after ≡ f ++ (p ++ q)
+  pub written : (n : ℕ) → r ≡ of_length n → take n after ≡ f ++ (p ++ q)
   pub same : length after ≡ length area
 
 -- the test that `has_form` makes on what stands of a path
@@ -240,12 +249,12 @@ module _ {area : Bytes} {from rest : ℕ} {out : Output} {f p : Bytes} (m : Made
     told : t ≡ (authority || not (begins (ascii "//") p))
     told = e ∙ form_told authority
 
-    pub recomposed_formless : t ≡ false → Recomposed authority f p q area area NoForm
+    pub recomposed_formless : t ≡ false → Recomposed authority f p q area area (Err NoForm)
     unfolding answered when◌then◌else◌
     recomposed_formless n =
         record { is = rw (sym told ∙ n); written = λ k x. absurd (let z : ◌≡◌ {A = ℕ} 0 1 = cc in omega arith); same = refl }
 
-    long : t ≡ true → most_name_bytes < length f + length p + rest → Recomposed authority f p q area area TooLong
+    long : t ≡ true → most_name_bytes < length f + length p + rest → Recomposed authority f p q area area (Err TooLong)
     unfolding answered when◌then◌else◌
     long y l =
         record {
@@ -254,7 +263,7 @@ module _ {area : Bytes} {from rest : ℕ} {out : Output} {f p : Bytes} (m : Made
           same = refl;
         }
 
-    pub recomposed_beyond : t ≡ true → 0 < out.beyond → Recomposed authority f p q area area TooLong
+    pub recomposed_beyond : t ≡ true → 0 < out.beyond → Recomposed authority f p q area area (Err TooLong)
     recomposed_beyond y z = long y (too_long_lem (m.stands.beyond (out.beyond - 1) (omega arith)) (backs-beginning (out.beyond - 1) p))
 
     whole_path : out.beyond ≤ 0 → stood area from out ≡ p
@@ -264,11 +273,11 @@ module _ {area : Bytes} {from rest : ℕ} {out : Output} {f p : Bytes} (m : Made
     size_path : out.beyond ≤ 0 → length p ≡ out.end - from
     size_path z = ap length (sym (whole_path z)) ∙ length_part area from (out.end - from) (omega (arith, m.within))
 
-    pub recomposed_long : t ≡ true → out.beyond ≤ 0 → most_name_bytes < out.end + rest → Recomposed authority f p q area area TooLong
+    pub recomposed_long : t ≡ true → out.beyond ≤ 0 → most_name_bytes < out.end + rest → Recomposed authority f p q area area (Err TooLong)
     recomposed_long y z l = long y (omega (arith, m.size, m.within, size_path z))
 
     pub recomposed_whole : {after : Bytes} {s : Bool} → t ≡ true → out.beyond ≤ 0 → out.end + rest ≤ most_name_bytes → Put area out.end q after s
-        → Recomposed authority f p q area after (Length (out.end + rest))
+        → Recomposed authority f p q area after (of_length (out.end + rest))
     unfolding answered when◌then◌else◌ most_area part
     recomposed_whole {after} y z l w =
         let size : length f + length p ≡ out.end = omega (arith, m.size, m.within, size_path z) in
@@ -279,29 +288,29 @@ module _ {area : Bytes} {from rest : ℕ} {out : Output} {f p : Bytes} (m : Made
         record {
           is = rw (sym told ∙ y, le-leb (length (f ++ (p ++ q))) most_name_bytes (omega (arith, size-whole, size)), size-whole, size);
           written = λ n x.
-              let k : n ≡ out.end + rest = cc in
+              let k : n ≡ out.end + rest = sym (ap len_of x) in
               rw (k, ← r) (wrote_front wrote ∙ rw front (append_assoc f p q));
           same = wrote_same wrote;
         }
 
-length_merged : (base reference : Bytes) (t : Target) → Aimed base reference t → length (merged_of base reference t) ≤ t.lead - t.front + 1 + (t.path - t.own)
+length_merged : (base reference : Bytes) (t : Target) → Aimed base reference t → length (merged_of base reference t) ≤ lead_end t.lead t.front - t.front + 1 + (t.path - t.own)
 unfolding merged_of when◌then◌else◌
-length_merged base reference t a = go t.merged
+length_merged base reference t a = go (leads t.lead)
   where
     p : Bytes
     p = part reference t.own (t.path - t.own)
 
-    go : (m : Bool) → length (when m then part base t.front (t.lead - t.front) ++ 47 ∷ p else p) ≤ t.lead - t.front + 1 + (t.path - t.own)
+    go : (m : Bool) → length (when m then part base t.front (lead_end t.lead t.front - t.front) ++ 47 ∷ p else p) ≤ lead_end t.lead t.front - t.front + 1 + (t.path - t.own)
     go true =
         omega (
           arith,
-          length-append (part base t.front (t.lead - t.front)) (47 ∷ p),
-          length_part base t.front (t.lead - t.front) (omega (arith, a.order, a.lead)),
+          length-append (part base t.front (lead_end t.lead t.front - t.front)) (47 ∷ p),
+          length_part base t.front (lead_end t.lead t.front - t.front) (omega (arith, a.order, a.lead)),
           length_part reference t.own (t.path - t.own) (omega (arith, a.own, a.path)),
         )
     go false = omega (arith, length_part reference t.own (t.path - t.own) (omega (arith, a.own, a.path)))
 
-pub result_none : {base reference area : Bytes} → length area < need base reference → Result base reference area area NoArea
+pub result_none : {base reference area : Bytes} → length area < need base reference → Resolves base reference area area (Err NoArea)
 result_none {base} {reference} {area} h =
     record {
       short = λ _. (refl, refl);
@@ -335,9 +344,9 @@ made {base} {reference} {t = t} a room f p =
           );
     }
 
-pub result_made : {base reference area mid after : Bytes} {t : Target} {r : Resolved} → Aimed base reference t → need base reference ≤ length area → length mid ≡ length area
+pub result_made : {base reference area mid after : Bytes} {t : Target} {r : Result Resolved ResolveError} → Aimed base reference t → need base reference ≤ length area → length mid ≡ length area
     → Recomposed t.authority (front_of base reference t) (remove_dot_segments (merged_of base reference t)) (drop t.path reference) mid after r
-    → Result base reference area after r
+    → Resolves base reference area after r
 unfolding whole_of form_of
 result_made a room same c =
     record {
@@ -357,32 +366,32 @@ pub record Holds (base reference after : Bytes) (n : ℕ) : Type 0 where
   pub is : Front after (resolve base reference) n
 
 -- what each answer says of the text
-abbrev Said : Bool → Bytes → Resolved → Type 0
-Said form text (Length n) = (form ≡ true) × (n ≡ length text) × (n ≤ most_name_bytes)
-Said form text NoForm = form ≡ false
-Said form text TooLong = (form ≡ true) × (most_name_bytes < length text)
-Said form text NoArea = ⊥
+abbrev Said : Bool → Bytes → Result Resolved ResolveError → Type 0
+Said form text (Ok r) = (form ≡ true) × (r.len ≡ length text) × (r.len ≤ most_name_bytes)
+Said form text (Err NoForm) = form ≡ false
+Said form text (Err TooLong) = (form ≡ true) × (most_name_bytes < length text)
+Said form text (Err NoArea) = ⊥
 
 said : (form : Bool) (text : Bytes) → Said form text (answered form text)
 unfolding answered when◌then◌else◌
 said false text = refl
 said true text = go (leb (length text) most_name_bytes) refl
   where
-    go : (t : Bool) → leb (length text) most_name_bytes ≡ t → Said true text (when t then Length (length text) else TooLong)
+    go : (t : Bool) → leb (length text) most_name_bytes ≡ t → Said true text (when t then of_length (length text) else Err TooLong)
     go true e = (refl, refl, leb-true (length text) most_name_bytes e)
     go false e = (refl, leb-false (length text) most_name_bytes e)
 
-module _ {base reference area after : Bytes} {r : Resolved} (h : Result base reference area after r) where
-  says : {q : Resolved} → r ≡ q → (q ≡ NoArea → ⊥) → Said (resolves base reference) (resolve base reference) q
+module _ {base reference area after : Bytes} {r : Result Resolved ResolveError} (h : Resolves base reference area after r) where
+  says : {q : Result Resolved ResolveError} → r ≡ q → (q ≡ Err NoArea → ⊥) → Said (resolves base reference) (resolve base reference) q
   says {q} e f = go (leb (need base reference) (length area)) refl
     where
       go : (t : Bool) → leb (need base reference) (length area) ≡ t → Said (resolves base reference) (resolve base reference) q
       go true k = rw (sym e ∙ h.enough (leb-true (need base reference) (length area) k)) (said (resolves base reference) (resolve base reference))
       go false k = absurd (f (sym e ∙ (h.short (leb-false (need base reference) (length area) k)).0))
 
-  pub result_length : {n : ℕ} → r ≡ Length n → Holds base reference after n
+  pub result_length : {n : ℕ} → r ≡ of_length n → Holds base reference after n
   result_length {n} e =
-      let s = says e (λ (q : Length n ≡ NoArea). let z : ◌≡◌ {A = ℕ} 0 1 = cc in omega arith) in
+      let s = says e (λ (q : of_length n ≡ Err NoArea). let z : ◌≡◌ {A = ℕ} 0 1 = cc in omega arith) in
       let t = h.written n e in
       record {
         form = s.0;
@@ -391,24 +400,24 @@ module _ {base reference area after : Bytes} {r : Resolved} (h : Result base ref
         is = record { within = omega (arith, s.1, ap length t, length-take n after); is = t };
       }
 
-  pub result_formless : r ≡ NoForm → resolves base reference ≡ false
-  result_formless e = says e (λ (q : NoForm ≡ NoArea). let z : ◌≡◌ {A = ℕ} 0 1 = cc in omega arith)
+  pub result_formless : r ≡ Err NoForm → resolves base reference ≡ false
+  result_formless e = says e (λ (q : Err NoForm ≡ Err NoArea). let z : ◌≡◌ {A = ℕ} 0 1 = cc in omega arith)
 
-  pub result_long : r ≡ TooLong → (resolves base reference ≡ true) × (most_name_bytes < length (resolve base reference))
-  result_long e = says e (λ (q : TooLong ≡ NoArea). let z : ◌≡◌ {A = ℕ} 0 1 = cc in omega arith)
+  pub result_long : r ≡ Err TooLong → (resolves base reference ≡ true) × (most_name_bytes < length (resolve base reference))
+  result_long e = says e (λ (q : Err TooLong ≡ Err NoArea). let z : ◌≡◌ {A = ℕ} 0 1 = cc in omega arith)
 
   -- with room enough there is an answer on the text
-  pub result_room : need base reference ≤ length area → r ≡ NoArea → ⊥
+  pub result_room : need base reference ≤ length area → r ≡ Err NoArea → ⊥
   result_room k e = rw (sym (h.enough k) ∙ e) at (said (resolves base reference) (resolve base reference))
 
 -- nothing else is a result: the answers are the same, and so are the bytes that they count
-pub unique : {base reference area e f : Bytes} {q r : Resolved} → Result base reference area e q → Result base reference area f r → q ≡ r
+pub unique : {base reference area e f : Bytes} {q r : Result Resolved ResolveError} → Resolves base reference area e q → Resolves base reference area f r → q ≡ r
 unique {base} {reference} {area} {e} {f} {q} {r} h k = go (leb (need base reference) (length area)) refl
   where
     go : (t : Bool) → leb (need base reference) (length area) ≡ t → q ≡ r
     go true c = let room = leb-true (need base reference) (length area) c in h.enough room ∙ sym (k.enough room)
     go false c = let none = leb-false (need base reference) (length area) c in (h.short none).0 ∙ sym (k.short none).0
 
-pub unique_bytes : {base reference area e f : Bytes} {q r : Resolved} {n : ℕ} → Result base reference area e q → Result base reference area f r → q ≡ Length n
+pub unique_bytes : {base reference area e f : Bytes} {q r : Result Resolved ResolveError} {n : ℕ} → Resolves base reference area e q → Resolves base reference area f r → q ≡ of_length n
     → take n e ≡ take n f
 unique_bytes {n = n} h k c = h.written n c ∙ sym (k.written n (sym (unique h k) ∙ c))

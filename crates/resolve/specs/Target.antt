@@ -1,5 +1,5 @@
 -- RFC 3986, section 5.2.2: what a reference on a base is made of, case by case.
-use Rattle.std.specs.Prelude.{◌≡◌, Bool, ◌||◌, not, ℕ, zero, suc, ◌+◌, ◌-◌, ◌<◌, ◌≤◌, eqb, get_or}
+use Rattle.std.specs.Prelude.{Option as StdOption, Some, None, ◌≡◌, Bool, ◌||◌, not, ℕ, zero, suc, ◌+◌, ◌-◌, ◌<◌, ◌≤◌, eqb, get_or}
 use Rattle.std.proofs.Math.Path.{refl, sym, ap}
 use Rattle.std.proofs.Common.{◌∙◌, take-take}
 use Rattle.std.proofs.Math.Bool.{true, false}
@@ -10,15 +10,23 @@ use native.Mathlib.Omega.{arith}
 use Rattle.std.proofs.Math.Dec.{ltb}
 use Rattle.std.proofs.Math.ListN.{length, take, drop}
 use Rattle.std.proofs.Math.Seq.{append_snoc, length-take-le}
-use borrow.Author.Tests.{ltb-true, lt-ltb, le-ltb, eq-eqb, ne_eqb}
+use borrow.Author.Tests.{lt-ltb, le-ltb, eq-eqb, ne_eqb}
 use Rattle.spec.specs.Bytes.{Bytes, ascii, when◌then◌else◌, begins, from, is_empty, is_some, or_else}
 use Rattle.spec.specs.Rfc3986.{Reference, parse, recompose, remove_dot_segments, turns, without_last, merge, transform, has_form, resolve, resolves}
 use Rattle.resolve.specs.Parts.{parts_of, scheme_text, authority_text, query_text, fragment_text, ordered, take-scheme, take_authority, take_path, take-query, drop_path_texts, path_between, scheme-nil, authority_nil, path_nil, query-nil, scheme-text, has-scheme, has_authority, has-query, has_path, no_slashes}
 use Rattle.copy.specs.Copy.{part, length_part}
 use Rattle.resolve.specs.Last.{through_last, without_slash, without-some}
 use Rattle.resolve.specs.Texts.{Front, and-true}
-use Rattle.resolve.specs.declared.target.Lead.{Lead}
 use Rattle.resolve.specs.declared.target.Target.{Target}
+
+-- is a path merged with that of the base, and where does what the base gives of it end? Where it gives none, it ends where it begins.
+abbrev pub leads : StdOption ℕ → Bool
+leads None = false
+leads (Some end) = true
+
+abbrev pub lead_end : StdOption ℕ → ℕ → ℕ
+lead_end None begin = begin
+lead_end (Some end) begin = end
 
 -- what stands before the target's path
 unfoldable pub front_of : Bytes → Bytes → Target → Bytes
@@ -28,7 +36,7 @@ front_of base reference t = take t.front base ++ take t.own reference
 unfoldable pub merged_of : Bytes → Bytes → Target → Bytes
 merged_of base reference t =
     let path = part reference t.own (t.path - t.own) in
-    when t.merged then part base t.front (t.lead - t.front) ++ 47 ∷ path else path
+    when leads t.lead then part base t.front (lead_end t.lead t.front - t.front) ++ 47 ∷ path else path
 
 -- the whole target, and whether it has a form
 unfoldable pub whole_of : Bytes → Bytes → Target → Bytes
@@ -39,17 +47,29 @@ form_of base reference t = t.authority || not (begins (ascii "//") (remove_dot_s
 
 -- `t` is what the reference on the base is made of.
 pub record Aimed (base reference : Bytes) (t : Target) : Type 0 where
-  pub order : t.front ≤ t.lead
-  pub lead : t.lead ≤ length base
-  pub few : t.merged ≡ true → t.lead - t.front < length base
+  pub order : t.front ≤ lead_end t.lead t.front
+  pub lead : lead_end t.lead t.front ≤ length base
+  pub few : leads t.lead ≡ true → lead_end t.lead t.front - t.front < length base
   pub own : t.own ≤ t.path
   pub path : t.path ≤ length reference
   pub result : resolve base reference ≡ whole_of base reference t
   pub form : resolves base reference ≡ form_of base reference t
 
+-- what the base gives of the path
+pub record Led (base : Bytes) (t : Target) (end : ℕ) : Type 0 where
+  pub order : t.front ≤ end
+  pub within : end ≤ length base
+  pub few : end - t.front < length base
+
+pub led : {base reference : Bytes} {t : Target} {end : ℕ} → Aimed base reference t → t.lead ≡ Some end → Led base t end
+led {t = t} {end = end} a e =
+    let z : lead_end t.lead t.front ≡ end = ap (λ l. lead_end l t.front) e in
+    let y : leads t.lead ≡ true = ap leads e in
+    record { order = omega (arith, a.order, z); within = omega (arith, a.lead, z); few = omega (arith, a.few y, z) }
+
 -- by the target's parts: `front` stands before its path, and the path without dot segments is that of `p`
 aimed : {base reference : Bytes} {t : Target} {r : Reference} (front p : Bytes) → transform (parse base) (parse reference) ≡ r
-    → t.front ≤ t.lead → t.lead ≤ length base → (t.merged ≡ true → t.lead - t.front < length base) → t.own ≤ t.path → t.path ≤ length reference
+    → t.front ≤ lead_end t.lead t.front → lead_end t.lead t.front ≤ length base → (leads t.lead ≡ true → lead_end t.lead t.front - t.front < length base) → t.own ≤ t.path → t.path ≤ length reference
     → front_of base reference t ≡ front → merged_of base reference t ≡ p
     → recompose r ≡ front ++ (remove_dot_segments p ++ drop t.path reference) → has_form r ≡ (t.authority || not (begins (ascii "//") (remove_dot_segments p)))
     → Aimed base reference t
@@ -103,11 +123,11 @@ query_missing (some q) b h = absurd (false≢true (sym h))
 -- ---- 5.2.3
 
 -- `l` is what a path is put behind when it is merged with that of the base.
-pub record Leads (base : Bytes) (l : Lead) : Type 0 where
-  pub order : (parts_of base).authority ≤ l.end
-  pub within : l.end ≤ length base
-  pub few : l.merged ≡ true → l.end - (parts_of base).authority < length base
-  pub is : (p : Bytes) → (when l.merged then part base (parts_of base).authority (l.end - (parts_of base).authority) ++ 47 ∷ p else p) ≡ merge (parse base) p
+pub record Leads (base : Bytes) (l : StdOption ℕ) : Type 0 where
+  pub order : (parts_of base).authority ≤ lead_end l (parts_of base).authority
+  pub within : lead_end l (parts_of base).authority ≤ length base
+  pub few : leads l ≡ true → lead_end l (parts_of base).authority - (parts_of base).authority < length base
+  pub is : (p : Bytes) → (when leads l then part base (parts_of base).authority (lead_end l (parts_of base).authority - (parts_of base).authority) ++ 47 ∷ p else p) ≡ merge (parse base) p
 
 -- a base with a path, one with an authority alone, and one with neither
 merge_path : (s a : Option Bytes) (path : Bytes) (q f : Option Bytes) (p : Bytes) → is_empty path ≡ false
@@ -140,7 +160,7 @@ module _ (base : Bytes) where
 
   pub leads_path : {n : ℕ} → (parts_of base).authority < (parts_of base).path
       → Front (path_at base) (through_last (path_at base)) n → (n ≡ 0 → ⊥)
-      → Leads base (record { merged = true; end = (parts_of base).authority + (n - 1) })
+      → Leads base (Some ((parts_of base).authority + (n - 1)))
   unfolding when◌then◌else◌ part
   leads_path {n} h f z =
       let o = ordered base in
@@ -161,36 +181,39 @@ module _ (base : Bytes) where
 
   pub leads_bare : {n : ℕ} → (parts_of base).authority < (parts_of base).path
       → Front (path_at base) (through_last (path_at base)) n → n ≡ 0
-      → Leads base (record { merged = false; end = (parts_of base).authority })
+      → Leads base None
   unfolding when◌then◌else◌
   leads_bare {n} h f z =
       let none : through_last (parse base).path ≡ [] = ap through_last (sym (path_between base)) ∙ sym f.is ∙ rw z in
       record { order = omega arith; within = omega (arith, ordered base); few = unmerged; is = λ p. sym (merge_there h p ∙ ap (◌++ p) none) }
 
   -- without a path, by whether there is an authority
-  pub leads_none : (parts_of base).path ≤ (parts_of base).authority
-      → Leads base (record { merged = ltb (parts_of base).scheme (parts_of base).authority; end = (parts_of base).authority })
-  unfolding when◌then◌else◌ ascii part
-  leads_none n = go (ltb (parts_of base).scheme (parts_of base).authority) refl
-    where
-      go : (t : Bool) → ltb (parts_of base).scheme (parts_of base).authority ≡ t → Leads base (record { merged = t; end = (parts_of base).authority })
-      go true e =
-          let none : (parts_of base).authority - (parts_of base).authority ≡ 0 = omega arith in
-          record {
-            order = omega arith;
-            within = omega (arith, ordered base);
-            few = λ _. omega (arith, ordered base, ltb-true (parts_of base).scheme (parts_of base).authority e);
-            is = λ p.
-                rw none
-                (sym (merge_authority (parse base).scheme (parse base).authority (parse base).path (parse base).query (parse base).fragment p (path_nil base n) (has_authority base ∙ e)));
-          }
-      go false e =
-          record {
-            order = omega arith;
-            within = omega (arith, ordered base);
-            few = unmerged;
-            is = λ p. sym (merge-nothing (parse base).scheme (parse base).authority (parse base).path (parse base).query (parse base).fragment p (path_nil base n) (has_authority base ∙ e));
-          }
+  module _ (n : (parts_of base).path ≤ (parts_of base).authority) where
+    pub leads_authority : (parts_of base).scheme < (parts_of base).authority → Leads base (Some (parts_of base).authority)
+    unfolding when◌then◌else◌ ascii part
+    leads_authority h =
+        let none : (parts_of base).authority - (parts_of base).authority ≡ 0 = omega arith in
+        record {
+          order = omega arith;
+          within = omega (arith, ordered base);
+          few = λ _. omega (arith, ordered base);
+          is = λ p.
+              rw none
+              (sym (merge_authority (parse base).scheme (parse base).authority (parse base).path (parse base).query (parse base).fragment p (path_nil base n)
+              (has_authority base ∙ lt-ltb (parts_of base).scheme (parts_of base).authority h)));
+        }
+
+    pub leads_nothing : (parts_of base).authority ≤ (parts_of base).scheme → Leads base None
+    unfolding when◌then◌else◌
+    leads_nothing h =
+        record {
+          order = omega arith;
+          within = omega (arith, ordered base);
+          few = unmerged;
+          is = λ p.
+              sym (merge-nothing (parse base).scheme (parse base).authority (parse base).path (parse base).query (parse base).fragment p (path_nil base n)
+              (has_authority base ∙ le-ltb (parts_of base).scheme (parts_of base).authority h));
+        }
 
 -- ---- 5.2.2, case by case
 
@@ -209,8 +232,7 @@ module _ (base reference : Bytes) where
       → Aimed base reference (record {
         front = 0;
         own = (parts_of reference).authority;
-        merged = false;
-        lead = 0;
+        lead = None;
         path = (parts_of reference).path;
         authority = ltb (parts_of reference).scheme (parts_of reference).authority;
       })
@@ -225,8 +247,7 @@ module _ (base reference : Bytes) where
       → Aimed base reference (record {
         front = (parts_of base).scheme;
         own = (parts_of reference).authority;
-        merged = false;
-        lead = (parts_of base).scheme;
+        lead = None;
         path = (parts_of reference).path;
         authority = true;
       })
@@ -244,8 +265,7 @@ module _ (base reference : Bytes) where
       → Aimed base reference (record {
         front = (parts_of base).path;
         own = 0;
-        merged = false;
-        lead = (parts_of base).path;
+        lead = None;
         path = 0;
         authority = ltb (parts_of base).scheme (parts_of base).authority;
       })
@@ -268,8 +288,7 @@ module _ (base reference : Bytes) where
       → Aimed base reference (record {
         front = (parts_of base).query;
         own = 0;
-        merged = false;
-        lead = (parts_of base).query;
+        lead = None;
         path = 0;
         authority = true;
       })
@@ -316,8 +335,7 @@ module _ (base reference : Bytes) where
         → Aimed base reference (record {
           front = (parts_of base).authority;
           own = 0;
-          merged = false;
-          lead = (parts_of base).authority;
+          lead = None;
           path = (parts_of reference).path;
           authority = ltb (parts_of base).scheme (parts_of base).authority;
         })
@@ -329,12 +347,11 @@ module _ (base reference : Bytes) where
         (omega arith) (omega (arith, ordered reference)) (append-nil (take (parts_of base).authority base) ∙ take_authority base) front_path
         (rw (scheme-text base, drop_path_texts reference, append_assoc)) (rw (has_authority base))
 
-    pub aimed_merged : {l : Lead} → (get_or reference 0 0 ≡ 47 → ⊥) → Leads base l
+    pub aimed_merged : {l : StdOption ℕ} → (get_or reference 0 0 ≡ 47 → ⊥) → Leads base l
         → Aimed base reference (record {
           front = (parts_of base).authority;
           own = 0;
-          merged = l.merged;
-          lead = l.end;
+          lead = l;
           path = (parts_of reference).path;
           authority = ltb (parts_of base).scheme (parts_of base).authority;
         })

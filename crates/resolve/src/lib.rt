@@ -6,7 +6,7 @@ ghost use Rattle.spec.specs.Bytes.{Bytes};
 ghost use Rattle.spec.specs.Rfc3986.{remove_dot_segments};
 ghost use Rattle.resolve.specs.Output.{Within};
 ghost use Rattle.resolve.specs.Target.{Aimed, front_of, merged_of};
-ghost use Rattle.resolve.specs.Resolve.{Fronted, Made, Pathed, Recomposed, Result, formed, need, needed};
+ghost use Rattle.resolve.specs.Resolve.{Fronted, Made, Pathed, Recomposed, Resolves, formed, need, needed};
 
 mod parts;
 mod path;
@@ -15,11 +15,15 @@ mod target;
 use path::Output;
 use target::Target;
 
-// What became of a reference.
-#[derive(Clone, Copy)]
-pub enum Resolved {
-    // It stands at the front of the area and has this many bytes.
-    Length(usize),
+// A resolved reference: how many bytes it has at the front of the area.
+#[derive(Clone, Copy, Debug, PartialEq, Eq)]
+pub struct Resolved {
+    pub len: usize,
+}
+
+// Why a reference is not resolved.
+#[derive(Clone, Copy, Debug, PartialEq, Eq)]
+pub enum ResolveError {
     // It has no authority and a path that begins `//`, for which there is no form.
     NoForm,
     // It has more than `MOST_BYTES`.
@@ -37,11 +41,11 @@ impl Resolved {
 }
 
 // `reference` on `base`. The area has to have one byte more than the two together, or `AREA` bytes.
-pub fn resolve(base: &[u8], reference: &[u8], area: &mut [u8]) -> Resolved
-    ensures { Result base.now reference.now area.old area.new result }
+pub fn resolve(base: &[u8], reference: &[u8], area: &mut [u8]) -> Result<Resolved, ResolveError>
+    ensures { Resolves base.now reference.now area.old area.new result }
 {
     if !has_room(base.len(), reference.len(), area.len()) {
-        return Resolved::NoArea;
+        return Err(ResolveError::NoArea);
     }
     let target = target::transform(base, reference);
     let from = put_front(base, reference, target, area);
@@ -83,7 +87,6 @@ fn put_path(base: &[u8], reference: &[u8], target: Target, from: usize, area: &m
     ensures { Pathed area.old from (remove_dot_segments (merged_of base.now reference.now target)) area.new result }
 {
     let front = target.front;
-    let lead = target.lead;
     let own = target.own;
     let path = target.path;
     let empty = Output {
@@ -91,11 +94,13 @@ fn put_path(base: &[u8], reference: &[u8], target: Target, from: usize, area: &m
         beyond: 0,
         begun: false,
     };
-    if !target.merged {
-        return path::output_path(&reference[own..path], false, from, empty, area);
+    match target.lead {
+        None => path::output_path(&reference[own..path], false, from, empty, area),
+        Some(lead) => {
+            let led = path::output_path(&base[front..lead], true, from, empty, area);
+            path::output_path(&reference[own..path], false, from, led, area)
+        }
     }
-    let led = path::output_path(&base[front..lead], true, from, empty, area);
-    path::output_path(&reference[own..path], false, from, led, area)
 }
 
 // The reference's query and fragment come behind the path, if there is a form for the whole and it is not too long.
@@ -105,7 +110,7 @@ fn recompose(
     from: usize,
     out: Output,
     area: &mut [u8],
-) -> Resolved
+) -> Result<Resolved, ResolveError>
     requires { (target.path ≤ length reference.now) × Within area.old from out }
     ensures { (front path : Bytes) → Made area.old from out (length reference.now - target.path) front path
         → Recomposed target.authority front path (drop target.path reference.now) area.old area.new result }
@@ -113,17 +118,17 @@ fn recompose(
     let end = out.end;
     let path = target.path;
     if !has_form(&area[from..end], out.beyond, target.authority) {
-        return Resolved::NoForm;
+        return Err(ResolveError::NoForm);
     }
     if 0 < out.beyond {
-        return Resolved::TooLong;
+        return Err(ResolveError::TooLong);
     }
     let rest = reference.len() - path;
     if Resolved::MOST_BYTES < end + rest {
-        return Resolved::TooLong;
+        return Err(ResolveError::TooLong);
     }
     copy::put(area, end, &reference[path..]);
-    Resolved::Length(end + rest)
+    Ok(Resolved { len: end + rest })
 }
 
 // Where there is no authority, the path cannot begin with `//` (section 3.3). A segment that has no room behind "/" begins with one, too.

@@ -59,25 +59,16 @@ fn marked(s: &[u8], mark: &[u8], stop: &[u8]) -> usize
 pub fn until(s: &[u8], set: &[u8]) -> usize
     ensures { result ≡ length (up_to (among set.now) s.now) }
 {
-    let mut i: usize = 0;
-    while i < s.len() {
-        if among(set, s[i]) {
+    for (i, b) in s.iter().enumerate() {
+        if among(set, *b) {
             return i;
         }
-        i += 1;
     }
-    i
+    s.len()
 }
 
 fn among(set: &[u8], b: u8) -> bool
     ensures { result ≡ among set.now b }
 {
-    let mut i: usize = 0;
-    while i < set.len() {
-        if set[i] == b {
-            return true;
-        }
-        i += 1;
-    }
-    false
+    set.contains(&b)
 }

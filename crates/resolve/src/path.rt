@@ -10,7 +10,7 @@ ghost use Rattle.resolve.specs.Output.{Counts, Grown, Grows, Simple, passed, sla
 
 // The output buffer of the section: what stands in a lent area from some place on up to `end`, and behind it `beyond` segments that did not fit
 // and stand nowhere.
-#[derive(Clone, Copy)]
+#[derive(Clone, Copy, Debug, PartialEq, Eq)]
 pub struct Output {
     pub end: usize,
     pub beyond: usize,
@@ -49,6 +49,7 @@ fn output_segments(path: &[u8], more: bool, from: usize, out: Output, area: &mut
     ensures { Grown area.old area.new from out result (length path.now + 1) (begun_after out.begun (split 47 path.now)) (outputs out.begun more (split 47 path.now)) }
 {
     let mut o = out;
+    // From "/" to "/", which no range counts: `find` seeks the next in blocks.
     let mut i: usize = 0;
     let mut end = copy::find(path, b'/');
     while end < path.len() {
@@ -63,6 +64,7 @@ fn output_segments(path: &[u8], more: bool, from: usize, out: Output, area: &mut
 fn starts_dot(path: &[u8]) -> bool
     ensures { result ≡ false → starts_dot true path.now ≡ false }
 {
+    // From "." to ".", as above.
     let mut at = copy::find(path, b'.');
     while at < path.len() {
         if begins_segment(path, at) {
@@ -169,9 +171,9 @@ fn pass(out: Output) -> Output
     ensures { result ≡ passed out }
 {
     Output {
-        end: out.end,
         beyond: out.beyond + 1,
         begun: true,
+        ..out
     }
 }
 
@@ -180,18 +182,16 @@ fn step_back(from: usize, out: Output, area: &[u8]) -> Output
     requires { (out.end ≤ length area.now) × (from ≤ out.end) }
     ensures { Grown area.now area.now from out result 0 out.begun without_last }
 {
-    let end = out.end;
     if 0 < out.beyond {
         return Output {
-            end,
             beyond: out.beyond - 1,
-            begun: out.begun,
+            ..out
         };
     }
     Output {
-        end: from + without_last(&area[from..end]),
+        end: from + without_last(&area[from..out.end]),
         beyond: 0,
-        begun: out.begun,
+        ..out
     }
 }
 
@@ -199,12 +199,10 @@ fn step_back(from: usize, out: Output, area: &[u8]) -> Output
 pub fn through_last(s: &[u8]) -> usize
     ensures { Front s.now (through_last s.now) result }
 {
-    let mut n = s.len();
-    while 0 < n {
-        if s[n - 1] == b'/' {
-            return n;
+    for i in (0..s.len()).rev() {
+        if s[i] == b'/' {
+            return i + 1;
         }
-        n -= 1;
     }
     0
 }

@@ -12,17 +12,9 @@ use crate::{parts, path};
 pub struct Target {
     pub front: usize,
     pub own: usize,
-    pub merged: bool,
-    pub lead: usize,
+    pub lead: Option<usize>,
     pub path: usize,
     pub authority: bool,
-}
-
-// What a base gives of its path when another is merged with it: what stands before its last "/", if it has one.
-#[derive(Clone, Copy)]
-struct Lead {
-    merged: bool,
-    end: usize,
 }
 
 pub fn transform(base: &[u8], reference: &[u8]) -> Target
@@ -33,8 +25,7 @@ pub fn transform(base: &[u8], reference: &[u8]) -> Target
         return Target {
             front: 0,
             own: r.authority,
-            merged: false,
-            lead: 0,
+            lead: None,
             path: r.path,
             authority: r.scheme < r.authority,
         };
@@ -44,8 +35,7 @@ pub fn transform(base: &[u8], reference: &[u8]) -> Target
         return Target {
             front,
             own: 0,
-            merged: false,
-            lead: front,
+            lead: None,
             path: 0,
             authority: true,
         };
@@ -55,8 +45,7 @@ pub fn transform(base: &[u8], reference: &[u8]) -> Target
         return Target {
             front: b.scheme,
             own: r.authority,
-            merged: false,
-            lead: b.scheme,
+            lead: None,
             path: r.path,
             authority: true,
         };
@@ -66,8 +55,7 @@ pub fn transform(base: &[u8], reference: &[u8]) -> Target
         return Target {
             front: b.path,
             own: 0,
-            merged: false,
-            lead: b.path,
+            lead: None,
             path: 0,
             authority,
         };
@@ -76,45 +64,37 @@ pub fn transform(base: &[u8], reference: &[u8]) -> Target
         return Target {
             front: b.authority,
             own: 0,
-            merged: false,
-            lead: b.authority,
+            lead: None,
             path: r.path,
             authority,
         };
     }
-    let lead = merge(base, b);
     Target {
         front: b.authority,
         own: 0,
-        merged: lead.merged,
-        lead: lead.end,
+        lead: merge(base, b),
         path: r.path,
         authority,
     }
 }
 
-// Section 5.2.3.
-fn merge(base: &[u8], b: Parts) -> Lead
+// Section 5.2.3: where what a base gives of its path ends when another is merged with it, before its last "/", if it
+// gives any.
+fn merge(base: &[u8], b: Parts) -> Option<usize>
     requires { b ≡ parts_of base.now }
     ensures { Leads base.now result }
 {
     let authority = b.authority;
     let path = b.path;
     if path <= authority {
-        return Lead {
-            merged: b.scheme < authority,
-            end: authority,
-        };
+        if b.scheme < authority {
+            return Some(authority);
+        }
+        return None;
     }
     let n = path::through_last(&base[authority..path]);
     if n == 0 {
-        return Lead {
-            merged: false,
-            end: authority,
-        };
+        return None;
     }
-    Lead {
-        merged: true,
-        end: authority + (n - 1),
-    }
+    Some(authority + (n - 1))
 }

@@ -1,6 +1,6 @@
 -- An attribute by the class of its name: what it is there for, and what is wrong with it.
 use Rattle.std.specs.Prelude.{◌≡◌, refl, Bool, true, false, List, [], ◌++◌, ℕ, ◌<◌}
-use Rattle.std.proofs.Common.{sym, ◌∙◌, append-nil}
+use Rattle.std.proofs.Common.{◌⊎◌, inl, inr, sym, ◌∙◌, append-nil}
 use Rattle.spec.specs.Bytes.{Bytes, ascii, when◌then◌else◌, begins, ◌>>=◌, ◌>>◌, require◌or◌}
 use Rattle.spec.specs.Numbers.{Answer, refuse, good}
 use Rattle.spec.specs.declared.Refusal.TheVariants.{NoNamespace}
@@ -89,13 +89,10 @@ unfolding role_at
 by_name e w v j c p t q h = q ∙ (rw (p, ← t) (sym h))
 
 module _ (e w v : List ℕ) (j : ℕ) {c : Class} where
-  pub no_role_declaration : c ≡ Declaration → nothing ≡ role_at e w v c j
+  pub no_role : (c ≡ Declaration) ⊎ (c ≡ Unknown) → nothing ≡ role_at e w v c j
   unfolding role_at role_by
-  no_role_declaration h = rw h
-
-  pub no_role_unknown : c ≡ Unknown → nothing ≡ role_at e w v c j
-  unfolding role_at role_by
-  no_role_unknown h = rw h
+  no_role (inl h) = rw h
+  no_role (inr h) = rw h
 
   module _ {n x : Bytes} {r : Role} (p : n ≡ name_at e w j) (t : text_at e w v c j ≡ x) (q : r ≡ role_of n x) where
     pub role_unprefixed : c ≡ Unprefixed → r ≡ role_at e w v c j

@@ -8,13 +8,13 @@ use Rattle.spec.specs.XmlNames.{is_nc_name}
 use Rattle.spec.specs.declared.Verdict.{Verdict}
 use Rattle.spec.specs.declared.Verdict.TheVariants as verdict-is
 use Rattle.spec.specs.XmlLang.{verdict, is_allowed}
-use Rattle.start_attributes.specs.declared.roles.Judgment.{Judgment}
-use Rattle.start_attributes.specs.declared.roles.Judgment.TheVariants.{Good, Stop}
+use Rattle.std.specs.Prelude.{Result, Ok, Err}
+use Rattle.spec.specs.declared.Refusal.{Refusal}
 
 -- a judgment as an answer, whose value is a
-abbrev pub said : {A : Type 0} → Judgment → A → Answer A
-said Good a = good a
-said (Stop r) a = refuse r
+abbrev pub said : {A : Type 0} → Result Unit Refusal → A → Answer A
+said (Ok _) a = good a
+said (Err r) a = refuse r
 
 -- ---- the tests of `judge_label`
 

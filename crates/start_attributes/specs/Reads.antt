@@ -12,11 +12,10 @@ use Rattle.start_names.specs.declared.Class.{Class}
 use Rattle.start_names.specs.Tag.{name_at, value_at, attributes_from, attributes_of, Splits}
 use Rattle.start_names.specs.Found.{scope}
 use Rattle.start_names.specs.Classes.{class_at, Classified}
-use Rattle.start_attributes.specs.declared.roles.Judgment.{Judgment}
-use Rattle.start_attributes.specs.declared.roles.Judgment.TheVariants.{Good, Stop}
 use Rattle.start_attributes.specs.Judgment.{said}
 use Rattle.start_attributes.specs.Places.{places}
 use Rattle.start_attributes.specs.Attributes.{role_at, check_by, check_at, meant_at, meaning_at, meaning_at_lem}
+use Rattle.std.specs.Prelude.{Result, Ok, Err}
 
 -- what the first k attributes mean, where nothing is wrong with them
 unfoldable pub meanings_of : List ℕ → List ℕ → List ℕ → List ℕ → ℕ → List Meaning
@@ -29,18 +28,18 @@ pub record Roles (e w v cs rs : List ℕ) (k : ℕ) : Type 0 where
   pub fine : (j : ℕ) → j < k → check_at e w v (class_at cs j) j ≡ good tt
 
 -- what `read_attribute` does: attribute j has its role in rs behind it, and r is what is wrong with it
-pub record ReadsOne (e w v cs : List ℕ) (j : ℕ) (rs₀ rs : List ℕ) (r : Judgment) : Type 0 where
+pub record ReadsOne (e w v cs : List ℕ) (j : ℕ) (rs₀ rs : List ℕ) (r : Result Unit Refusal) : Type 0 where
   pub role : rs ≡ set rs₀ j (role_number (role_at e w v (class_at cs j) j))
   pub is : said r tt ≡ check_at e w v (class_at cs j) j
 
 -- what `read_attributes` does: r is what is wrong with the first of them that something is wrong with
-pub record Reads (e w v cs : List ℕ) (k : ℕ) (rs₀ rs : List ℕ) (r : Judgment) : Type 0 where
+pub record Reads (e w v cs : List ℕ) (k : ℕ) (rs₀ rs : List ℕ) (r : Result Unit Refusal) : Type 0 where
   pub same : length rs ≡ length rs₀
   pub is : said r (meanings_of e w v cs k) ≡ each (meaning_at e w v cs) (places 0 k)
-  pub roles : r ≡ Good → Roles e w v cs rs k
+  pub roles : r ≡ Ok tt → Roles e w v cs rs k
 
 -- c is the class that was loaded, q the role and b its number
-pub read_one : {e w v cs rs : List ℕ} {j b : ℕ} {c : Class} {q : Role} {r : Judgment} → c ≡ class_at cs j → q ≡ role_at e w v c j → b ≡ role_number q
+pub read_one : {e w v cs rs : List ℕ} {j b : ℕ} {c : Class} {q : Role} {r : Result Unit Refusal} → c ≡ class_at cs j → q ≡ role_at e w v c j → b ≡ role_number q
     → said r tt ≡ check_by c (name_at e w j) q (value_at e w j) → ReadsOne e w v cs j rs (set rs j b) r
 unfolding check_at
 read_one p q n h = record { role = rw (n, q, p); is = h ∙ rw (q, p) }
@@ -76,11 +75,11 @@ module _ {e w v cs : List ℕ} {k : ℕ} {rs₀ : List ℕ} where
   reading_begins h =
       record { upto = omega arith; room = h; same = refl; done = record { room = omega arith; number = λ j l. absurd (omega arith); fine = λ j l. absurd (omega arith) } }
 
-  module _ {rs : List ℕ} {j : ℕ} (h : Reading e w v cs k rs₀ rs j) {qs : List ℕ} {r : Judgment} where
+  module _ {rs : List ℕ} {j : ℕ} (h : Reading e w v cs k rs₀ rs j) {qs : List ℕ} {r : Result Unit Refusal} where
     length_read : ReadsOne e w v cs j rs qs r → length qs ≡ length rs₀
     length_read o = ap length o.role ∙ (simp length-set h.same)
 
-    pub reading_more : j < k → ReadsOne e w v cs j rs qs r → r ≡ Good → Reading e w v cs k rs₀ qs (j + 1)
+    pub reading_more : j < k → ReadsOne e w v cs j rs qs r → r ≡ Ok tt → Reading e w v cs k rs₀ qs (j + 1)
     reading_more l o g =
         record {
           upto = omega arith;
@@ -95,7 +94,7 @@ module _ {e w v cs : List ℕ} {k : ℕ} {rs₀ : List ℕ} where
           };
         }
 
-    pub reading_stops : j < k → ReadsOne e w v cs j rs qs r → (f : Refusal) → r ≡ Stop f → Reads e w v cs k rs₀ qs (Stop f)
+    pub reading_stops : j < k → ReadsOne e w v cs j rs qs r → (f : Refusal) → r ≡ Err f → Reads e w v cs k rs₀ qs (Err f)
     reading_stops l o f g =
         record {
           same = length_read o;
@@ -103,7 +102,7 @@ module _ {e w v cs : List ℕ} {k : ℕ} {rs₀ : List ℕ} where
           roles = λ q. absurd (let z : ◌≡◌ {A = ℕ} 0 1 = cc in omega arith);
         }
 
-  pub reading_done : {rs : List ℕ} {j : ℕ} → Reading e w v cs k rs₀ rs j → k ≤ j → Reads e w v cs k rs₀ rs Good
+  pub reading_done : {rs : List ℕ} {j : ℕ} → Reading e w v cs k rs₀ rs j → k ≤ j → Reads e w v cs k rs₀ rs (Ok tt)
   unfolding meanings_of
   reading_done {rs} {j} h l =
       let q : j ≡ k = omega (arith, h.upto) in
@@ -119,6 +118,6 @@ module _ {e w : List ℕ} {k : ℕ} {v bs : List ℕ} {n : ℕ} {cs : List ℕ} 
   by_places j (suc m) b = rw (by_places (suc j) m (omega arith), ← meaning_at_lem h s j (omega arith))
 
   -- the judgment and the meanings are the definition's
-  pub reads_mean : {rs₀ rs : List ℕ} {r : Judgment} → Reads e w v cs k rs₀ rs r
+  pub reads_mean : {rs₀ rs : List ℕ} {r : Result Unit Refusal} → Reads e w v cs k rs₀ rs r
       → each (meaning (scope e w k v bs n)) (attributes_of e w k) ≡ said r (meanings_of e w v cs k)
   reads_mean o = sym (o.is ∙ by_places 0 k (omega arith))

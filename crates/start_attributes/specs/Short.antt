@@ -1,10 +1,8 @@
 -- Expanded names of at most 1,024 bytes.
-use Rattle.std.specs.Prelude.{◌≡◌, refl, Bool, true, false, ◌&&◌, List, [], ◌∷◌, ◌++◌, eqb, leb, length}
+use Rattle.std.specs.Prelude.{◌≡◌, refl, Bool, true, ◌&&◌, List, [], ◌∷◌, ◌++◌, eqb, leb, length}
 use Rattle.std.proofs.Math.Path.{sym}
-use Rattle.std.proofs.Common.{◌∙◌, arith, le-leb, eq-eqb, ne_eqb}
-use Prim.Native.Nat.{ℕ, zero, suc, ◌+◌, ◌-◌, ◌<◌, ◌≤◌}
-use Rattle.std.proofs.Math.ListN.{length-append}
-use Rattle.std.proofs.lemmas.Bool.{lt-leb}
+use Rattle.std.proofs.Common.{◌∙◌, arith, eq-eqb, ne_eqb}
+use Prim.Native.Nat.{ℕ, zero, suc, ◌+◌, ◌<◌, ◌≤◌}
 use Rattle.spec.specs.Bytes.{Bytes, when◌then◌else◌, those, present, every}
 use Rattle.spec.specs.Limits.{most_name_bytes}
 use Rattle.spec.specs.XmlNames.{prefix_of, local_of}
@@ -24,21 +22,6 @@ short_by c i = when eqb (kind_of c) 2 then leb (length i) most_name_bytes else t
 
 unfoldable pub short_at : List ℕ → List ℕ → List ℕ → List ℕ → ℕ → Bool
 short_at e w v cs j = short_by (class_at cs j) (text_at e w v (class_at cs j) j)
-
--- ---- the tests of `fits`
-
-module _ (a b : Bytes) where
-  pub front_long : 1024 < length a → false ≡ leb (length (a ++ b)) most_name_bytes
-  unfolding most_name_bytes
-  front_long h = sym (lt-leb (length (a ++ b)) 1024 (omega (arith, length-append a b)))
-
-  pub both_long : 1024 - length a < length b → false ≡ leb (length (a ++ b)) most_name_bytes
-  unfolding most_name_bytes
-  both_long h = sym (lt-leb (length (a ++ b)) 1024 (omega (arith, length-append a b)))
-
-  pub both_fit : length a ≤ 1024 → length b ≤ 1024 - length a → true ≡ leb (length (a ++ b)) most_name_bytes
-  unfolding most_name_bytes
-  both_fit h l = sym (le-leb (length (a ++ b)) 1024 (omega (arith, length-append a b)))
 
 -- ---- the tests of `is_short`, by the kind m of class c
 

@@ -17,7 +17,7 @@ ghost use Rattle.start_attributes.specs.Short.{short_by, short_at};
 pub mod roles;
 pub mod vocabulary;
 
-use crate::roles::{Judgment, Role};
+use crate::roles::Role;
 use resolve::Resolved;
 use spec::Refusal;
 use start_names::{Class, XML};
@@ -33,38 +33,28 @@ pub fn read_attributes(
     work: &[u8],
     classes: &[usize],
     roles: &mut [u8],
-) -> Judgment
+) -> Result<(), Refusal>
     requires { k ≤ length roles.old }
     ensures { Reads scratch.now spans.now work.now classes.now k roles.old roles.new result }
 {
-    let mut j = 0;
-    while j < k {
-        match read_attribute(scratch, spans, work, classes, roles, j) {
-            Judgment::Good => {
-                j += 1;
-            }
-            Judgment::Stop(refusal) => {
-                return Judgment::Stop(refusal);
-            }
-        }
+    for j in 0..k {
+        read_attribute(scratch, spans, work, classes, roles, j)?;
     }
-    Judgment::Good
+    Ok(())
 }
 
-// The first of the first k attributes that has the role, from `read_attributes`'s roles; k where none has.
+// The first of the first k attributes that has the role, from `read_attributes`'s roles; k where none has, which start_tag keeps as such a place.
 pub fn first_in(roles: &[u8], k: usize, role: Role) -> usize
     ensures { result ≡ first_in roles.now k (role_is role) }
 {
-    let word = role.word();
+    let word = u8::from(role);
     let within = copy::piece(roles, 0, k);
-    let mut i: usize = 0;
-    while i < within.len() {
+    for i in 0..within.len() {
         if within[i] == word {
             return i;
         }
-        i += 1;
     }
-    i
+    within.len()
 }
 
 // Has each expanded name at most 1,024 bytes? `classes` has the attributes' classes.
@@ -77,13 +67,11 @@ pub fn names_short<'a>(
 ) -> bool
     ensures { result ≡ every (short_at scratch.now spans.now work.now classes.now) (places 0 k) }
 {
-    let mut j = 0;
-    while j < k {
+    for j in 0..k {
         let class = Class::load(classes, j);
         if !is_short(scratch, spans, work, class, j) {
             return false;
         }
-        j += 1;
     }
     true
 }
@@ -96,13 +84,13 @@ fn read_attribute(
     classes: &[usize],
     roles: &mut [u8],
     j: usize,
-) -> Judgment
+) -> Result<(), Refusal>
     requires { j < length roles.old }
     ensures { ReadsOne scratch.now spans.now work.now classes.now j roles.old roles.new result }
 {
     let class = Class::load(classes, j);
     let role = role_at(scratch, spans, work, class, j);
-    roles[j] = role.word();
+    roles[j] = u8::from(role);
     judge_at(scratch, spans, class, role, j)
 }
 
@@ -113,8 +101,7 @@ fn role_at(scratch: &[u8], spans: &[u32], work: &[u8], class: Class, j: usize) -
     let name = start_names::name_of(scratch, spans, j);
     let local = start_names::local_of(scratch, spans, j);
     match class {
-        Class::Declaration => Role::Nothing,
-        Class::Unknown => Role::Nothing,
+        Class::Declaration | Class::Unknown => Role::Nothing,
         Class::Unprefixed => crate::roles::role_of(name, name, b""),
         Class::Xml => crate::roles::role_of(name, &XML, local),
         Class::Own(at, n) => crate::roles::role_of(name, copy::piece(scratch, at, n), local),
@@ -123,11 +110,17 @@ fn role_at(scratch: &[u8], spans: &[u32], work: &[u8], class: Class, j: usize) -
 }
 
 // 8, then what is wrong in its role.
-fn judge_at(scratch: &[u8], spans: &[u32], class: Class, role: Role, j: usize) -> Judgment
+fn judge_at(
+    scratch: &[u8],
+    spans: &[u32],
+    class: Class,
+    role: Role,
+    j: usize,
+) -> Result<(), Refusal>
     ensures { said result tt ≡ check_by class (name_at scratch.now spans.now j) (role_is role) (value_at scratch.now spans.now j) }
 {
     if !is_known(class, start_names::name_of(scratch, spans, j)) {
-        return Judgment::Stop(Refusal::NoNamespace);
+        return Err(Refusal::NoNamespace);
     }
     crate::roles::judge(role, start_names::value_of(scratch, spans, j))
 }
@@ -137,12 +130,9 @@ fn is_known(class: Class, name: &[u8]) -> bool
     ensures { result ≡ known_by class name.now }
 {
     match class {
-        Class::Declaration => true,
         Class::Unknown => false,
         Class::Unprefixed => copy::begins(name, b"xml"),
-        Class::Xml => true,
-        Class::Own(_, _) => true,
-        Class::Held(_, _) => true,
+        Class::Declaration | Class::Xml | Class::Own(_, _) | Class::Held(_, _) => true,
     }
 }
 
@@ -158,14 +148,9 @@ fn is_short<'a>(scratch: &'a [u8], spans: &[u32], work: &'a [u8], class: Class, 
 }
 
 // Have the two joined at most as many bytes as a resolved IRI may have?
+#[tactic(auto, using(std::proofs::lemmas::Bool::Decides::nat_tests), unfolding(spec::specs::Limits::most_name_bytes))]
 fn fits(front: &[u8], back: &[u8]) -> bool
     ensures { result ≡ leb (length (front.now ++ back.now)) most_name_bytes }
 {
-    if Resolved::MOST_BYTES < front.len() {
-        return false;
-    }
-    if Resolved::MOST_BYTES - front.len() < back.len() {
-        return false;
-    }
-    true
+    front.len() <= Resolved::MOST_BYTES && back.len() <= Resolved::MOST_BYTES - front.len()
 }

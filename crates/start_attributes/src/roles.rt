@@ -9,7 +9,7 @@ use crate::vocabulary::RdfTerm;
 use spec::{Refusal, Verdict};
 
 // What an attribute is there for, by its name.
-#[derive(Clone, Copy)]
+#[derive(Clone, Copy, PartialEq, Eq, Debug)]
 pub enum Role {
     Nothing,
     XmlLang,
@@ -26,19 +26,13 @@ pub enum Role {
     Property,
 }
 
-// Nothing is wrong, or what is.
-#[derive(Clone, Copy)]
-pub enum Judgment {
-    Good,
-    Stop(Refusal),
-}
+// The number that stands for a role in the table of an element's attributes.
+impl From<Role> for u8 {
+    ghost from_gives = { λ role word. word ≡ role_number (role_is role) };
 
-impl Role {
-    // The role as a number.
-    pub fn word(self) -> u8
-        ensures { result ≡ role_number (role_is self) }
-    {
-        match self {
+    #[tactic(auto, unfolding(spec::specs::StartTag::role_number))]
+    fn from(role: Role) -> Self {
+        match role {
             Role::Nothing => 0,
             Role::XmlLang => 1,
             Role::XmlBase => 2,
@@ -73,23 +67,23 @@ pub fn role_of(name: &[u8], space: &[u8], local: &[u8]) -> Role
 }
 
 // Is a value good in its role?
-pub fn judge(role: Role, value: &[u8]) -> Judgment
+pub fn judge(role: Role, value: &[u8]) -> Result<(), Refusal>
     ensures { said result tt ≡ judge (role_is role) value.now }
 {
     match role {
-        Role::Nothing => Judgment::Good,
+        Role::Nothing => Ok(()),
         Role::XmlLang => judge_language(value),
         Role::XmlBase => require(iri::is_iri(value), Refusal::BadIri),
         Role::Id => require(utils::is_nc_name(value), Refusal::NotNcName),
         Role::BagId => require(utils::is_nc_name(value), Refusal::NotNcName),
         Role::NodeId => judge_label(value),
-        Role::About => Judgment::Good,
-        Role::Resource => Judgment::Good,
-        Role::Datatype => Judgment::Good,
-        Role::ParseType => Judgment::Good,
-        Role::Type => Judgment::Good,
-        Role::Forbidden => Judgment::Stop(Refusal::Reserved),
-        Role::Property => Judgment::Good,
+        Role::About => Ok(()),
+        Role::Resource => Ok(()),
+        Role::Datatype => Ok(()),
+        Role::ParseType => Ok(()),
+        Role::Type => Ok(()),
+        Role::Forbidden => Err(Refusal::Reserved),
+        Role::Property => Ok(()),
     }
 }
 
@@ -98,56 +92,53 @@ fn attribute_role(term: RdfTerm) -> Role
     ensures { result ≡ attribute_role term }
 {
     match term {
-        RdfTerm::Rdf => Role::Forbidden,
-        RdfTerm::Description => Role::Property,
         RdfTerm::Id => Role::Id,
         RdfTerm::About => Role::About,
         RdfTerm::ParseType => Role::ParseType,
         RdfTerm::Resource => Role::Resource,
         RdfTerm::NodeId => Role::NodeId,
         RdfTerm::Datatype => Role::Datatype,
-        RdfTerm::Li => Role::Forbidden,
         RdfTerm::Type => Role::Type,
-        RdfTerm::AboutEach => Role::Forbidden,
-        RdfTerm::AboutEachPrefix => Role::Forbidden,
         RdfTerm::BagId => Role::BagId,
-        RdfTerm::Other => Role::Property,
+        RdfTerm::Rdf | RdfTerm::Li | RdfTerm::AboutEach | RdfTerm::AboutEachPrefix =>
+            Role::Forbidden,
+        RdfTerm::Description | RdfTerm::Other => Role::Property,
     }
 }
 
 // 9 and 13 of a node's name.
-fn judge_label(value: &[u8]) -> Judgment
+fn judge_label(value: &[u8]) -> Result<(), Refusal>
     ensures { said result tt ≡ judge rdf_node_id value.now }
 {
     if !utils::is_nc_name(value) {
-        return Judgment::Stop(Refusal::NotNcName);
+        return Err(Refusal::NotNcName);
     }
     if label::ends_in_stop(value) {
-        return Judgment::Stop(Refusal::BadLabel);
+        return Err(Refusal::BadLabel);
     }
     if label::is_generated(value) {
-        return Judgment::Stop(Refusal::BadLabel);
+        return Err(Refusal::BadLabel);
     }
-    Judgment::Good
+    Ok(())
 }
 
 // 10 of xml:lang: a tag, and the empty value, by which no language is in force, are good.
-fn judge_language(value: &[u8]) -> Judgment
+fn judge_language(value: &[u8]) -> Result<(), Refusal>
     ensures { said result tt ≡ judge xml_lang value.now }
 {
     match langtag::parse(value) {
-        Verdict::Good => Judgment::Good,
-        Verdict::Clears => Judgment::Good,
-        Verdict::Bad => Judgment::Stop(Refusal::BadLanguage),
+        Verdict::Good => Ok(()),
+        Verdict::Clears => Ok(()),
+        Verdict::Bad => Err(Refusal::BadLanguage),
     }
 }
 
 // This refusal unless the test passed.
-fn require(passed: bool, refusal: Refusal) -> Judgment
+fn require(passed: bool, refusal: Refusal) -> Result<(), Refusal>
     ensures { said result tt ≡ require◌or◌ passed refusal }
 {
     if passed {
-        return Judgment::Good;
+        return Ok(());
     }
-    Judgment::Stop(refusal)
+    Err(refusal)
 }

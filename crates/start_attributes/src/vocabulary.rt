@@ -6,7 +6,7 @@ ghost use Rattle.start_attributes.specs.Vocabulary.{rdf_space, if_named, term_of
 use ntriples::RDF;
 
 // One of them, or any other name.
-#[derive(Clone, Copy)]
+#[derive(Clone, Copy, PartialEq, Eq, Debug)]
 pub enum RdfTerm {
     Rdf,
     Description,

@@ -1,11 +1,12 @@
 -- A start tag that was judged good is carried out: the document behind it keeps the limits, and is what the state means.
-use Rattle.std.specs.Prelude.{ℕ, ◌≡◌, refl, false, List, length, take}
+use Rattle.std.specs.Prelude.{ℕ, ◌≡◌, refl, false, List, length, take, Result, Ok, Err, is_ok}
 use Rattle.std.proofs.Math.Path.{sym, ap}
-use Rattle.std.proofs.Common.{◌∙◌, arith, le-leb}
+use Rattle.std.proofs.Common.{◌∙◌, ap, arith, le-leb}
 use Rattle.std.proofs.Math.Bool.{true}
 use Rattle.std.proofs.Math.Dec.{leb}
 use Rattle.spec.specs.Bytes.{total}
 use Rattle.spec.specs.Numbers.{good}
+use Rattle.spec.specs.declared.Refusal.{Refusal}
 use Rattle.spec.specs.declared.Refusal.TheVariants.{NoRoom}
 use Rattle.spec.specs.Limits as L
 use Rattle.spec.specs.NTriples.{write}
@@ -13,7 +14,7 @@ use Rattle.spec.specs.Pyx.{opening}
 use Rattle.spec.specs.Document.{held_bytes, fits}
 use Rattle.spec.specs.Opening.{Step, enter}
 use Rattle.spec.specs.RdfXml.{on_event}
-use Rattle.state_ids.specs.declared.Added.{Added}
+use Rattle.state_ids.specs.declared.Filled.{Filled}
 use Rattle.state_ids.specs.Ids.{ids_of, room_for, ValidIds, length_ids, total_ids}
 use Rattle.state_ids.specs.Adding.{has_room}
 use Rattle.state.specs.declared.Registers.{Registers}
@@ -22,7 +23,6 @@ use Rattle.state_stack.specs.Calls.{top_frame}
 use Rattle.state_stack.specs.Change.{holds-doc}
 use Rattle.state_inner.specs.Calls.{language_in}
 use Rattle.start_names.specs.Tag.{attributes_of}
-use Rattle.event.specs.declared.Progress.TheVariants.{Stop, Did}
 use Rattle.event.specs.Result.{IdsFit, fits-held, handled, handled_by, concluded, all_fits, no_room}
 use Rattle.event.specs.Progress.{lent, doc_in, Lawful, HandlesAll, stopped}
 use Rattle.start_element.specs.declared.Source.{Source}
@@ -32,7 +32,6 @@ use Rattle.start_element.specs.Laws.{held_with_lem, Commits}
 use Rattle.start_plan.specs.declared.Start.{Start}
 use Rattle.start_plan.specs.Plan.{is_there}
 use Rattle.start_plan.specs.Goes.{lines_by, behind_by, Goes}
-use Rattle.writer.specs.declared.Said.{Said}
 use Rattle.writer.specs.Said.{Says}
 use Rattle.start_commit.specs.Told.{lines_of, lines_are}
 use Rattle.start_commit.specs.Entered.{Enters}
@@ -74,22 +73,23 @@ module _ {x : Start} {r : Registers} {count used : ℕ} {fs bs is w ia il st out
   unfolding doc_in doc_of
   lines_step = ap write (lines_are x (doc_in r count (lent fs bs is w ia il st out)) e v k a cs rs y.valid refl)
 
-  module _ {out' : List ℕ} {s : Said} (p : Says out out' (write (lines_of x (top_frame r fs) (language_in r fs) w e v k a cs rs)) s) where
+  module _ {out' : List ℕ} {s : Result ℕ Refusal} (p : Says out out' (write (lines_of x (top_frame r fs) (language_in r fs) w e v k a cs rs)) s) where
     -- 2
-    pub act_full : s.fits ≡ false
-        → HandlesAll (opening (take m e) (attributes_of e v k)) r count (Stop NoRoom) (lent fs bs is w ia il st out) (lent fs bs is w ia il st out')
-    act_full n =
-        let t : leb (length (write step.0)) (length out) ≡ false = rw (← lines_step) (sym p.answer ∙ n) in
-        rw (p.kept n) (stopped (handled_is ∙ no_room (length out) step behind_fits t))
+    pub act_full : {why : Refusal} → s ≡ Err why
+        → HandlesAll (opening (take m e) (attributes_of e v k)) r count (Err why) (lent fs bs is w ia il st out) (lent fs bs is w ia il st out')
+    act_full {why} n =
+        let t : leb (length (write step.0)) (length out) ≡ false = rw (← lines_step) (sym p.answer ∙ ap is_ok n) in
+        let full : (why ≡ NoRoom) × (out' ≡ out) = rw n at p.cases in
+        rw (full.0, full.1) (stopped (handled_is ∙ no_room (length out) step behind_fits t))
 
     -- done
-    pub act_done : {q : Registers} {t : Added} {fs' bs' w' ia' il' st' : List ℕ} → r.flags.closed ≡ false → s.fits ≡ true
+    pub act_done : {q : Registers} {t : Filled} {fs' bs' w' ia' il' st' : List ℕ} → r.flags.closed ≡ false → {n : ℕ} → s ≡ Ok n
         → Commits r fs bs w e v m k a x.plan.parts x.li x.plan.labels q fs' bs' w' → Enters (maybe x.id e a) count ia il st t ia' il' st'
-        → HandlesAll (opening (take m e) (attributes_of e v k)) r count (Did (record { written = s.written; registers = q; count = t.count; used = t.used }))
+        → HandlesAll (opening (take m e) (attributes_of e v k)) r count (Ok (record { written = n; registers = q; count = t.count; used = t.used }))
         (lent fs bs is w ia il st out) (lent fs' bs' is w' ia' il' st' out')
     unfolding doc_in doc_of
     act_done {q} {t} {fs'} {bs'} {w'} {ia'} {il'} {st'} c f o i =
-        let room : leb (length (write step.0)) (length out) ≡ true = rw (← lines_step) (sym p.answer ∙ f) in
+        let room : leb (length (write step.0)) (length out) ≡ true = rw (← lines_step) (sym p.answer ∙ ap is_ok f) in
         let h = o.holds is y.valid g.iri g.counted g.notes g.noted in
         record {
           frame_words = o.frames;
@@ -103,7 +103,7 @@ module _ {x : Start} {r : Registers} {count used : ℕ} {fs bs is w ia il st out
           cases = record {
             step = step;
             answer = handled_is ∙ all_fits (length out) step behind_fits room;
-            wrote = rw lines_step at (p.wrote f);
+            wrote = rw lines_step at (rw f at p.cases);
             lawful = record { valid = h.valid; table = i.valid };
             mark = o.closed ∙ c;
             doc = holds-doc h (ids_of ia' il' st' t.count) ∙ rw i.means;

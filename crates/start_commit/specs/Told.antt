@@ -14,7 +14,8 @@ use Rattle.state.specs.Meaning.{at, has, span, node_of, subject_of, subject_belo
 use Rattle.state.specs.Valid.{Valid}
 use Rattle.spec.specs.XmlLang.{Language}
 use Rattle.state.specs.Language.{language_of, tag_in_force, in_force_by}
-use Rattle.state.specs.declared.language.Language as force
+use Rattle.state.specs.declared.Span.{Span}
+use Rattle.std.specs.declared.option.Option as std
 use Rattle.state_stack.specs.Calls.{top_frame}
 use Rattle.state_inner.specs.Calls.{language_in}
 use Rattle.state_inner.specs.Laws.{language_read}
@@ -26,7 +27,7 @@ use Rattle.ntriples.specs.Terms.{id_of as given}
 use Rattle.start_attributes.specs.Properties.{properties_from}
 use Rattle.start_element.specs.declared.Source.{Source}
 use Rattle.start_element.specs.declared.Source.TheVariants.{Missing, Own, Made}
-use Rattle.start_element.specs.Element.{text_of, maybe, node_is}
+use Rattle.start_element.specs.Element.{is_blank, text_of, maybe, node_is}
 use Rattle.start_plan.specs.declared.Lines.TheVariants.{Nothing, Object, Resource}
 use Rattle.start_plan.specs.declared.Lines.TheVariants as lines-kind
 use Rattle.start_plan.specs.declared.Start.{Start}
@@ -36,16 +37,16 @@ use Rattle.start_plan.specs.Goes.{told, main_of, object_of, property_of, lines_b
 -- ---- which lines
 
 -- the language in force: its own, or else that around it
-abbrev pub language_by : Start → force.Language → List ℕ → List ℕ → Language
+abbrev pub language_by : Start → std.Option Span → List ℕ → List ℕ → Language
 language_by x l w a = language_of (tag_in_force x.plan.parts.tag l w a)
 
 -- of its node, of its object; of its node as the object of the statement about s
-abbrev pub node_lines : Start → force.Language → List ℕ → List ℕ → List ℕ → ℕ → List ℕ → List ℕ → List ℕ → List Triple
+abbrev pub node_lines : Start → std.Option Span → List ℕ → List ℕ → List ℕ → ℕ → List ℕ → List ℕ → List ℕ → List Triple
 node_lines x l w e v k a cs rs =
     (attribute_lines (main_of x e a) (language_by x l w a) (properties_from e v w cs rs 0 k) ++ type_line (main_of x e a) (maybe x.kind e a))
     ++ type_line (main_of x e a) (given x.named (text_of x.iri e a))
 
-abbrev pub object_lines : Start → force.Language → List ℕ → List ℕ → List ℕ → ℕ → List ℕ → List ℕ → List ℕ → List Triple
+abbrev pub object_lines : Start → std.Option Span → List ℕ → List ℕ → List ℕ → ℕ → List ℕ → List ℕ → List ℕ → List Triple
 object_lines x l w e v k a cs rs =
     attribute_lines (object_of x e a) (language_by x l w a) (properties_from e v w cs rs 0 k) ++ type_line (object_of x e a) (maybe x.kind e a)
 
@@ -53,7 +54,7 @@ abbrev pub resource_lines : Start → Subject → List ℕ → List ℕ → List
 resource_lines x s e a = statement (property_of x e a s) (node (main_of x e a))
 
 -- by the plan, in the element of frame f, where language l is in force
-unfoldable pub lines_of : Start → Frame → force.Language → List ℕ → List ℕ → List ℕ → ℕ → List ℕ → List ℕ → List ℕ → List Triple
+unfoldable pub lines_of : Start → Frame → std.Option Span → List ℕ → List ℕ → List ℕ → ℕ → List ℕ → List ℕ → List ℕ → List Triple
 lines_of x f l w e v k a cs rs =
     told x.plan.lines (main_of x e a) (object_of x e a) (language_by x l w a) (properties_from e v w cs rs 0 k) (maybe x.kind e a)
     (given x.named (text_of x.iri e a)) (property_of x e a (subject_of f w))
@@ -87,17 +88,17 @@ given-text (Made i n) e a = refl
 part_is_lem : (s : Source) (e a : List ℕ) {z : Bytes} {h : Bool} → h ≡ is_there s → z ≡ text_of s e a → given h z ≡ maybe s e a
 part_is_lem s e a o q = rw (o, q) (given-text s e a)
 
-module _ {on : Bool} {d f : List ℕ} {from to : ℕ} (x : Start) (l : force.Language) (w e v : List ℕ) (k : ℕ) (a cs rs : List ℕ) {y z : Bytes} {h : Bool} {n : Node} {s : Bytes}
+module _ {on : Bool} {d f : List ℕ} {from to : ℕ} (x : Start) (l : std.Option Span) (w e v : List ℕ) (k : ℕ) (a cs rs : List ℕ) {y z : Bytes} {h : Bool} {n : Node} {s : Bytes}
     (j : y ≡ tag_in_force x.plan.parts.tag l w a) (o : h ≡ is_there x.kind) (q : z ≡ text_of x.kind e a) where
   pub node-told : {u : Bytes} → n ≡ T.node_for x.plan.parts.blank → s ≡ text_of x.plan.parts.main e a → u ≡ text_of x.iri e a
       → Put on d f from to (write ((attribute_lines (T.subject_of n s) (language_of y) (properties_from e v w cs rs 0 k) ++ type_line (T.subject_of n s) (given h z)) ++ type_line (T.subject_of n s) (given x.named u)))
       → Put on d f from to (write (node_lines x l w e v k a cs rs))
   node-told b c m p = put_as p (rw (node_is_lem x.plan.parts.blank b s, c, m, j, part_is_lem x.kind e a o q))
 
-  pub object-told : n ≡ T.node_for (eqb x.plan.parts.what 2) → s ≡ text_of x.plan.parts.object e a
+  pub object-told : n ≡ T.node_for (is_blank x.plan.parts.what) → s ≡ text_of x.plan.parts.object e a
       → Put on d f from to (write (attribute_lines (T.subject_of n s) (language_of y) (properties_from e v w cs rs 0 k) ++ type_line (T.subject_of n s) (given h z)))
       → Put on d f from to (write (object_lines x l w e v k a cs rs))
-  object-told b c p = put_as p (rw (node_is_lem (eqb x.plan.parts.what 2) b s, c, j, part_is_lem x.kind e a o q))
+  object-told b c p = put_as p (rw (node_is_lem (is_blank x.plan.parts.what) b s, c, j, part_is_lem x.kind e a o q))
 
 -- the bytes from a to b, as they are lent
 pub span-lent : {r : List ℕ} {from n : ℕ} (w : List ℕ) (a b : ℕ) → r ≡ part w from n → from ≡ a → n ≡ b - a → r ≡ span w a b
@@ -116,7 +117,7 @@ resource_told x r w e a {s = s} {o = o} {own = own} b c j q u v t m y =
 
 -- ---- by the plan
 
-module _ (x : Start) (r : Frame) (l : force.Language) (w e v : List ℕ) (k : ℕ) (a cs rs : List ℕ) where
+module _ (x : Start) (r : Frame) (l : std.Option Span) (w e v : List ℕ) (k : ℕ) (a cs rs : List ℕ) where
   pub no_lines : x.plan.lines ≡ Nothing → write (lines_of x r l w e v k a cs rs) ≡ []
   unfolding lines_of told write
   no_lines h = rw h

@@ -20,16 +20,15 @@ ghost use Rattle.start_commit.specs.Entered.{Enters};
 ghost use Rattle.state_words.specs.Parts.{MAIN, ID};
 
 use copy::words::wide;
-use event::{Advance, Progress};
+use event::Advance;
 use ntriples::Node;
 use spec::Refusal;
 use start_element::Source;
 use start_plan::{Lines, Start};
-use state::Registers;
-use state::language::{Language, tag_in_force};
-use state_ids::{Added, IdTable};
+use state::language::tag_in_force;
+use state::{Registers, Span};
+use state_ids::{Filled, IdTable};
 use state_words::Frame;
-use writer::Said;
 
 // 2 where the lines have no room; else they are written, and all is kept.
 pub fn act<'a>(
@@ -52,16 +51,13 @@ pub fn act<'a>(
     classes: &[usize],
     roles: &[u8],
     out: &mut [u8],
-) -> Progress
+) -> Result<Advance, Refusal>
     requires { Lawful r count used (lent frames.old bindings.old inners.now work.old id_at.old id_len.old ids.old out.old) × (r.flags.closed ≡ false) × (r.counts.inner ≡ 0) × Goes x (doc_in r count (lent frames.old bindings.old inners.now work.old id_at.old id_len.old ids.old out.old)) r frames.old bindings.old work.old scratch.now spans.now m k area.now classes.now roles.now count used }
     ensures { HandlesAll (opening (take m scratch.now) (attributes_of scratch.now spans.now k)) r count result (lent frames.old bindings.old inners.now work.old id_at.old id_len.old ids.old out.old) (lent frames.new bindings.new inners.now work.new id_at.new id_len.new ids.new out.new) }
 {
-    let said = say(
+    let written = say(
         out, x, r, frames, work, scratch, spans, k, area, classes, roles,
-    );
-    if !said.fits {
-        return Progress::Stop(Refusal::NoRoom);
-    }
+    )?;
     let plan = x.plan;
     let parts = plan.parts;
     let own_id = x.id;
@@ -80,8 +76,8 @@ pub fn act<'a>(
         plan.labels,
     );
     let table = enter(own_id, count, used, id_at, id_len, ids, scratch, area);
-    Progress::Did(Advance {
-        written: said.written,
+    Ok(Advance {
+        written,
         registers: behind,
         count: table.count,
         used: table.used,
@@ -101,16 +97,13 @@ fn say<'a>(
     area: &'a [u8],
     classes: &[usize],
     roles: &[u8],
-) -> Said
+) -> Result<usize, Refusal>
     ensures { Says out.old out.new (write (lines_of x (top_frame r frames.now) (language_in r frames.now) work.now scratch.now spans.now k area.now classes.now roles.now)) result }
 {
     let plan = x.plan;
     let lines = plan.lines;
     if let Lines::Nothing = lines {
-        return Said {
-            fits: true,
-            written: 0,
-        };
+        return Ok(0);
     }
     let around = state_stack::top(r, frames);
     let language = state_inner::language_in_force(r, frames);
@@ -119,25 +112,16 @@ fn say<'a>(
         &mut draft, true, x, around, language, work, scratch, spans, k, area, classes, roles,
     );
     if out.len() < size {
-        return Said {
-            fits: false,
-            written: 0,
-        };
+        return Err(Refusal::NoRoom);
     }
     if size <= writer::DRAFT {
         copy::put(out, 0, &draft[..size]);
-        return Said {
-            fits: true,
-            written: size,
-        };
+        return Ok(size);
     }
     let written = tell(
         out, true, x, around, language, work, scratch, spans, k, area, classes, roles,
     );
-    Said {
-        fits: true,
-        written,
-    }
+    Ok(written)
 }
 
 // The lines of a start tag in the element of frame `around`; `language` is in force there.
@@ -146,7 +130,7 @@ fn tell<'a>(
     on: bool,
     x: Start,
     around: Frame,
-    language: Language,
+    language: Option<Span>,
     work: &'a [u8],
     scratch: &'a [u8],
     spans: &[u32],
@@ -176,7 +160,7 @@ fn tell_node<'a>(
     out: &mut [u8],
     on: bool,
     x: Start,
-    language: Language,
+    language: Option<Span>,
     work: &'a [u8],
     scratch: &'a [u8],
     spans: &[u32],
@@ -210,7 +194,7 @@ fn tell_object<'a>(
     out: &mut [u8],
     on: bool,
     x: Start,
-    language: Language,
+    language: Option<Span>,
     work: &'a [u8],
     scratch: &'a [u8],
     spans: &[u32],
@@ -226,7 +210,7 @@ fn tell_object<'a>(
     let object = parts.object;
     let tag = parts.tag;
     let kind = x.kind;
-    let node = Node::of(parts.what == 2);
+    let node = Node::of(parts.what.is_blank());
     let subject = start_element::text(object, scratch, area);
     let spoken = tag_in_force(tag, language, work, area);
     let typed = start_plan::is_there(kind);
@@ -279,7 +263,7 @@ fn main_of(f: Frame, work: &[u8]) -> &[u8]
     copy::piece(work, from, to - from)
 }
 
-// The rdf:ID is entered, if there is one.
+// The rdf:ID is entered, if there is one; how far the table is filled then.
 fn enter<'a>(
     id: Source,
     count: usize,
@@ -289,23 +273,14 @@ fn enter<'a>(
     ids: &mut [u8],
     scratch: &'a [u8],
     area: &'a [u8],
-) -> Added
+) -> Filled
     requires { ValidIds count used id_at.old id_len.old ids.old × (is_there id ≡ true → room_for count used (length (text_of id scratch.now area.now)) ≡ true) }
     ensures { Enters (maybe id scratch.now area.now) count id_at.old id_len.old ids.old result id_at.new id_len.new ids.new }
 {
+    let filled = Filled { count, used };
     if !start_plan::is_there(id) {
-        return Added {
-            ok: true,
-            count,
-            used,
-        };
+        return filled;
     }
-    state_ids::add(
-        count,
-        used,
-        id_at,
-        id_len,
-        ids,
-        start_element::text(id, scratch, area),
-    )
+    let text = start_element::text(id, scratch, area);
+    state_ids::add(count, used, id_at, id_len, ids, text).unwrap_or(filled)
 }

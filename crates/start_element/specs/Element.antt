@@ -1,5 +1,5 @@
 -- The element that a start tag outside Literal content opens: said by the decoded event, by what was made for it, and by where its parts are.
-use Rattle.std.specs.Prelude.{◌≡◌, Bool, false, List, [], ℕ, eqb, take}
+use Rattle.std.specs.Prelude.{◌≡◌, Bool, true, false, List, [], ℕ, eqb, take}
 use Rattle.std.proofs.Math.Option.{Option, none, some}
 use Rattle.spec.specs.Bytes.{Bytes}
 use Rattle.spec.specs.NTriples.{Subject, named, blank}
@@ -16,6 +16,27 @@ use Rattle.start_names.specs.Tag.{attributes_of}
 use Rattle.start_element.specs.declared.Source.{Source}
 use Rattle.start_element.specs.declared.Source.TheVariants.{Missing, Own, Made}
 use Rattle.start_element.specs.declared.Parts.{Parts}
+use Rattle.start_element.specs.declared.Pending.{Pending}
+use Rattle.start_element.specs.declared.Pending.TheVariants.{Absent, Named, Blank, Awaited}
+
+-- the word of a frame for an object, or for what a packet remembers
+abbrev pub word_of : Pending → ℕ
+word_of Absent = 0
+word_of Named = 1
+word_of Blank = 2
+word_of Awaited = 1
+
+abbrev pub is_absent : Pending → Bool
+is_absent Absent = true
+is_absent Named = false
+is_absent Blank = false
+is_absent Awaited = false
+
+abbrev pub is_blank : Pending → Bool
+is_blank Absent = false
+is_blank Named = false
+is_blank Blank = true
+is_blank Awaited = false
 
 -- the bytes of a part, of a decoded event e and an area a; what is missing is empty
 unfoldable pub text_of : Source → List ℕ → List ℕ → Bytes
@@ -41,7 +62,7 @@ property_is p e a s = record { subject = s; iri = text_of p.main e a; id = maybe
 unfoldable pub kind_is : Kind → Parts → List ℕ → List ℕ → Subject → What
 kind_is Rdf p e a s = rdf_rdf
 kind_is NodeElt p e a s = node_element (node_is p.blank (text_of p.main e a)) 0
-kind_is PropertyElt p e a s = property_element (property_is p e a s) (default (maybe p.datatype e a) (object_of p.what (text_of p.object e a)))
+kind_is PropertyElt p e a s = property_element (property_is p e a s) (default (maybe p.datatype e a) (object_of (word_of p.what) (text_of p.object e a)))
 kind_is ParseTypeCollectionPropertyElt p e a s = property_element (property_is p e a s) (collection [])
 kind_is ParseTypeLiteralPropertyElt p e a s = property_element (property_is p e a s) (literal [])
 kind_is ParseTypeOtherPropertyElt p e a s = property_element (property_is p e a s) other
@@ -49,8 +70,8 @@ kind_is Wrapper p e a s = wrapper false
 
 -- what it is in a packet: 0 nothing, 1 without a child so far
 unfoldable pub part_is : Kind → Parts → List ℕ → List ℕ → Part
-part_is Rdf p e a = pick (eqb p.what 0) ordinary (top_level (pick (eqb p.what 1) none (some (text_of p.object e a))))
-part_is NodeElt p e a = pick (eqb p.what 0) ordinary (alternatives (pick (eqb p.what 1) none (some (eqb p.what 3))))
+part_is Rdf p e a = pick (eqb (word_of p.what) 0) ordinary (top_level (pick (eqb (word_of p.what) 1) none (some (text_of p.object e a))))
+part_is NodeElt p e a = pick (eqb (word_of p.what) 0) ordinary (alternatives (pick (eqb (word_of p.what) 1) none (some (eqb (word_of p.what) 3))))
 part_is PropertyElt p e a = ordinary
 part_is ParseTypeCollectionPropertyElt p e a = ordinary
 part_is ParseTypeLiteralPropertyElt p e a = ordinary
@@ -73,7 +94,7 @@ new_element e w m k a p s =
 abbrev pub Lacks : Kind → Parts → Type 0
 Lacks Rdf p = (p.main ≡ Missing) × (p.id ≡ Missing) × (p.datatype ≡ Missing) × (p.object ≡ Missing)
 Lacks NodeElt p = (p.id ≡ Missing) × (p.datatype ≡ Missing) × (p.object ≡ Missing)
-Lacks PropertyElt p = p.what ≡ 0 → p.object ≡ Missing
+Lacks PropertyElt p = word_of p.what ≡ 0 → p.object ≡ Missing
 Lacks ParseTypeCollectionPropertyElt p = (p.datatype ≡ Missing) × (p.object ≡ Missing)
 Lacks ParseTypeLiteralPropertyElt p = (p.datatype ≡ Missing) × (p.object ≡ Missing)
 Lacks ParseTypeOtherPropertyElt p = (p.datatype ≡ Missing) × (p.object ≡ Missing)

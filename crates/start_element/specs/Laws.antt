@@ -1,5 +1,5 @@
 -- What `open` and `commit` do to a valid state, said of the document that it means. These are the laws to cite.
-use Rattle.std.specs.Prelude.{◌≡◌, Bool, true, false, ◌⊎◌, ℕ, zero, suc, ◌+◌, ◌-◌, ◌*◌, ◌<◌, ◌≤◌, take, get_or}
+use Rattle.std.specs.Prelude.{◌≡◌, Option, unwrap_or, Bool, true, false, ◌⊎◌, ℕ, zero, suc, ◌+◌, ◌-◌, ◌*◌, ◌<◌, ◌≤◌, take, get_or}
 use Rattle.std.proofs.Math.Path.{refl, ap}
 use Rattle.std.proofs.Common.{sym, ◌∙◌, inl, inr, eq-eqb, ne_eqb, le-leb, lt-ltb}
 use Rattle.std.proofs.lemmas.Bool.{false≢true}
@@ -28,7 +28,6 @@ use Rattle.state.specs.Valid.{is_node, node_below, stands, Rising, Valid}
 use Rattle.state.specs.Language.{is_said}
 use Rattle.state.specs.Held.{held}
 use Rattle.state.specs.Stay.{bindings_kept}
-use Rattle.state_stack.specs.declared.Changed.{Changed}
 use Rattle.state_stack.specs.Change.{Holds, flat, labelled_to, labelled-holds, top_element}
 use Rattle.state_stack.specs.Calls.{frame_of, Pushes, may_push, top_frame, same_kind, CountsLi, may_count}
 use Rattle.state_stack.specs.Laws.{Bound, New, push_holds, top_deep, topmost, Numbered, li_may, li-holds, by}
@@ -183,8 +182,8 @@ module _ {r : Registers} {fs bs w e s : List ℕ} {m k : ℕ} {a : List ℕ} {p 
                 nothing = lays_nothing l r.counts.outer p.kind y.fitting.lacks;
               }
 
-          pub opens : {hs gs : List ℕ} {c : Changed} → hs ≡ marks_of p r.counts.outer → Pushes r fs (frame_of p.kind pl hs) q.row c gs
-              → Opens r fs bs w e s m k a p c.registers gs cs v
+          pub opens : {hs gs : List ℕ} {c : Option Registers} → hs ≡ marks_of p r.counts.outer → Pushes r fs (frame_of p.kind pl hs) q.row c gs
+              → Opens r fs bs w e s m k a p (unwrap_or c r) gs cs v
           opens {hs} {gs} {c} j o =
               let o' : Pushes r fs (frame_is p pl r.counts.outer) q.row c gs = rw j at o in
               let ok : may_push r fs ≡ true = may_push_lem r fs y.inner y.depth y.frame_words in

@@ -1,5 +1,6 @@
 -- The frame of a new element: its parts written one behind the other, where they start, and what is there.
 use Rattle.std.specs.Prelude.{◌≡◌, Bool, List, [], ◌∷◌, ◌++◌, ℕ, ◌+◌, ◌≤◌, length, get_or}
+use Rattle.std.specs.Int.{from_bool}
 use Rattle.std.proofs.Math.Path.{refl}
 use Rattle.std.proofs.Math.Bool.{true, false}
 use Rattle.std.proofs.Common.{arith}
@@ -25,7 +26,7 @@ use Rattle.state_stack.specs.Calls.{frame_of}
 use Rattle.start_element.specs.declared.Source.{Source}
 use Rattle.start_element.specs.declared.Source.TheVariants.{Missing, Own, Made}
 use Rattle.start_element.specs.declared.Parts.{Parts}
-use Rattle.start_element.specs.Element.{text_of, maybe, node_is, property_is, kind_is, part_is, Lacks}
+use Rattle.start_element.specs.Element.{word_of, text_of, maybe, node_is, property_is, kind_is, part_is, Lacks}
 use Rattle.start_element.specs.Sizes.{parts_bytes, missing_size}
 
 -- ---- the parts, written
@@ -143,17 +144,13 @@ mark_of Missing = 0
 mark_of (Own i n) = 1
 mark_of (Made i n) = 1
 
-abbrev pub bit_of : Bool → ℕ
-bit_of true = 1
-bit_of false = 0
-
 abbrev pub marks_of : Parts → ℕ → List ℕ
 marks_of p first =
-    mark_of p.base ∷ L.mark_of p.tag ∷ bit_of p.blank ∷ mark_of p.id ∷ mark_of p.datatype ∷ p.what ∷ 0 ∷ first ∷ []
+    mark_of p.base ∷ L.mark_of p.tag ∷ from_bool p.blank ∷ mark_of p.id ∷ mark_of p.datatype ∷ word_of p.what ∷ 0 ∷ first ∷ []
 
-pub marks_are : {a b c d e : ℕ} (p : Parts) (first : ℕ) → a ≡ mark_of p.base → b ≡ L.mark_of p.tag → c ≡ bit_of p.blank → d ≡ mark_of p.id → e ≡ mark_of p.datatype
-    → ◌≡◌ {A = List ℕ} (a ∷ b ∷ c ∷ d ∷ e ∷ p.what ∷ 0 ∷ first ∷ []) (marks_of p first)
-marks_are p first x y z u v = rw (x, y, z, u, v)
+pub marks_are : {a b c d e f : ℕ} (p : Parts) (first : ℕ) → a ≡ mark_of p.base → b ≡ L.mark_of p.tag → c ≡ from_bool p.blank → d ≡ mark_of p.id → e ≡ mark_of p.datatype → f ≡ word_of p.what
+    → ◌≡◌ {A = List ℕ} (a ∷ b ∷ c ∷ d ∷ e ∷ f ∷ 0 ∷ first ∷ []) (marks_of p first)
+marks_are p first x y z u v w = rw (x, y, z, u, v, w)
 
 -- ---- what the frame then says
 
@@ -177,7 +174,7 @@ empty_own a Unsaid x y h = eq-eqb x y (omega arith)
 empty_own a Cleared x y h = refl
 empty_own a (Given i n) x y h = refl
 
-node_is_lem : (b : Bool) (s : Bytes) → node_of (bit_of b) s ≡ node_is b s
+node_is_lem : (b : Bool) (s : Bytes) → node_of (from_bool b) s ≡ node_is b s
 unfolding node_of node_is
 node_is_lem true s = refl
 node_is_lem false s = refl
@@ -224,7 +221,7 @@ module _ {w v e a : List ℕ} {p : Parts} {name bound from : ℕ} {at' : List �
       (omega (arith, l.id_at, l.type_at, l.tail_at, l.end_at, missing_size e a z.0, missing_size e a z.1, missing_size e a z.2, missing_size e a z.3))
   lays_kind NodeElt z =
       rw (eq-eqb (get_or at' ID 0) (get_or at' END 0) (omega (arith, l.type_at, l.tail_at, l.end_at, missing_size e a z.0, missing_size e a z.1, missing_size e a z.2)))
-  lays_kind PropertyElt z = object_or p.what z
+  lays_kind PropertyElt z = object_or (word_of p.what) z
   lays_kind ParseTypeCollectionPropertyElt z =
       rw (
         eq-eqb (get_or at' DATATYPE 0) (get_or at' TAIL 0) (omega (arith, l.tail_at, missing_size e a z.0)),

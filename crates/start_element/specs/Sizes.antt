@@ -25,7 +25,7 @@ use Rattle.start_names.specs.Declarations.{binding}
 use Rattle.start_element.specs.declared.Source.{Source}
 use Rattle.start_element.specs.declared.Source.TheVariants.{Missing, Own, Made}
 use Rattle.start_element.specs.declared.Parts.{Parts}
-use Rattle.start_element.specs.Element.{text_of, maybe, node_is, property_is, kind_is, new_element, Lacks, Fitting}
+use Rattle.start_element.specs.Element.{word_of, text_of, maybe, node_is, property_is, kind_is, new_element, Lacks, Fitting}
 
 -- ---- what the caller knows: sums of a few lengths fit a number
 
@@ -157,7 +157,7 @@ module _ (p : Parts) (e a : List ℕ) (s : Subject) where
   kind-size Rdf l = omega (arith, missing_size e a l.0, missing_size e a l.1, missing_size e a l.2, missing_size e a l.3)
   kind-size NodeElt l = omega (arith, node-size p.blank (text_of p.main e a), missing_size e a l.0, missing_size e a l.1, missing_size e a l.2)
   kind-size PropertyElt l =
-      omega (arith, maybe-size p.id e a, maybe-size p.datatype e a, object-size p.what (text_of p.object e a) (λ z. missing_size e a (l z)))
+      omega (arith, maybe-size p.id e a, maybe-size p.datatype e a, object-size (word_of p.what) (text_of p.object e a) (λ z. missing_size e a (l z)))
   kind-size ParseTypeCollectionPropertyElt l = omega (arith, maybe-size p.id e a, missing_size e a l.0, missing_size e a l.1)
   kind-size ParseTypeLiteralPropertyElt l = omega (arith, maybe-size p.id e a, missing_size e a l.0, missing_size e a l.1)
   kind-size Wrapper l = omega (arith, missing_size e a l.0, missing_size e a l.1, missing_size e a l.2, missing_size e a l.3)

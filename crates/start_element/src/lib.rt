@@ -8,10 +8,10 @@ ghost use Rattle.spec.specs.Namespaces.{declared};
 ghost use Rattle.spec.specs.Document.{binding_bytes};
 ghost use Rattle.start_names.specs.Tag.{attribute_at, attributes_of};
 ghost use Rattle.start_names.specs.Declarations.{bindings_in};
-ghost use Rattle.start_element.specs.Element.{text_of, Fitting};
+ghost use Rattle.start_element.specs.Element.{text_of, Fitting, word_of, is_absent, is_blank};
 ghost use Rattle.start_element.specs.Sizes.{Short, Measures, bytes_in, parts_bytes};
 ghost use Rattle.start_element.specs.Rows.{Fits, BindsAt, Entered};
-ghost use Rattle.start_element.specs.Places.{Room, Puts, Spread, Lays, mark_of, bit_of, marks_of};
+ghost use Rattle.start_element.specs.Places.{Room, Puts, Spread, Lays, mark_of, marks_of};
 ghost use Rattle.start_element.specs.Laws.{Ready, Opens, Granted, Commits, CountsIf, NotesIf, NotesLiIf};
 ghost use Rattle.state.specs.Language.{is_said};
 
@@ -19,16 +19,27 @@ use state::Registers;
 use state::language::Own;
 use state_words::{Frame, Kind};
 
-// Where a part of a new element is: missing, in the decoded event, or in the area of what was made for it; start and length.
-#[derive(Clone, Copy)]
+// Where a part of a new element is: missing, in the decoded event, or in the area of what was made for it; start and length. One enum of
+// three, as an Option of two places is no plainer: each match has the same three arms, one inside another.
+#[derive(Clone, Copy, PartialEq, Eq, Debug)]
 pub enum Source {
     Missing,
     Own(usize, usize),
     Made(usize, usize),
 }
 
+// What the frame of a new element says of its object: there is none, a named node, a blank one. Or of what a packet remembers: nothing, or
+// that the first child is awaited.
+#[derive(Clone, Copy, PartialEq, Eq, Debug)]
+pub enum Pending {
+    Absent,
+    Named,
+    Blank,
+    Awaited,
+}
+
 // The parts of a new element. `base` is its own xml:base, and `tag` what it says of its language; `main` is a node's subject, `blank` says
-// whether it is a label, or a property's IRI; `what` is the object's kind: 0 none, 1 a named node, 2 a blank one.
+// whether it is a label, or a property's IRI; `what` is what its frame says of its object, or of a packet.
 #[derive(Clone, Copy)]
 pub struct Parts {
     pub kind: Kind,
@@ -38,15 +49,43 @@ pub struct Parts {
     pub main: Source,
     pub id: Source,
     pub datatype: Source,
-    pub what: u32,
+    pub what: Pending,
     pub object: Source,
 }
 
 // Where the next binding goes: its bytes, and its row.
-#[derive(Clone, Copy)]
+#[derive(Clone, Copy, PartialEq, Eq, Debug)]
 pub struct Next {
     pub at: usize,
     pub row: usize,
+}
+
+// The word for it in a frame, where objects and packets have one place.
+impl From<Pending> for u32 {
+    ghost from_gives = { λ pending word. word ≡ word_of pending };
+
+    fn from(pending: Pending) -> Self {
+        match pending {
+            Pending::Absent => Frame::ORDINARY,
+            Pending::Named => 1,
+            Pending::Blank => 2,
+            Pending::Awaited => Frame::AWAITED,
+        }
+    }
+}
+
+impl Pending {
+    pub fn is_absent(self) -> bool
+        ensures { result ≡ is_absent self }
+    {
+        self == Pending::Absent
+    }
+
+    pub fn is_blank(self) -> bool
+        ensures { result ≡ is_blank self }
+    {
+        self == Pending::Blank
+    }
 }
 
 // The bytes of a part; of a part that runs past the end, what there is of it.
@@ -76,10 +115,8 @@ pub fn declared_size(scratch: &[u8], spans: &[u32], k: usize) -> usize
     ensures { result ≡ total binding_bytes (declared (attributes_of scratch.now spans.now k)) }
 {
     let mut n: usize = 0;
-    let mut j = 0;
-    while j < k {
+    for j in 0..k {
         n += bytes_at(scratch, spans, j);
-        j += 1;
     }
     n
 }
@@ -136,8 +173,7 @@ pub fn open<'a>(
     let at = lay(work, top, from.at, next.at, scratch, area, parts);
     let has = marks(parts, r.counts.outer);
     let kind = parts.kind;
-    let c = state_stack::push(r, frames, kind, at, has, next.row);
-    c.registers
+    state_stack::push(r, frames, kind, at, has, next.row).unwrap_or(r)
 }
 
 // The bindings that the first k attributes declare, the last one first. Answers where the next one would go.
@@ -153,9 +189,7 @@ pub fn bind_all(
     ensures { Entered work.old bindings.old work.new bindings.new from result (declared (attributes_of scratch.now spans.now k)) }
 {
     let mut next = from;
-    let mut j = k;
-    while 0 < j {
-        j -= 1;
+    for j in (0..k).rev() {
         next = bind_at(work, bindings, next, scratch, spans, j);
     }
     next
@@ -184,11 +218,7 @@ fn parts_size(scratch: &[u8], area: &[u8], parts: Parts) -> usize
 fn text_size(source: Source, scratch: &[u8], area: &[u8]) -> usize
     ensures { result ≡ length (text_of source scratch.now area.now) }
 {
-    match source {
-        Source::Missing => 0,
-        Source::Own(at, n) => copy::piece(scratch, at, n).len(),
-        Source::Made(at, n) => copy::piece(area, at, n).len(),
-    }
+    text(source, scratch, area).len()
 }
 
 // The bytes of the binding that attribute j declares.
@@ -343,10 +373,10 @@ fn marks(parts: Parts, first: usize) -> [u32; Frame::MARKS]
     [
         mark(base),
         tag.mark(),
-        bit(parts.blank),
+        u32::from(parts.blank),
         mark(id),
         mark(datatype),
-        parts.what,
+        u32::from(parts.what),
         0,
         first as u32,
     ]
@@ -358,13 +388,6 @@ fn mark(source: Source) -> u32
 {
     match source {
         Source::Missing => 0,
-        Source::Own(_, _) => 1,
-        Source::Made(_, _) => 1,
+        Source::Own(_, _) | Source::Made(_, _) => 1,
     }
-}
-
-fn bit(b: bool) -> u32
-    ensures { result ≡ bit_of b }
-{
-    if b { 1 } else { 0 }
 }

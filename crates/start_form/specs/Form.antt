@@ -21,8 +21,8 @@ use Rattle.start_names.specs.Found.{scope}
 use Rattle.start_names.specs.Pairs.{behind, pairs}
 use Rattle.start_names.specs.Classes.{same_keys, Classified, Classifies, expanded_means}
 use Rattle.start_form.specs.Order.{Starts, WellFormed, second_root, illegal, repeats, too_many}
-use Rattle.start_form.specs.declared.Form.{Form}
-use Rattle.start_form.specs.declared.Form.TheVariants.{Stop, Good}
+use Rattle.std.specs.Prelude.{Result, Ok, Err}
+use Rattle.spec.specs.declared.Refusal.{Refusal}
 
 -- a decoded start tag: its name is the first m bytes of e, with colon word c; its k attributes are where the words w say
 pub record Decoded (e w : List ℕ) (m c k : ℕ) : Type 0 where
@@ -137,11 +137,11 @@ pub record Formed (r : Registers) (fs bs is w e v : List ℕ) (m k : ℕ) (cs : 
   pub deep : r.counts.depth < 64
   pub bound : length (declared (attributes_of e v k)) + r.counts.bindings ≤ 128
 
-abbrev pub Forms : Form → Registers → List ℕ → List ℕ → List ℕ → List ℕ → List ℕ → List ℕ → ℕ → ℕ → List ℕ → Type 0
-Forms (Stop x) r fs bs is w e v m k cs = (ids : List Bytes) → on_opening (take m e) (attributes_of e v k) (doc_of r fs bs is w ids) ≡ refuse x
-Forms Good r fs bs is w e v m k cs = Formed r fs bs is w e v m k cs
+abbrev pub Forms : Result Unit Refusal → Registers → List ℕ → List ℕ → List ℕ → List ℕ → List ℕ → List ℕ → ℕ → ℕ → List ℕ → Type 0
+Forms (Err x) r fs bs is w e v m k cs = (ids : List Bytes) → on_opening (take m e) (attributes_of e v k) (doc_of r fs bs is w ids) ≡ refuse x
+Forms (Ok _) r fs bs is w e v m k cs = Formed r fs bs is w e v m k cs
 
-pub record Checks (f : Form) (r : Registers) (fs bs is w e v : List ℕ) (m k : ℕ) (cs ds : List ℕ) : Type 0 where
+pub record Checks (f : Result Unit Refusal) (r : Registers) (fs bs is w e v : List ℕ) (m k : ℕ) (cs ds : List ℕ) : Type 0 where
   pub cases : Forms f r fs bs is w e v m k ds
   pub same : length ds ≡ length cs
 
@@ -160,7 +160,7 @@ module _ {r : Registers} {fs bs is w e v : List ℕ} {m c k : ℕ} {cs : List �
   unfolding doc_of
   starts ids = record { at = refl; outer = a.outer }
 
-  pub form_second : {t : Bool} → t ≡ (r.flags.rooted && eqb r.counts.depth 0) → t ≡ true → Checks (Stop NotWellFormed) r fs bs is w e v m k cs cs
+  pub form_second : {t : Bool} → t ≡ (r.flags.rooted && eqb r.counts.depth 0) → t ≡ true → Checks (Err NotWellFormed) r fs bs is w e v m k cs cs
   form_second q h = record { cases = λ ids. second_root (starts ids) (second_read r fs bs is w ids a.flat ∙ (sym q ∙ h)); same = refl }
 
   module _ {o : Bool} (s : o ≡ (r.flags.rooted && eqb r.counts.depth 0)) (n : o ≡ false) where
@@ -178,7 +178,7 @@ module _ {r : Registers} {fs bs is w e v : List ℕ} {m c k : ℕ} {cs : List �
       fault h ids false l = illegal (starts ids) (f ids) l
       fault h ids true l = repeats (starts ids) (f ids) l (twice ids l ∙ h)
 
-      pub form_fault : t ≡ true → Checks (Stop NotWellFormed) r fs bs is w e v m k cs ds
+      pub form_fault : t ≡ true → Checks (Err NotWellFormed) r fs bs is w e v m k cs ds
       form_fault h = record { cases = λ ids. fault h ids _ refl; same = z.same }
 
       module _ (h : t ≡ false) where
@@ -191,13 +191,13 @@ module _ {r : Registers} {fs bs is w e v : List ℕ} {m c k : ℕ} {cs : List �
         unfolding doc_of
         many ids x = too_many (well ids) x
 
-        pub form_deep : 64 ≤ r.counts.depth → Checks (Stop OverLimit) r fs bs is w e v m k cs ds
+        pub form_deep : 64 ≤ r.counts.depth → Checks (Err OverLimit) r fs bs is w e v m k cs ds
         form_deep g = record { cases = λ ids. many ids (counts_deep a.valid e v k (omega arith)); same = z.same }
 
-        pub form_bound : {i : ℕ} → r.counts.depth < 64 → i ≡ length (declared (attributes_of e v k)) → 128 < i + r.counts.bindings → Checks (Stop OverLimit) r fs bs is w e v m k cs ds
+        pub form_bound : {i : ℕ} → r.counts.depth < 64 → i ≡ length (declared (attributes_of e v k)) → 128 < i + r.counts.bindings → Checks (Err OverLimit) r fs bs is w e v m k cs ds
         form_bound g p b = record { cases = λ ids. many ids (counts-bound a.valid e v k (omega (arith, a.flat)) a.tag.few (omega arith)); same = z.same }
 
-        pub form_good : {i : ℕ} → r.counts.depth < 64 → i ≡ length (declared (attributes_of e v k)) → i + r.counts.bindings ≤ 128 → Checks Good r fs bs is w e v m k cs ds
+        pub form_good : {i : ℕ} → r.counts.depth < 64 → i ≡ length (declared (attributes_of e v k)) → i + r.counts.bindings ≤ 128 → Checks (Ok tt) r fs bs is w e v m k cs ds
         form_good g p b =
             record {
               cases = record {

@@ -147,10 +147,7 @@ fn is_xml(place: Place) -> bool
     ensures { result ≡ is_xml_at place }
 {
     match place {
-        Place::Outside => false,
-        Place::Nodes => false,
-        Place::Properties => false,
-        Place::NodesOrText => false,
+        Place::Outside | Place::Nodes | Place::Properties | Place::NodesOrText => false,
         Place::Xml => true,
     }
 }

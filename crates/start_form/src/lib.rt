@@ -12,14 +12,7 @@ use spec::Refusal;
 use state::Registers;
 use state_words::{Frame, Row};
 
-// Is a start tag well-formed where it stands, and do the counts fit?
-#[derive(Clone, Copy)]
-pub enum Form {
-    Stop(Refusal),
-    Good,
-}
-
-// 6 and the counts (7). `classes` gets what is known of each attribute's name.
+// Is a start tag well-formed where it stands, and do the counts fit? 6 and the counts (7). `classes` gets what is known of each attribute's name.
 pub fn check_form<'a>(
     r: Registers,
     frames: &[u32],
@@ -32,12 +25,12 @@ pub fn check_form<'a>(
     c: usize,
     k: usize,
     classes: &mut [usize],
-) -> Form
+) -> Result<(), Refusal>
     requires { Asked r frames.now bindings.now inners.now work.now scratch.now spans.now m c k classes.old }
     ensures { Checks result r frames.now bindings.now inners.now work.now scratch.now spans.now m k classes.old classes.new }
 {
     if is_second_root(r) {
-        return Form::Stop(Refusal::NotWellFormed);
+        return Err(Refusal::NotWellFormed);
     }
     if has_fault(
         scratch,
@@ -48,19 +41,19 @@ pub fn check_form<'a>(
         r.counts.bindings,
         classes,
     ) {
-        return Form::Stop(Refusal::NotWellFormed);
+        return Err(Refusal::NotWellFormed);
     }
     if r.counts.depth >= Frame::MOST {
-        return Form::Stop(Refusal::OverLimit);
+        return Err(Refusal::OverLimit);
     }
     let n = start_names::count_declared(scratch, spans, k);
     if r.counts.bindings > Row::MOST_BINDINGS {
-        return Form::Stop(Refusal::OverLimit);
+        return Err(Refusal::OverLimit);
     }
     if n > Row::MOST_BINDINGS - r.counts.bindings {
-        return Form::Stop(Refusal::OverLimit);
+        return Err(Refusal::OverLimit);
     }
-    Form::Good
+    Ok(())
 }
 
 // Where nothing stands open inside Literal content.

@@ -30,12 +30,10 @@ pub fn repeated<'a>(
     let mut near = [0u64; PLACES];
     let mut far = [0u64; PLACES];
     mark_all(scratch, spans, k, work, classes, &mut near, &mut far);
-    let mut j = 0;
-    while j < k {
+    for j in 0..k {
         if repeated_behind(scratch, spans, k, work, classes, &near, &far, j) {
             return true;
         }
-        j += 1;
     }
     false
 }
@@ -53,14 +51,12 @@ fn mark_all<'a>(
     requires { Room k near.old far.old }
     ensures { Marks scratch.now spans.now work.now classes.now k near.old far.old near.new far.new }
 {
-    let mut j = 0;
-    while j < k {
+    for j in 0..k {
         let class = Class::load(classes, j);
         let space = start_names::space_of(class, scratch, work, &XML);
         let name = start_names::tail_of(class, scratch, spans, j);
         near[j] = mark(space, name, 0);
         far[j] = mark(space, name, BYTES);
-        j += 1;
     }
 }
 
@@ -82,6 +78,7 @@ fn repeated_behind<'a>(
     let space = start_names::space_of(class, scratch, work, &XML);
     let name = start_names::tail_of(class, scratch, spans, j);
     let mut i = next_alike(near, far, j, j + 1, k);
+    // From one with its marks to the next.
     while i < k {
         if start_names::is_key(scratch, spans, work, classes, j, class, space, name, i) {
             return true;
@@ -91,7 +88,7 @@ fn repeated_behind<'a>(
     false
 }
 
-// The first from `from` on that has the marks of j, or `to`.
+// The first from `from` on that has the marks of j, or `to`. It goes by one or by a block, which no `for` does.
 fn next_alike(near: &[u64], far: &[u64], j: usize, from: usize, to: usize) -> usize
     requires { (j < to) × (from ≤ to) × Room to near.now far.now }
     ensures { Next near.now far.now j from to result }
@@ -127,10 +124,8 @@ fn has_mark(block: &[u64], mark: u64) -> bool
     ensures { result ≡ among block.now mark }
 {
     let mut found = false;
-    let mut j = 0;
-    while j < block.len() {
-        found = found | (block[j] == mark);
-        j += 1;
+    for other in block {
+        found |= *other == mark;
     }
     found
 }
@@ -141,10 +136,8 @@ fn mark(front: &[u8], back: &[u8], skip: usize) -> u64
     ensures { result ≡ mark_of (front.now ++ back.now) skip }
 {
     let mut m: u64 = 0;
-    let mut i = 0;
-    while i < BYTES {
+    for i in 0..BYTES {
         m = m % 72_057_594_037_927_936 * 256 + byte(byte_from_end(front, back, skip + i)) as u64;
-        i += 1;
     }
     m
 }

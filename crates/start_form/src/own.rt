@@ -36,9 +36,7 @@ fn own_rows(scratch: &[u8], spans: &[u32], k: usize, rows: &mut [u32]) -> usize
     ensures { Owns scratch.now spans.now k rows.old rows.new result }
 {
     let mut d: usize = 0;
-    let mut j = k;
-    while 0 < j {
-        j -= 1;
+    for j in (0..k).rev() {
         if start_names::is_declaration(start_names::name_of(scratch, spans, j)) {
             Row::store(rows, d, own_row(spans, j));
             d += 1;
@@ -69,7 +67,8 @@ fn own_row(spans: &[u32], j: usize) -> Row
     }
 }
 
-// The class of each of the first k attributes, into `classes`; `rows` are the tag's own d declarations.
+// The class of each of the first k attributes, into `classes`; `rows` are the tag's own d declarations. Apart from that of
+// start_names, as it looks for a prefix in rows and not among all attributes.
 fn classify(
     scratch: &[u8],
     spans: &[u32],
@@ -85,11 +84,9 @@ fn classify(
     ensures { Classes scratch.now spans.now k
         work.now bindings.now n classes.old classes.new }
 {
-    let mut j = 0;
-    while j < k {
+    for j in 0..k {
         let class = class_of(scratch, spans, k, rows, d, work, bindings, n, j);
         Class::store(classes, j, class);
-        j += 1;
     }
 }
 
@@ -120,7 +117,9 @@ fn class_of(
     }
     let own = start_names::lookup(prefix, scratch, spans, 0, scratch, rows, d);
     match own {
-        Found::Unknown => start_names::lookup(prefix, scratch, spans, 0, work, bindings, n).class(),
+        Found::Unknown => Class::from(start_names::lookup(
+            prefix, scratch, spans, 0, work, bindings, n,
+        )),
         Found::Xml => Class::Xml,
         Found::Own(at, size) => Class::Own(at, size),
         Found::Held(at, size) => Class::Own(at, size),

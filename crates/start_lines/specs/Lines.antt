@@ -1,4 +1,6 @@
 -- The lines of a start tag: the loop over its property attributes, and what the calls write in the definitions' words.
+use Rattle.std.proofs.lemmas.Bool.Decides.{nat_tests}
+use Rattle.std.proofs.Common.{ltb}
 use Rattle.std.specs.Prelude.{◌≡◌, refl, Bool, true, false, not, ℕ, suc, ◌+◌, ◌-◌, ◌<◌, ◌≤◌, eqb, length, get_or}
 use Rattle.std.proofs.Common.{sym, ◌∙◌, add-one, arith}
 use Rattle.std.proofs.Math.Option.{none, some}
@@ -28,16 +30,6 @@ unfoldable pub literal_kind : Bytes → K.Term
 literal_kind [] = term-kind.Plain
 literal_kind (c ∷ l) = term-kind.Tagged
 
-pub kind-plain : (l : Bytes) → length l ≡ 0 → term-kind.Plain ≡ literal_kind l
-unfolding literal_kind
-kind-plain [] h = refl
-kind-plain (c ∷ l) h = absurd (omega arith)
-
-pub kind_tagged : (l : Bytes) → (length l ≡ 0 → ⊥) → term-kind.Tagged ≡ literal_kind l
-unfolding literal_kind
-kind_tagged [] h = absurd (h refl)
-kind_tagged (c ∷ l) h = refl
-
 literal-kind : (v l : Bytes) → term_of (literal_kind l) v l ≡ literal_of none (language_of l) v
 unfolding literal_kind term_of language_of literal_of written
 literal-kind v [] = refl
@@ -61,9 +53,9 @@ lines_then a b = sym (write-append a b)
 -- ---- one attribute
 
 -- is it a property?
-pub role_none : (rs : List ℕ) (j : ℕ) → length rs ≤ j → false ≡ eqb (get_or rs j 0) (role_number property)
+pub role_none : (rs : List ℕ) (j : ℕ) → length rs ≤ j → ltb j (length rs) ≡ eqb (get_or rs j 0) (role_number property)
 unfolding role_number
-role_none rs j h = rw (get_or-eq_default rs 0 {n = j} h)
+role_none rs j h = let none : ltb j (length rs) ≡ false = grind (arith, nat_tests) in none ∙ rw (get_or-eq_default rs 0 {n = j} h)
 
 module _ (e w v cs rs : List ℕ) (j : ℕ) where
   not_one : eqb (get_or rs j 0) (role_number property) ≡ false → properties_from e w v cs rs j 1 ≡ []

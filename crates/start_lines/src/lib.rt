@@ -36,12 +36,10 @@ pub fn emit_property_attrs<'a>(
     ensures { Put on out.old out.new at result (write (attribute_lines (subject_of node subject.now) (language_of language.now) (properties_from scratch.now spans.now work.now classes.now roles.now 0 k))) }
 {
     let mut to = at;
-    let mut j = 0;
-    while j < k {
+    for j in 0..k {
         to = emit_property_attr(
             out, to, on, node, subject, language, scratch, spans, j, work, classes, roles,
         );
-        j += 1;
     }
     to
 }
@@ -98,7 +96,8 @@ pub fn node_lines<'a>(
     type_line(out, to, on, node, subject, named, element)
 }
 
-// An rdf:type line, where `typed` says that there is a type.
+// An rdf:type line, where `typed` says that there is a type: flag and IRI beside each other, as `given` of the definitions and the callers
+// (tag_lines, node_lines) have them.
 fn type_line(
     out: &mut [u8],
     at: usize,
@@ -180,17 +179,15 @@ fn property_line(
 fn is_property(roles: &[u8], j: usize) -> bool
     ensures { result ≡ eqb (get_or roles.now j 0) (role_number property) }
 {
-    if roles.len() <= j {
-        return false;
-    }
-    roles[j] == Role::Property.word()
+    j < roles.len() && roles[j] == u8::from(Role::Property)
 }
 
 // A text, with a tag where there is one.
+#[tactic(auto, unfolding(crate::specs::Lines::literal_kind))]
 fn literal_kind(language: &[u8]) -> Term
     ensures { result ≡ literal_kind language.now }
 {
-    if language.len() == 0 {
+    if language.is_empty() {
         return Term::Plain;
     }
     Term::Tagged

@@ -164,6 +164,13 @@ module _ (p : Bytes) (e w : List ℕ) (k : ℕ) (v bs : List ℕ) (n : ℕ) wher
       let l : some x ≡ look_up p (declared (attributes_of e w k)) = sym y ∙ (rw (← h) (o.is v)) in
       y ∙ sym (in_scope_lem s ∙ rw (← l))
 
+  pub found_there : (q : Found) → same p (ascii "xml") ≡ false → IsOwn p e w k q → (q ≡ Unknown → ⊥) → found_bytes e v q ≡ namespace (scope e w k v bs n) p
+  unfolding found_bytes
+  found_there Unknown s o h = absurd (h refl)
+  found_there Xml s o h = found_own s o refl refl
+  found_there (Own at m) s o h = found_own s o refl refl
+  found_there (Held at m) s o h = found_own s o refl refl
+
   pub found-held : {r q : Found} → same p (ascii "xml") ≡ false → IsOwn p e w k q → q ≡ Unknown → IsHeld p v bs n r → found_bytes e v r ≡ namespace (scope e w k v bs n) p
   unfolding or_else found_bytes
   found-held s o q h = let l : none ≡ look_up p (declared (attributes_of e w k)) = rw q at (o.is v) in h.is e ∙ sym (in_scope_lem s ∙ rw (← l))

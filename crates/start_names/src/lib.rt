@@ -24,7 +24,8 @@ pub const XML: [u8; 36] = *b"http://www.w3.org/XML/1998/namespace";
 pub const XMLNS: [u8; 29] = *b"http://www.w3.org/2000/xmlns/";
 
 // Where the namespace of a prefix was found: a part of the tag's decoded bytes, or of the work store, where it starts and how long it is.
-#[derive(Clone, Copy)]
+// One enum of four: as an Option, each match would have the same arms, three of them inside another.
+#[derive(Clone, Copy, PartialEq, Eq, Debug)]
 pub enum Found {
     Unknown,
     Xml,
@@ -33,7 +34,7 @@ pub enum Found {
 }
 
 // What is known of an attribute's name: it declares a namespace, its prefix is unknown, it has none, or where its namespace was found.
-#[derive(Clone, Copy)]
+#[derive(Clone, Copy, PartialEq, Eq, Debug)]
 pub enum Class {
     Declaration,
     Unknown,
@@ -43,25 +44,57 @@ pub enum Class {
     Held(usize, usize),
 }
 
-// A class as numbers.
-#[derive(Clone, Copy)]
+// A class as it stands in a table of words.
+#[derive(Clone, Copy, PartialEq, Eq, Debug)]
 struct ClassWords {
     what: usize,
     at: usize,
     size: usize,
 }
 
-impl Found {
-    // The class of a name whose prefix has this namespace.
-    pub fn class(self) -> Class
-        ensures { result ≡ found_class self }
-    {
-        match self {
+// The class of a name whose prefix has this namespace.
+impl From<Found> for Class {
+    ghost from_gives = { λ found class. class ≡ found_class found };
+
+    fn from(found: Found) -> Self {
+        match found {
             Found::Unknown => Class::Unknown,
             Found::Xml => Class::Xml,
             Found::Own(at, size) => Class::Own(at, size),
             Found::Held(at, size) => Class::Held(at, size),
         }
+    }
+}
+
+impl From<ClassWords> for Class {
+    ghost from_gives = { λ words class. class ≡ class_of words.what words.at words.size };
+
+    #[tactic(auto, unfolding(crate::specs::Classes::class_of))]
+    fn from(words: ClassWords) -> Self {
+        match words.what {
+            0 => Class::Declaration,
+            1 => Class::Unknown,
+            2 => Class::Unprefixed,
+            3 => Class::Xml,
+            4 => Class::Own(words.at, words.size),
+            _ => Class::Held(words.at, words.size),
+        }
+    }
+}
+
+impl From<Class> for ClassWords {
+    ghost from_gives = { λ class words. words ≡ words_of class };
+
+    fn from(class: Class) -> Self {
+        let (what, at, size) = match class {
+            Class::Declaration => (0, 0, 0),
+            Class::Unknown => (1, 0, 0),
+            Class::Unprefixed => (2, 0, 0),
+            Class::Xml => (3, 0, 0),
+            Class::Own(at, size) => (4, at, size),
+            Class::Held(at, size) => (5, at, size),
+        };
+        ClassWords { what, at, size }
     }
 }
 
@@ -83,9 +116,14 @@ impl Class {
             return Class::Unknown;
         }
         let from = j * Self::WORDS;
-        Class::of(classes[from], classes[from + 1], classes[from + 2])
+        Class::from(ClassWords {
+            what: classes[from],
+            at: classes[from + 1],
+            size: classes[from + 2],
+        })
     }
 
+    // No Result: `StoredClass` says what the answer is.
     pub fn store(classes: &mut [usize], j: usize, class: Class) -> bool
         ensures { StoredClass classes.old j class classes.new result }
     {
@@ -93,28 +131,27 @@ impl Class {
             return false;
         }
         let from = j * Self::WORDS;
-        let words = class.words();
+        let words = ClassWords::from(class);
         classes[from] = words.what;
         classes[from + 1] = words.at;
         classes[from + 2] = words.size;
         true
     }
 
-    // What attributes of the class are compared by: 0 and 1 the name as written, 2 the expanded name.
+    // What attributes of the class are compared by: 0 and 1 the name as written, 2 the expanded name. A number, as the keys of the definitions
+    // have (specs/Repeats.antt, Key).
     pub fn kind(self) -> usize
         ensures { result ≡ kind_of self }
     {
         match self {
             Class::Declaration => 0,
             Class::Unknown => 1,
-            Class::Unprefixed => 2,
-            Class::Xml => 2,
-            Class::Own(_, _) => 2,
-            Class::Held(_, _) => 2,
+            Class::Unprefixed | Class::Xml | Class::Own(_, _) | Class::Held(_, _) => 2,
         }
     }
 
     // Have j and i surely one class, with its namespace at one place? Then their names differ in nothing but what stands behind the namespace.
+    // The words are compared as they stand, with no branch and no class made; must-fail/one_length_one_namespace is of this test.
     fn same(classes: &[usize], j: usize, i: usize) -> bool
         ensures { result ≡ true → class_at classes.now j ≡ class_at classes.now i }
     {
@@ -128,32 +165,6 @@ impl Class {
         let b = i * Self::WORDS;
         (classes[a] == classes[b])
             & ((classes[a + 1] == classes[b + 1]) & (classes[a + 2] == classes[b + 2]))
-    }
-
-    fn of(what: usize, at: usize, size: usize) -> Self
-        ensures { result ≡ class_of what at size }
-    {
-        match what {
-            0 => Class::Declaration,
-            1 => Class::Unknown,
-            2 => Class::Unprefixed,
-            3 => Class::Xml,
-            4 => Class::Own(at, size),
-            _ => Class::Held(at, size),
-        }
-    }
-
-    fn words(self) -> ClassWords
-        ensures { result ≡ words_of self }
-    {
-        match self {
-            Class::Declaration => numbers(0, 0, 0),
-            Class::Unknown => numbers(1, 0, 0),
-            Class::Unprefixed => numbers(2, 0, 0),
-            Class::Xml => numbers(3, 0, 0),
-            Class::Own(at, size) => numbers(4, at, size),
-            Class::Held(at, size) => numbers(5, at, size),
-        }
     }
 }
 
@@ -175,7 +186,8 @@ pub fn value_of<'a, 'b>(scratch: &'a [u8], spans: &'b [u32], j: usize) -> &'a [u
     copy::piece(scratch, at + n, v)
 }
 
-// What stands before a name's colon, and what stands behind it: c is the colon's place plus 1, or 0 where there is none.
+// What stands before a name's colon, and what stands behind it: c is the colon's place plus 1, or 0 where there is none, as the words of an
+// attribute have it (no Option in a table of words: fixed memory).
 pub fn front_of(name: &[u8], c: usize) -> &[u8]
     ensures { result.now ≡ front_of c name.now }
 {
@@ -250,12 +262,10 @@ pub fn is_legal(prefix: &[u8], namespace: &[u8]) -> bool
 pub fn all_legal(scratch: &[u8], spans: &[u32], k: usize) -> bool
     ensures { result ≡ all_legal (declared (attributes_of scratch.now spans.now k)) }
 {
-    let mut j = 0;
-    while j < k {
+    for j in 0..k {
         if !legal_at(scratch, spans, j) {
             return false;
         }
-        j += 1;
     }
     true
 }
@@ -265,10 +275,8 @@ pub fn count_declared(scratch: &[u8], spans: &[u32], k: usize) -> usize
     ensures { result ≡ length (declared (attributes_of scratch.now spans.now k)) }
 {
     let mut n: usize = 0;
-    let mut j = 0;
-    while j < k {
+    for j in 0..k {
         n += declared_at(scratch, spans, j);
-        j += 1;
     }
     n
 }
@@ -291,9 +299,7 @@ pub fn lookup(
     let found = own(prefix, scratch, spans, k);
     match found {
         Found::Unknown => held(prefix, work, bindings, n),
-        Found::Xml => Found::Xml,
-        Found::Own(at, size) => Found::Own(at, size),
-        Found::Held(at, size) => Found::Held(at, size),
+        found => found,
     }
 }
 
@@ -345,11 +351,9 @@ pub fn classify(
         return false;
     }
     let own = declaring(scratch, spans, k);
-    let mut j = 0;
-    while j < k {
+    for j in 0..k {
         let class = class_of(scratch, spans, own, work, bindings, n, j);
         Class::store(classes, j, class);
-        j += 1;
     }
     true
 }
@@ -364,12 +368,10 @@ pub fn repeated_expanded<'a>(
 ) -> bool
     ensures { result ≡ pairs (same_keys scratch.now spans.now work.now classes.now) 0 k }
 {
-    let mut j = 0;
-    while j < k {
+    for j in 0..k {
         if key_behind(scratch, spans, k, work, classes, j) {
             return true;
         }
-        j += 1;
     }
     false
 }
@@ -378,12 +380,10 @@ pub fn repeated_expanded<'a>(
 pub fn repeated_written(scratch: &[u8], spans: &[u32], k: usize) -> bool
     ensures { result ≡ repeats_written (attributes_of scratch.now spans.now k) }
 {
-    let mut j = 0;
-    while j < k {
+    for j in 0..k {
         if written_behind(scratch, spans, k, j) {
             return true;
         }
-        j += 1;
     }
     false
 }
@@ -417,7 +417,7 @@ fn same_from_shorter(a: &[u8], b: &[u8], c: &[u8], d: &[u8]) -> bool
     if !copy::begins(b, &c[m..]) {
         return false;
     }
-    copy::equal_long(a, &c[0..m])
+    copy::equal(a, &c[0..m])
 }
 
 // Has one of the k attributes behind attribute j its name as written?
@@ -428,12 +428,10 @@ fn written_behind(scratch: &[u8], spans: &[u32], k: usize, j: usize) -> bool
         return false;
     }
     let name = name_of(scratch, spans, j);
-    let mut i = j + 1;
-    while i < k {
+    for i in j + 1..k {
         if copy::equal(name, name_of(scratch, spans, i)) {
             return true;
         }
-        i += 1;
     }
     false
 }
@@ -452,18 +450,17 @@ fn key_behind<'a>(
     if k <= j {
         return false;
     }
-    let mut i = j + 1;
-    if k <= i {
+    let first = j + 1;
+    if k <= first {
         return false;
     }
     let class = Class::load(classes, j);
     let space = space_of(class, scratch, work, &XML);
     let name = tail_of(class, scratch, spans, j);
-    while i < k {
+    for i in first..k {
         if is_key(scratch, spans, work, classes, j, class, space, name, i) {
             return true;
         }
-        i += 1;
     }
     false
 }
@@ -500,9 +497,7 @@ pub fn space_of<'a>(class: Class, scratch: &'a [u8], work: &'a [u8], xml: &'a [u
     ensures { result.now ≡ space_by scratch.now work.now xml.now class }
 {
     match class {
-        Class::Declaration => &scratch[0..0],
-        Class::Unknown => &scratch[0..0],
-        Class::Unprefixed => &scratch[0..0],
+        Class::Declaration | Class::Unknown | Class::Unprefixed => &[],
         Class::Xml => xml,
         Class::Own(at, n) => copy::piece(scratch, at, n),
         Class::Held(at, n) => copy::piece(work, at, n),
@@ -514,12 +509,8 @@ pub fn tail_of<'a, 'b>(class: Class, scratch: &'a [u8], spans: &'b [u32], j: usi
     ensures { result.now ≡ tail_at scratch.now spans.now class j }
 {
     match class {
-        Class::Declaration => name_of(scratch, spans, j),
-        Class::Unknown => name_of(scratch, spans, j),
-        Class::Unprefixed => name_of(scratch, spans, j),
-        Class::Xml => local_of(scratch, spans, j),
-        Class::Own(_, _) => local_of(scratch, spans, j),
-        Class::Held(_, _) => local_of(scratch, spans, j),
+        Class::Declaration | Class::Unknown | Class::Unprefixed => name_of(scratch, spans, j),
+        Class::Xml | Class::Own(_, _) | Class::Held(_, _) => local_of(scratch, spans, j),
     }
 }
 
@@ -542,7 +533,7 @@ fn class_of(
     if prefix.len() == 0 {
         return Class::Unprefixed;
     }
-    lookup(prefix, scratch, spans, k, work, bindings, n).class()
+    Class::from(lookup(prefix, scratch, spans, k, work, bindings, n))
 }
 
 // Is attribute j legal? It is where it declares nothing.
@@ -570,13 +561,10 @@ fn declared_at(scratch: &[u8], spans: &[u32], j: usize) -> usize
 fn declaring(scratch: &[u8], spans: &[u32], k: usize) -> usize
     ensures { declared (attributes_of scratch.now spans.now result) ≡ declared (attributes_of scratch.now spans.now k) }
 {
-    let mut i = k;
-    while 0 < i {
-        let j = i - 1;
+    for j in (0..k).rev() {
         if is_declaration(name_of(scratch, spans, j)) {
-            return i;
+            return j + 1;
         }
-        i = j;
     }
     0
 }
@@ -585,12 +573,10 @@ fn declaring(scratch: &[u8], spans: &[u32], k: usize) -> usize
 fn own(prefix: &[u8], scratch: &[u8], spans: &[u32], k: usize) -> Found
     ensures { IsOwn prefix.now scratch.now spans.now k result }
 {
-    let mut j = 0;
-    while j < k {
+    for j in 0..k {
         if binds(prefix, scratch, spans, j) {
             return own_at(spans, j);
         }
-        j += 1;
     }
     Found::Unknown
 }
@@ -620,9 +606,7 @@ fn own_at(spans: &[u32], j: usize) -> Found
 fn held(prefix: &[u8], work: &[u8], bindings: &[u32], n: usize) -> Found
     ensures { IsHeld prefix.now work.now bindings.now n result }
 {
-    let mut i = n;
-    while 0 < i {
-        i -= 1;
+    for i in (0..n).rev() {
         if copy::equal(prefix, prefix_at(work, bindings, i)) {
             return held_at(bindings, i);
         }
@@ -689,11 +673,4 @@ fn row_word(rows: &[u32], i: usize, f: usize) -> usize
         return 0;
     }
     wide(rows[from + f])
-}
-
-// The three of them.
-fn numbers(what: usize, at: usize, size: usize) -> ClassWords
-    ensures { result ≡ record { what = what; at = at; size = size } }
-{
-    ClassWords { what, at, size }
 }

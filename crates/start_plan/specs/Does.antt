@@ -21,9 +21,11 @@ use Rattle.state.specs.Meaning.{object_of}
 use Rattle.start_names.specs.Tag.{attributes_of}
 use Rattle.state.specs.declared.language.Own.TheVariants.{Unsaid}
 use Rattle.state.specs.Language.{own_in}
+use Rattle.start_element.specs.declared.Pending.{Pending}
+use Rattle.start_element.specs.declared.Pending.TheVariants.{Absent}
 use Rattle.start_element.specs.declared.Source.{Source}
 use Rattle.start_element.specs.declared.Source.TheVariants.{Missing, Own, Made}
-use Rattle.start_element.specs.Element.{text_of, maybe, node_is, property_is, kind_is, part_is, new_element, Fitting}
+use Rattle.start_element.specs.Element.{word_of, text_of, maybe, node_is, property_is, kind_is, part_is, new_element, Fitting}
 use Rattle.start_rules.specs.Judged.{node_subject, node_opened, property_in, labels_behind, takes_label, property_opened}
 use Rattle.start_rules.specs.Judged as J
 use Rattle.start_plan.specs.declared.Given.{Given}
@@ -32,7 +34,7 @@ use Rattle.start_plan.specs.Plan.{object_in, root_plan, wrapper_plan, node_plan,
 use Rattle.start_plan.specs.Says.{Says, node-subject, object_by, object_means}
 
 -- no object, no part of one
-lacking : (r n : Source) (u : Bool) → (object_in (record { base = Missing; tag = Unsaid; node = n; id = Missing; about = Missing; resource = r; datatype = Missing }) u).what ≡ 0
+lacking : (r n : Source) (u : Bool) → word_of (object_in (record { base = Missing; tag = Unsaid; node = n; id = Missing; about = Missing; resource = r; datatype = Missing }) u).what ≡ 0
     → (object_in (record { base = Missing; tag = Unsaid; node = n; id = Missing; about = Missing; resource = r; datatype = Missing }) u).source ≡ Missing
 unfolding object_in
 lacking (Own x z) n u h = absurd (omega arith)
@@ -42,7 +44,7 @@ lacking Missing (Made x z) u h = absurd (omega arith)
 lacking Missing Missing true h = absurd (omega arith)
 lacking Missing Missing false h = refl
 
-pub lacking_object : (g : Given) (u : Bool) → (object_in g u).what ≡ 0 → (object_in g u).source ≡ Missing
+pub lacking_object : (g : Given) (u : Bool) → word_of (object_in g u).what ≡ 0 → (object_in g u).source ≡ Missing
 unfolding object_in
 lacking_object g u = lacking g.resource g.node u
 
@@ -69,13 +71,13 @@ pub record Does (p : Plan) (e a : List ℕ) (s : Subject) (o : Opened) (q : Part
   pub fitting : Fitting p.parts
 
 module _ (g : Given) (e a : List ℕ) (s : Subject) where
-  pub does_root : (k n : ℕ) {q : Part} → part_is Rdf (root_plan g k n).parts e a ≡ q → Does (root_plan g k n) e a s (record { lines = []; kind = rdf_rdf; labels = n }) q
+  pub does_root : (k : Pending) (n : ℕ) {q : Part} → part_is Rdf (root_plan g k n).parts e a ≡ q → Does (root_plan g k n) e a s (record { lines = []; kind = rdf_rdf; labels = n }) q
   unfolding kind_is
   does_root k n h = record { kind = refl; part = h; labels = refl; fitting = record { lacks = (refl, refl, refl, refl) } }
 
   -- the label that was made is the next
   module _ {t : Tag} (y : Says g e a t) (n : ℕ) where
-    pub does_node : part a 6144 12 ≡ label (suc n) → (k : ℕ) {q : Part} → part_is NodeElt (node_plan g k (suc n)).parts e a ≡ q → Does (node_plan g k (suc n)) e a s (node_opened t n) q
+    pub does_node : part a 6144 12 ≡ label (suc n) → (k : Pending) {q : Part} → part_is NodeElt (node_plan g k (suc n)).parts e a ≡ q → Does (node_plan g k (suc n)) e a s (node_opened t n) q
     unfolding kind_is node_opened node_subject
     does_node m k h =
         record {
@@ -88,7 +90,7 @@ module _ (g : Given) (e a : List ℕ) (s : Subject) where
     -- ---- properties: `main` has the property's IRI
 
     module _ (main : Source) (p : Property) (about : p.subject ≡ s) (written : text_of main e a ≡ p.iri) (stated : p.id ≡ t.id) where
-      property : (k : Kind) (d o : Source) (w : ℕ) (b : Bool)
+      property : (k : Kind) (d o : Source) (w : Pending) (b : Bool)
           → property_is (record { kind = k; blank = b; base = g.base; tag = g.tag; main = main; id = g.id; datatype = d; what = w; object = o }) e a s ≡ p
       unfolding property_is
       property k d o w b = made (sym about) written (y.id ∙ sym stated)
@@ -100,17 +102,17 @@ module _ (g : Given) (e a : List ℕ) (s : Subject) where
       pub does_collection : Does (held_plan ParseTypeCollectionPropertyElt g main n) e a s (property_opened as_collection t p n) ordinary
       unfolding kind_is part_is property_opened
       does_collection =
-          record { kind = ap (λ (x : Property). property_element x (collection [])) (property ParseTypeCollectionPropertyElt Missing Missing 0 false); part = refl; labels = refl; fitting = record { lacks = (refl, refl) } }
+          record { kind = ap (λ (x : Property). property_element x (collection [])) (property ParseTypeCollectionPropertyElt Missing Missing Absent false); part = refl; labels = refl; fitting = record { lacks = (refl, refl) } }
 
       pub does_literal : Does (held_plan ParseTypeLiteralPropertyElt g main n) e a s (property_opened as_literal t p n) ordinary
       unfolding kind_is part_is property_opened
       does_literal =
-          record { kind = ap (λ (x : Property). property_element x (literal [])) (property ParseTypeLiteralPropertyElt Missing Missing 0 false); part = refl; labels = refl; fitting = record { lacks = (refl, refl) } }
+          record { kind = ap (λ (x : Property). property_element x (literal [])) (property ParseTypeLiteralPropertyElt Missing Missing Absent false); part = refl; labels = refl; fitting = record { lacks = (refl, refl) } }
 
       pub does_other : Does (held_plan ParseTypeOtherPropertyElt g main n) e a s (property_opened as_other t p n) ordinary
       unfolding kind_is part_is property_opened
       does_other =
-          record { kind = ap (λ (x : Property). property_element x other) (property ParseTypeOtherPropertyElt Missing Missing 0 false); part = refl; labels = refl; fitting = record { lacks = (refl, refl) } }
+          record { kind = ap (λ (x : Property). property_element x other) (property ParseTypeOtherPropertyElt Missing Missing Absent false); part = refl; labels = refl; fitting = record { lacks = (refl, refl) } }
 
       pub does_resource : part a 6144 12 ≡ label (suc n) → Does (resource_plan g (suc n)) e a s (property_opened as_resource t p n) ordinary
       unfolding kind_is part_is property_opened node_is text_of
@@ -119,7 +121,7 @@ module _ (g : Given) (e a : List ℕ) (s : Subject) where
       -- a default property: u says whether it has property attributes; where it takes a label, that was made
       module _ (u : Bool) (q : u ≡ not (is_empty t.attributes)) (m : takes_label no_parse_type (is_some t.resource) (is_some t.node_id) u ≡ true → part a 6144 12 ≡ label (suc n)) where
         -- with this object
-        with_object : {o : Object} {labels : ℕ} → object_of (object_in g u).what (text_of (object_in g u).source e a) ≡ o
+        with_object : {o : Object} {labels : ℕ} → object_of (word_of (object_in g u).what) (text_of (object_in g u).source e a) ≡ o
             → (property_opened no_parse_type t p n).kind ≡ property_element p (default t.datatype o) → labels ≡ (property_opened no_parse_type t p n).labels
             → Does (default_plan g main u labels) e a s (property_opened no_parse_type t p n) ordinary
         unfolding kind_is part_is object_in

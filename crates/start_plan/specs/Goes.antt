@@ -1,5 +1,5 @@
 -- When a start tag may be carried out as planned: what was judged of it.
-use Rattle.std.specs.Prelude.{ℕ, ◌≡◌, true, List, [], ◌∷◌, ◌++◌, eqb, length, take}
+use Rattle.std.specs.Prelude.{ℕ, ◌≡◌, true, List, [], ◌∷◌, ◌++◌, length, take}
 use Rattle.std.proofs.Math.Option.{Option}
 use Rattle.spec.specs.Bytes.{Bytes}
 use Rattle.spec.specs.Numbers.{good}
@@ -15,7 +15,7 @@ use Rattle.state.specs.Meaning.{subject_below}
 use Rattle.start_names.specs.Tag.{attributes_of}
 use Rattle.ntriples.specs.Terms.{id_of as given}
 use Rattle.start_attributes.specs.Properties.{properties_from}
-use Rattle.start_element.specs.Element.{text_of, maybe, node_is, new_element}
+use Rattle.start_element.specs.Element.{is_blank, text_of, maybe, node_is, new_element}
 use Rattle.start_element.specs.Laws.{Granted, CountedBy, NotedBy, noting}
 use Rattle.start_plan.specs.declared.Lines.{Lines}
 use Rattle.start_plan.specs.declared.Lines.TheVariants.{Nothing, Node, Object, Resource}
@@ -35,7 +35,7 @@ abbrev pub main_of : Start → List ℕ → List ℕ → Subject
 main_of x e a = node_is x.plan.parts.blank (text_of x.plan.parts.main e a)
 
 abbrev pub object_of : Start → List ℕ → List ℕ → Subject
-object_of x e a = node_is (eqb x.plan.parts.what 2) (text_of x.plan.parts.object e a)
+object_of x e a = node_is (is_blank x.plan.parts.what) (text_of x.plan.parts.object e a)
 
 -- the property that it is, of the subject s
 abbrev pub property_of : Start → List ℕ → List ℕ → Subject → Property

@@ -1,5 +1,5 @@
 -- What a plan does is what the production of the definitions says.
-use Rattle.std.specs.Prelude.{ℕ, ◌≡◌, Bool, ◌||◌, not, List, eqb}
+use Rattle.std.specs.Prelude.{ℕ, ◌≡◌, Bool, ◌||◌, not, List}
 use Rattle.std.proofs.Math.Path.{refl, ap}
 use Rattle.std.proofs.Common.{sym, ◌∙◌}
 use Rattle.std.proofs.Math.Bool.{true, false}
@@ -16,7 +16,7 @@ use Rattle.state.specs.Meaning.{object_of}
 use Rattle.state.specs.declared.language.Own.TheVariants.{Unsaid}
 use Rattle.start_element.specs.declared.Source.{Source}
 use Rattle.start_element.specs.declared.Source.TheVariants.{Missing, Own, Made}
-use Rattle.start_element.specs.Element.{text_of, maybe, node_is}
+use Rattle.start_element.specs.Element.{text_of, maybe, node_is, word_of, is_absent, is_blank}
 use Rattle.start_plan.specs.declared.Given.{Given}
 use Rattle.start_plan.specs.Plan.{is_there, subject_in, object_in}
 
@@ -53,7 +53,7 @@ there_is (Made i n) e a = refl
 -- ---- a node's subject
 
 module _ (e a : List ℕ) (l : Bytes) (made : part a 6144 12 ≡ l) where
-  subject_cases : (i b n : Source) → node_is (eqb (subject_in (record { base = Missing; tag = Unsaid; node = n; id = i; about = b; resource = Missing; datatype = Missing })).what 2)
+  subject_cases : (i b n : Source) → node_is (is_blank (subject_in (record { base = Missing; tag = Unsaid; node = n; id = i; about = b; resource = Missing; datatype = Missing })).what)
       (text_of (subject_in (record { base = Missing; tag = Unsaid; node = n; id = i; about = b; resource = Missing; datatype = Missing })).source e a)
       ≡ subject_of (or_else (maybe i e a) (maybe b e a)) (maybe n e a) l
   unfolding subject_in node_is text_of maybe or_else subject_of
@@ -66,7 +66,7 @@ module _ (e a : List ℕ) (l : Bytes) (made : part a 6144 12 ≡ l) where
   subject_cases Missing Missing Missing = rw made
 
   pub node-subject : (g : Given) {t : Tag} → Says g e a t
-      → node_is (eqb (subject_in g).what 2) (text_of (subject_in g).source e a) ≡ subject_of (or_else t.id t.about) t.node_id l
+      → node_is (is_blank (subject_in g).what) (text_of (subject_in g).source e a) ≡ subject_of (or_else t.id t.about) t.node_id l
   unfolding subject_in
   node-subject g s = rw (← s.id, ← s.about, ← s.node) (subject_cases g.id g.about g.node)
 
@@ -80,7 +80,7 @@ object_by none none true l = node_object (blank l)
 object_by none none false l = no_object
 
 module _ (e a : List ℕ) (l : Bytes) (made : part a 6144 12 ≡ l) where
-  object_cases : (r n : Source) (t : Bool) → object_of (object_in (record { base = Missing; tag = Unsaid; node = n; id = Missing; about = Missing; resource = r; datatype = Missing }) t).what
+  object_cases : (r n : Source) (t : Bool) → object_of (word_of (object_in (record { base = Missing; tag = Unsaid; node = n; id = Missing; about = Missing; resource = r; datatype = Missing }) t).what)
       (text_of (object_in (record { base = Missing; tag = Unsaid; node = n; id = Missing; about = Missing; resource = r; datatype = Missing }) t).source e a)
       ≡ object_by (maybe r e a) (maybe n e a) t l
   unfolding object_in object_of text_of maybe object_by
@@ -92,14 +92,14 @@ module _ (e a : List ℕ) (l : Bytes) (made : part a 6144 12 ≡ l) where
   object_cases Missing Missing false = refl
 
   pub object_means : (g : Given) {t : Tag} → Says g e a t → (u : Bool)
-      → object_of (object_in g u).what (text_of (object_in g u).source e a) ≡ object_by t.resource t.node_id u l
+      → object_of (word_of (object_in g u).what) (text_of (object_in g u).source e a) ≡ object_by t.resource t.node_id u l
   unfolding object_in
   object_means g s u = rw (← s.resource, ← s.node) (object_cases g.resource g.node u)
 
 -- the same as a subject, where there is one; l is the label made, where one is taken
 module _ (e a : List ℕ) (l : Bytes) where
   node_cases : (r n : Source) (t : Bool) → (is_there r || is_there n || t) ≡ true → (is_there r ≡ false → is_there n ≡ false → part a 6144 12 ≡ l)
-      → node_is (eqb (object_in (record { base = Missing; tag = Unsaid; node = n; id = Missing; about = Missing; resource = r; datatype = Missing }) t).what 2)
+      → node_is (is_blank (object_in (record { base = Missing; tag = Unsaid; node = n; id = Missing; about = Missing; resource = r; datatype = Missing }) t).what)
       (text_of (object_in (record { base = Missing; tag = Unsaid; node = n; id = Missing; about = Missing; resource = r; datatype = Missing }) t).source e a)
       ≡ subject_of (maybe r e a) (maybe n e a) l
   unfolding object_in node_is text_of maybe subject_of
@@ -112,7 +112,7 @@ module _ (e a : List ℕ) (l : Bytes) where
 
   pub object-subject : (g : Given) {t : Tag} → Says g e a t → (u : Bool) → (is_some t.resource || is_some t.node_id || u) ≡ true
       → (is_some t.resource ≡ false → is_some t.node_id ≡ false → part a 6144 12 ≡ l)
-      → node_is (eqb (object_in g u).what 2) (text_of (object_in g u).source e a) ≡ subject_of t.resource t.node_id l
+      → node_is (is_blank (object_in g u).what) (text_of (object_in g u).source e a) ≡ subject_of t.resource t.node_id l
   unfolding object_in
   object-subject g s u h m =
       let x = ap is_some (sym s.resource) ∙ there_is g.resource e a in
@@ -120,7 +120,7 @@ module _ (e a : List ℕ) (l : Bytes) where
       rw (← s.resource, ← s.node) (node_cases g.resource g.node u (rw (← x, ← y) h) (λ p q. m (x ∙ p) (y ∙ q)))
 
 -- is there one?
-object_there : (r n : Source) (t : Bool) → eqb (object_in (record { base = Missing; tag = Unsaid; node = n; id = Missing; about = Missing; resource = r; datatype = Missing }) t).what 0
+object_there : (r n : Source) (t : Bool) → is_absent (object_in (record { base = Missing; tag = Unsaid; node = n; id = Missing; about = Missing; resource = r; datatype = Missing }) t).what
     ≡ not (is_there r || is_there n || t)
 unfolding object_in
 object_there (Own x y) n t = refl
@@ -130,7 +130,7 @@ object_there Missing (Made x y) t = refl
 object_there Missing Missing true = refl
 object_there Missing Missing false = refl
 
-pub no_object_lem : (g : Given) {e a : List ℕ} {t : Tag} → Says g e a t → (u : Bool) → eqb (object_in g u).what 0 ≡ not (is_some t.resource || is_some t.node_id || u)
+pub no_object_lem : (g : Given) {e a : List ℕ} {t : Tag} → Says g e a t → (u : Bool) → is_absent (object_in g u).what ≡ not (is_some t.resource || is_some t.node_id || u)
 unfolding object_in
 no_object_lem g {e} {a} s u =
     rw (← s.resource, ← s.node, there_is g.resource e a, there_is g.node e a) (object_there g.resource g.node u)

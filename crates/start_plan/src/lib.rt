@@ -4,7 +4,7 @@
 ghost use Rattle.std.specs.Prelude.{◌≡◌};
 ghost use Rattle.start_plan.specs.Plan.{subject_in, object_in, root_plan, wrapper_plan, node_plan, default_plan, held_plan, resource_plan, is_there, made_label};
 
-use start_element::{Parts, Source};
+use start_element::{Parts, Pending, Source};
 use start_references::reference::Area;
 use state::language::Own;
 use state_words::Kind;
@@ -23,7 +23,7 @@ pub struct Given {
 }
 
 // Which lines a start tag writes at once: none; those of its own node; those of its object; the statement whose object its node is.
-#[derive(Clone, Copy)]
+#[derive(Clone, Copy, PartialEq, Eq, Debug)]
 pub enum Lines {
     Nothing,
     Node,
@@ -52,14 +52,14 @@ pub struct Start {
 }
 
 // A node that a tag names, or the label made for it.
-#[derive(Clone, Copy)]
+#[derive(Clone, Copy, PartialEq, Eq, Debug)]
 pub struct Named {
     pub source: Source,
-    pub what: u32,
+    pub what: Pending,
 }
 
 // rdf:RDF, with what it is in a packet.
-pub fn root(g: Given, part: u32, labels: u64) -> Plan
+pub fn root(g: Given, part: Pending, labels: u64) -> Plan
     ensures { result ≡ root_plan g part labels }
 {
     let base = g.base;
@@ -94,7 +94,7 @@ pub fn wrapper(labels: u64) -> Plan
             main: Source::Missing,
             id: Source::Missing,
             datatype: Source::Missing,
-            what: 0,
+            what: Pending::Absent,
             object: Source::Missing,
         },
         lines: Lines::Nothing,
@@ -103,7 +103,7 @@ pub fn wrapper(labels: u64) -> Plan
 }
 
 // A node element, with what it is in a packet.
-pub fn build_node_elt(g: Given, part: u32, labels: u64) -> Plan
+pub fn build_node_elt(g: Given, part: Pending, labels: u64) -> Plan
     ensures { result ≡ node_plan g part labels }
 {
     let base = g.base;
@@ -113,7 +113,7 @@ pub fn build_node_elt(g: Given, part: u32, labels: u64) -> Plan
     Plan {
         parts: Parts {
             kind: Kind::NodeElt,
-            blank: named.what == 2,
+            blank: named.what.is_blank(),
             base,
             tag,
             main,
@@ -150,7 +150,7 @@ pub fn default(g: Given, property: Source, attributes: bool, labels: u64) -> Pla
             what,
             object,
         },
-        lines: if what == 0 {
+        lines: if what.is_absent() {
             Lines::Nothing
         } else {
             Lines::Object
@@ -175,7 +175,7 @@ pub fn held(kind: Kind, g: Given, property: Source, labels: u64) -> Plan
             main: property,
             id,
             datatype: Source::Missing,
-            what: 0,
+            what: Pending::Absent,
             object: Source::Missing,
         },
         lines: Lines::Nothing,
@@ -198,7 +198,7 @@ pub fn resource(g: Given, labels: u64) -> Plan
             main: made_label(),
             id: Source::Missing,
             datatype: Source::Missing,
-            what: 0,
+            what: Pending::Absent,
             object: Source::Missing,
         },
         lines: Lines::Resource,
@@ -216,24 +216,24 @@ fn subject_of(g: Given) -> Named
     if is_there(id) {
         return Named {
             source: id,
-            what: 1,
+            what: Pending::Named,
         };
     }
     if is_there(about) {
         return Named {
             source: about,
-            what: 1,
+            what: Pending::Named,
         };
     }
     if is_there(node) {
         return Named {
             source: node,
-            what: 2,
+            what: Pending::Blank,
         };
     }
     Named {
         source: made_label(),
-        what: 2,
+        what: Pending::Blank,
     }
 }
 
@@ -246,24 +246,24 @@ fn object_of(g: Given, attributes: bool) -> Named
     if is_there(resource) {
         return Named {
             source: resource,
-            what: 1,
+            what: Pending::Named,
         };
     }
     if is_there(node) {
         return Named {
             source: node,
-            what: 2,
+            what: Pending::Blank,
         };
     }
     if attributes {
         return Named {
             source: made_label(),
-            what: 2,
+            what: Pending::Blank,
         };
     }
     Named {
         source: Source::Missing,
-        what: 0,
+        what: Pending::Absent,
     }
 }
 

@@ -1,7 +1,9 @@
 -- What a resolved reference stands for: the answer of the definitions, and where its text is.
-use Rattle.std.specs.Prelude.{ℕ, ◌+◌, ◌<◌, ◌≤◌, ◌≡◌, refl, Bool, true, false, List, [], ◌∷◌, ◌++◌, length, take, drop}
+use Rattle.std.specs.Prelude.{Result, Ok, Err, ℕ, ◌+◌, ◌<◌, ◌≤◌, ◌≡◌, refl, Bool, true, false, List, [], ◌∷◌, ◌++◌, length, take, drop}
 use Rattle.std.proofs.Common.{sym, ◌∙◌, inl, arith, length-drop, length-take-le}
 use Rattle.std.proofs.Math.Path.{ap}
+use Rattle.std.specs.Prelude.{Option as Maybe, None, Some}
+use denote.Bor.{Bor}
 use Rattle.std.proofs.Math.Option.{Option, none, some}
 use Rattle.std.proofs.Math.Nat.{add-zero}
 use Rattle.spec.specs.Bytes.{Bytes, byte, ◌>>◌, require◌or◌}
@@ -15,14 +17,21 @@ use Rattle.copy.specs.Copy.{part, stored_at, Put, put-fits, wrote_part, wrote_fr
 use Rattle.state_words.specs.Kept.{Kept, kept_all, kept_before}
 use Rattle.state_words.specs.Words.{pick}
 use Rattle.resolve.specs.declared.Resolved.{Resolved}
-use Rattle.resolve.specs.declared.Resolved.TheVariants.{Length, NoForm, TooLong, NoArea}
-use Rattle.resolve.specs.Resolve.{Result, need, most_area, result_length, result_formless, result_long, result_room}
+use Rattle.resolve.specs.declared.ResolveError.{ResolveError}
+use Rattle.resolve.specs.declared.ResolveError.TheVariants.{NoForm, TooLong, NoArea}
+use Rattle.resolve.specs.Resolve as R
+use Rattle.resolve.specs.Resolve.{of_length, need, most_area, result_length, result_formless, result_long, result_room}
 use Rattle.start_references.specs.declared.reference.Reference.{Reference}
 use Rattle.start_references.specs.declared.reference.Reference.TheVariants.{Missing, Bad, Long, Made}
 
 -- a text, where it is there
 unfoldable pub given : Bool → Bytes → Option Bytes
 given b s = pick b (some s) none
+
+-- a text that is lent, where it is there
+abbrev pub text_if : Maybe (Bor Bytes) → Option Bytes
+text_if None = none
+text_if (Some s) = some s.now
 
 abbrev pub is_bad : Reference → Bool
 is_bad Missing = false
@@ -141,11 +150,11 @@ module _ (base reference : Bytes) (i : is_iri_reference reference ≡ true) wher
   unfolding resolved ◌>>◌ require◌or◌
   bad_form f = rw (i, f)
 
-  module _ {room back : List ℕ} {r : Resolved} (h : Result base reference room back r) where
-    formless : r ≡ NoForm → resolved (some base) (some reference) ≡ refuse BadIri
+  module _ {room back : List ℕ} {r : Result Resolved ResolveError} (h : R.Resolves base reference room back r) where
+    formless : r ≡ Err NoForm → resolved (some base) (some reference) ≡ refuse BadIri
     formless e = bad_form (result_formless h e)
 
-    too_long_lem : r ≡ TooLong → Over (resolved (some base) (some reference))
+    too_long_lem : r ≡ Err TooLong → Over (resolved (some base) (some reference))
     unfolding most_name_bytes
     too_long_lem e = let l = result_long h e in record { text = resolve base reference; is = good_form l.0; long = l.1 }
 
@@ -167,13 +176,13 @@ module _ (base reference : Bytes) (i : is_iri_reference reference ≡ true) wher
             same = length_stored area at back (omega (arith, size));
           })
 
-      pub based_formless : r ≡ NoForm → Resolves (resolved (some base) (some reference)) area (take at area ++ (back ++ drop k (drop at area))) at Bad
+      pub based_formless : r ≡ Err NoForm → Resolves (resolved (some base) (some reference)) area (take at area ++ (back ++ drop k (drop at area))) at Bad
       based_formless e = back_at Bad (formless e)
 
-      pub based_long : r ≡ TooLong → Resolves (resolved (some base) (some reference)) area (take at area ++ (back ++ drop k (drop at area))) at Long
+      pub based_long : r ≡ Err TooLong → Resolves (resolved (some base) (some reference)) area (take at area ++ (back ++ drop k (drop at area))) at Long
       based_long e = back_at Long (too_long_lem e)
 
-      pub based_made : {n : ℕ} → r ≡ Length n → Resolves (resolved (some base) (some reference)) area (take at area ++ (back ++ drop k (drop at area))) at (Made n)
+      pub based_made : {n : ℕ} → r ≡ of_length n → Resolves (resolved (some base) (some reference)) area (take at area ++ (back ++ drop k (drop at area))) at (Made n)
       unfolding most_name_bytes part
       based_made {n} e =
           let l = result_length h e in
@@ -187,19 +196,17 @@ module _ (base reference : Bytes) (i : is_iri_reference reference ≡ true) wher
           })
 
     -- there is an answer
-    pub answers : 1_027 ≤ length room → r ≡ NoArea → ⊥
+    pub answers : 1_027 ≤ length room → r ≡ Err NoArea → ⊥
     unfolding need most_area most_name_bytes
     answers n e = result_room h (omega arith) e
 
 -- ---- which base there is
 
-module _ {based : Bool} (b s : Bytes) {area after : List ℕ} {at : ℕ} {r : Reference} where
-  pub without-base : based ≡ false → Resolves (resolved none (some s)) area after at r → Resolves (resolved (given based b) (some s)) area after at r
-  unfolding given
+module _ {base : Maybe (Bor Bytes)} (s : Bytes) {area after : List ℕ} {at : ℕ} {r : Reference} where
+  pub without-base : base ≡ None → Resolves (resolved none (some s)) area after at r → Resolves (resolved (text_if base) (some s)) area after at r
   without-base n h = rw n h
 
-  pub on_base : based ≡ true → Resolves (resolved (some b) (some s)) area after at r → Resolves (resolved (given based b) (some s)) area after at r
-  unfolding given
+  pub on_base : {b : Bor Bytes} → base ≡ Some b → Resolves (resolved (some b.now) (some s)) area after at r → Resolves (resolved (text_if base) (some s)) area after at r
   on_base n h = rw n h
 
 -- ---- rdf:ID

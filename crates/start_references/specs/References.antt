@@ -1,6 +1,6 @@
 -- The references of a tag: rdf:ID (11, 12), then rdf:about, rdf:resource, rdf:datatype, rdf:type (11).
 use Rattle.std.specs.Prelude.{ℕ, zero, suc, ◌+◌, ◌<◌, ◌≤◌, ◌≡◌, refl, Bool, true, false, ◌&&◌, ◌||◌, not, List, leb, length, get_or, drop}
-use Rattle.std.proofs.Common.{sym, ap, ◌∙◌, arith, length-take, le-leb, leb-false, le-ltb}
+use Rattle.std.proofs.Common.{◌⊎◌, inl, inr, sym, ap, ◌∙◌, arith, length-take, le-leb, leb-false, le-ltb}
 use Rattle.std.proofs.lemmas.Bool.{false≢true, lt-leb}
 use Rattle.std.proofs.Math.Option.{Option, none, some}
 use Rattle.spec.specs.Bytes.{Bytes, same, member, ◌>>=◌, ◌>>◌, require◌or◌}
@@ -24,9 +24,8 @@ use Rattle.start_attributes.specs.Reads.{meanings_of, Roles}
 use Rattle.start_attributes.specs.First.{first_in}
 use Rattle.start_references.specs.declared.Others.{Others}
 use Rattle.start_references.specs.declared.References.{References}
-use Rattle.start_references.specs.declared.Resolutions.{Resolutions}
-use Rattle.start_references.specs.declared.Resolutions.TheVariants.{Stop, Good}
 use Rattle.start_references.specs.Values.{value_if, first_value}
+use Rattle.std.specs.Prelude.{Result, Ok, Err}
 
 -- ---- of the definitions
 
@@ -118,17 +117,11 @@ used_means count at len store area o (Made n) h =
 
 -- the arms of `is_used`: p is what was read of the area
 module _ (count : ℕ) (at len store area : List ℕ) {r : Reference} where
-  pub used_missing : r ≡ Missing → false ≡ used_by count at len store area r
+  pub used_none : (r ≡ Missing) ⊎ ((r ≡ Bad) ⊎ (r ≡ Long)) → false ≡ used_by count at len store area r
   unfolding used_by
-  used_missing h = rw h
-
-  pub used_bad : r ≡ Bad → false ≡ used_by count at len store area r
-  unfolding used_by
-  used_bad h = rw h
-
-  pub used-long : r ≡ Long → false ≡ used_by count at len store area r
-  unfolding used_by
-  used-long h = rw h
+  used_none (inl h) = rw h
+  used_none (inr (inl h)) = rw h
+  used_none (inr (inr h)) = rw h
 
   pub used-made : {n : ℕ} {p : Bytes} {b : Bool} → r ≡ Made n → p ≡ part area 0 n → b ≡ Ids.found count at len store p → b ≡ used_by count at len store area r
   unfolding used_by
@@ -192,12 +185,12 @@ pub record Resolved (r : References) (after : List ℕ) (x : Answer Five) : Type
   pub datatype : Refers r.others.datatype after 3072 (good five.datatype)
   pub kind : Refers r.others.kind after 4096 (good five.type)
 
-abbrev pub Cases : Resolutions → List ℕ → Answer Five → Type 0
-Cases (Stop n) after x = x ≡ refuse n
-Cases (Good r) after x = Resolved r after x
+abbrev pub Cases : Result References Refusal → List ℕ → Answer Five → Type 0
+Cases (Err n) after x = x ≡ refuse n
+Cases (Ok r) after x = Resolved r after x
 
 -- what `references` does: x is what the definitions answer
-pub record Resolving (x : Answer Five) (area after : List ℕ) (r : Resolutions) : Type 0 where
+pub record Resolving (x : Answer Five) (area after : List ℕ) (r : Result References Refusal) : Type 0 where
   pub cases : Cases r after x
   pub same : length after ≡ length area
 
@@ -318,13 +311,13 @@ module _ (base : Option Bytes) {o q : Option Bytes} (e : o ≡ q) {a b : List �
   pub id_as : Resolves (resolved base (with_hash o)) a b at r → Resolves (resolved base (with_hash q)) a b at r
   id_as h = rw (← e) h
 
-pub base_as : (fresh : Option Bytes → Bool) (v : Five) {o q : Option Bytes} {a b : List ℕ} {r : Resolutions} → o ≡ q
+pub base_as : (fresh : Option Bytes → Bool) (v : Five) {o q : Option Bytes} {a b : List ℕ} {r : Result References Refusal} → o ≡ q
     → Resolving (references o fresh v) a b r → Resolving (references q fresh v) a b r
 base_as fresh v e h = rw (← e) h
 
 -- the tests in a row: rdf:ID is r
 module _ (base : Option Bytes) (v : Five) (count : ℕ) (at len store : List ℕ) {a b : List ℕ} {r : Reference} (h : Resolves (resolved base (with_hash v.id)) a b 0 r) where
-  pub stop_bad : is_bad r ≡ true → Resolving (references base (fresh_by count at len store) v) a b (Stop BadIri)
+  pub stop_bad : is_bad r ≡ true → Resolving (references base (fresh_by count at len store) v) a b (Err BadIri)
   stop_bad y = record { cases = id_refused base (fresh_by count at len store) v (bad_refuses b 0 r h.is y); same = h.same }
 
   module _ (n : is_bad r ≡ false) where
@@ -334,17 +327,17 @@ module _ (base : Option Bytes) (v : Five) (count : ℕ) (at len store : List ℕ
     tested : fresh_by count at len store came.text ≡ not (used_by count at len store b r)
     tested = used_means count at len store b came.text r (refers_as b 0 r h.is came.is)
 
-    pub stop_used : used_by count at len store b r ≡ true → Resolving (references base (fresh_by count at len store) v) a b (Stop RepeatedId)
+    pub stop_used : used_by count at len store b r ≡ true → Resolving (references base (fresh_by count at len store) v) a b (Err RepeatedId)
     stop_used u = record { cases = id_repeated base (fresh_by count at len store) v came.is (tested ∙ rw u); same = h.same }
 
     module _ (u : used_by count at len store b r ≡ false) {c : List ℕ} {o : Others} (f : Four base v b c o) where
       passes : references base (fresh_by count at len store) v ≡ others base v came.text
       passes = id_passes base (fresh_by count at len store) v came.is (tested ∙ rw u)
 
-      pub stop_others : any_bad o ≡ true → Resolving (references base (fresh_by count at len store) v) a c (Stop BadIri)
+      pub stop_others : any_bad o ≡ true → Resolving (references base (fresh_by count at len store) v) a c (Err BadIri)
       stop_others y = record { cases = passes ∙ others_bad f came.text y; same = f.same ∙ h.same }
 
-      pub all_resolved : any_bad o ≡ false → Resolving (references base (fresh_by count at len store) v) a c (Good (record { id = r; others = o }))
+      pub all_resolved : any_bad o ≡ false → Resolving (references base (fresh_by count at len store) v) a c (Ok (record { id = r; others = o }))
       all_resolved y =
           let i : Refers r b 0 (good came.text) = refers_as b 0 r h.is came.is in
           record { cases = rw passes (others_good f came.text (refers_kept 0 (good came.text) r i f.before (omega arith) f.same) y); same = f.same ∙ h.same }

@@ -1,15 +1,19 @@
 -- The values that a tag's roles have, from the places of their first attributes, and the base that references are resolved on.
-use Rattle.std.specs.Prelude.{ℕ, ◌+◌, ◌<◌, ◌≤◌, ◌≡◌, Bool, ◌||◌, List, length}
+use Rattle.std.specs.Prelude.{ℕ, ◌+◌, ◌<◌, ◌≤◌, ◌≡◌, Bool, List, length}
 use Rattle.std.proofs.Math.Path.{refl}
 use Rattle.std.proofs.Math.Bool.{true, false}
 use Rattle.std.proofs.Math.Option.{Option, none, some}
-use Rattle.std.proofs.Common.{arith, ltb-true, ltb-false, lt-ltb}
+use Rattle.std.proofs.Common.{sym, ◌∙◌, arith, ltb-true, ltb-false, lt-ltb}
 use Rattle.std.proofs.Math.Dec.{ltb}
+use Rattle.std.proofs.lemmas.Bool.Decides.{nat_tests}
 use Rattle.spec.specs.Bytes.{Bytes, or_else}
 use Rattle.spec.specs.StartTag.{Role, xml_base, first}
 use Rattle.copy.specs.Copy.{part, part_short}
 use Rattle.state_words.specs.Words.{pick}
-use Rattle.state_stack.specs.declared.Found.{Found}
+use Rattle.state.specs.declared.Span.{Span}
+use Rattle.std.specs.declared.option.Option as std
+use Rattle.std.specs.Prelude.{Some, None, is_some}
+use Rattle.state.specs.Language.{bytes_found}
 use Rattle.state_inner.specs.Laws.{found}
 use Rattle.start_names.specs.Tag.{start_at, size_at, value_size_at, value_at}
 use Rattle.start_references.specs.Reference.{given}
@@ -41,26 +45,32 @@ module _ {e w v cs rs : List ℕ} {k : ℕ} (h : Roles e w v cs rs k) (r : Role)
 
 -- ---- the base that holds for a tag: its own, or that which was found in force
 
-unfoldable pub in_force : List ℕ → List ℕ → List ℕ → ℕ → List ℕ → Found → Option Bytes
+unfoldable pub in_force : List ℕ → List ℕ → List ℕ → ℕ → List ℕ → std.Option Span → Option Bytes
 in_force e w v k rs f = or_else (value_if e w k (first_in rs k xml_base)) (found f v)
 
--- x is the value at place j of k, or else what was found
-pub record Bases (e w : List ℕ) (k j : ℕ) (v : List ℕ) (f : Found) (x : Bytes) : Type 0 where
-  pub own : j < k → x ≡ value_at e w j
-  pub other : k ≤ j → x ≡ part v f.at f.len
+-- its own is at place j of k, where it has one
+unfoldable pub base_at : List ℕ → List ℕ → ℕ → ℕ → List ℕ → std.Option Span → Option Bytes
+base_at e w k j v f = or_else (value_if e w k j) (found f v)
 
-pub bases_own : {e w : List ℕ} {k j : ℕ} {v : List ℕ} {f : Found} {x : Bytes} → j < k → x ≡ value_at e w j → Bases e w k j v f x
-bases_own h q = record { own = λ _. q; other = λ l. absurd (omega arith) }
+module _ (e w v : List ℕ) (k j : ℕ) (f : std.Option Span) where
+  pub base_own : {x : Bytes} → j < k → x ≡ value_at e w j → some x ≡ base_at e w k j v f
+  unfolding base_at value_if given or_else
+  base_own h q = rw (lt-ltb j k h, q)
 
-pub bases_other : {e w : List ℕ} {k j : ℕ} {v : List ℕ} {f : Found} {x : Bytes} → k ≤ j → x ≡ part v f.at f.len → Bases e w k j v f x
-bases_other h q = record { own = λ l. absurd (omega arith); other = λ _. q }
+  -- without its own
+  base_found : k ≤ j → found f v ≡ base_at e w k j v f
+  unfolding base_at value_if given or_else
+  base_found h = let none : ltb j k ≡ false = grind (arith, nat_tests) in rw none
 
-module _ {e w v : List ℕ} {k j : ℕ} {f : Found} {x : Bytes} (b : Bases e w k j v f x) where
+  pub base_none : k ≤ j → f ≡ None → none ≡ base_at e w k j v f
+  unfolding found
+  base_none h q = let e : found f v ≡ none = rw q in sym e ∙ base_found h
+
+  pub base_other : {x : Bytes} {s : Span} → k ≤ j → f ≡ Some s → x ≡ part v s.at s.len → some x ≡ base_at e w k j v f
+  unfolding found
+  base_other {s = s} h q p = let e : found f v ≡ some (part v s.at s.len) = rw q in rw p (sym e ∙ base_found h)
+
   -- j is the place of xml:base, f what is in force
-  pub based : (rs : List ℕ) {g : Found} → j ≡ first_in rs k xml_base → f ≡ g → given (ltb j k || f.there) x ≡ in_force e w v k rs g
-  unfolding in_force value_if given or_else found
-  based rs {g} p t = go (ltb j k) refl
-    where
-      go : (y : Bool) → ltb j k ≡ y → given (ltb j k || f.there) x ≡ or_else (given (ltb (first_in rs k xml_base) k) (value_at e w (first_in rs k xml_base))) (found g v)
-      go true l = rw (← p, l, b.own (ltb-true j k l))
-      go false l = rw (← p, l, ← t, b.other (ltb-false j k l))
+  pub based : (rs : List ℕ) {g : std.Option Span} {o : Option Bytes} → o ≡ base_at e w k j v f → j ≡ first_in rs k xml_base → f ≡ g → o ≡ in_force e w v k rs g
+  unfolding in_force base_at
+  based rs b p t = rw (← p, ← t) b

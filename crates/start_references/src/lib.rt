@@ -4,11 +4,11 @@
 ghost use Rattle.std.specs.Prelude.{◌≡◌};
 ghost use Rattle.spec.specs.StartTag.{resolved, with_hash, rdf_ID};
 ghost use Rattle.state_inner.specs.Calls.{base_in};
-ghost use Rattle.start_references.specs.Reference.{given, Resolves};
+ghost use Rattle.start_references.specs.Reference.{text_if, Resolves};
 ghost use Rattle.start_attributes.specs.Role.{role_is};
 ghost use Rattle.start_attributes.specs.First.{first_in};
 ghost use Rattle.state_ids.specs.Ids.{SpansIn};
-ghost use Rattle.start_references.specs.Values.{value_if, in_force, Bases};
+ghost use Rattle.start_references.specs.Values.{value_if, in_force, base_at};
 ghost use Rattle.start_references.specs.References.{five_at, references, fresh_by, used_by, Ready, Four, any_bad, any_long, Resolving};
 
 pub mod reference;
@@ -16,18 +16,17 @@ pub mod reference;
 use crate::reference::{Area, Reference};
 use spec::Refusal;
 use start_attributes::roles::Role;
-use state::Registers;
+use state::{Registers, Span};
 use state_ids::IdTable;
-use state_stack::Found;
 
 // The references of a tag, resolved: rdf:ID, and rdf:about, rdf:resource, rdf:datatype, rdf:type.
-#[derive(Clone, Copy)]
+#[derive(Clone, Copy, PartialEq, Eq, Debug)]
 pub struct References {
     pub id: Reference,
     pub others: Others,
 }
 
-#[derive(Clone, Copy)]
+#[derive(Clone, Copy, PartialEq, Eq, Debug)]
 pub struct Others {
     pub about: Reference,
     pub resource: Reference,
@@ -35,51 +34,25 @@ pub struct Others {
     pub kind: Reference,
 }
 
-#[derive(Clone, Copy)]
-pub enum Resolutions {
-    Stop(Refusal),
-    Good(References),
-}
-
 impl Others {
     // Did no IRI come of one of them?
     fn is_bad(self) -> bool
         ensures { result ≡ any_bad self }
     {
-        let about = self.about;
-        let resource = self.resource;
-        let datatype = self.datatype;
-        let kind = self.kind;
-        if about.is_bad() {
-            return true;
-        }
-        if resource.is_bad() {
-            return true;
-        }
-        if datatype.is_bad() {
-            return true;
-        }
-        kind.is_bad()
+        self.about.is_bad()
+            || self.resource.is_bad()
+            || self.datatype.is_bad()
+            || self.kind.is_bad()
     }
 
     // Is one of them longer than an IRI may be?
     pub fn is_long(self) -> bool
         ensures { result ≡ any_long self }
     {
-        let about = self.about;
-        let resource = self.resource;
-        let datatype = self.datatype;
-        let kind = self.kind;
-        if about.is_long() {
-            return true;
-        }
-        if resource.is_long() {
-            return true;
-        }
-        if datatype.is_long() {
-            return true;
-        }
-        kind.is_long()
+        self.about.is_long()
+            || self.resource.is_long()
+            || self.datatype.is_long()
+            || self.kind.is_long()
     }
 }
 
@@ -97,7 +70,7 @@ pub fn resolve_references<'a>(
     k: usize,
     roles: &[u8],
     area: &mut [u8],
-) -> Resolutions
+) -> Result<References, Refusal>
     requires { Ready scratch.now area.old 4096 × SpansIn count starts.now sizes.now ids.now }
     ensures { Resolving (references (in_force scratch.now spans.now work.now k roles.now (base_in r frames.now)) (fresh_by count starts.now sizes.now ids.now) (five_at scratch.now spans.now k roles.now)) area.old area.new result }
 {
@@ -105,17 +78,7 @@ pub fn resolve_references<'a>(
     let f = state_inner::base_in_force(r, frames);
     let base = base_of(scratch, spans, k, j, work, f);
     resolve_on(
-        (j < k) | f.there,
-        base,
-        count,
-        starts,
-        sizes,
-        ids,
-        scratch,
-        spans,
-        k,
-        roles,
-        area,
+        base, count, starts, sizes, ids, scratch, spans, k, roles, area,
     )
 }
 
@@ -126,20 +89,22 @@ fn base_of<'a>(
     k: usize,
     j: usize,
     work: &'a [u8],
-    f: Found,
-) -> &'a [u8]
-    ensures { Bases scratch.now spans.now k j work.now f result.now }
+    f: Option<Span>,
+) -> Option<&'a [u8]>
+    ensures { text_if result ≡ base_at scratch.now spans.now k j work.now f }
 {
     if j < k {
-        return start_names::value_of(scratch, spans, j);
+        return Some(start_names::value_of(scratch, spans, j));
     }
-    copy::piece(work, f.at, f.len)
+    match f {
+        None => None,
+        Some(span) => Some(copy::piece(work, span.at, span.len)),
+    }
 }
 
 // rdf:ID (11, 12), then the others (11), among which the order does not show.
 fn resolve_on(
-    based: bool,
-    base: &[u8],
+    base: Option<&[u8]>,
     count: usize,
     starts: &[u32; IdTable::MOST],
     sizes: &[u32; IdTable::MOST],
@@ -149,27 +114,26 @@ fn resolve_on(
     k: usize,
     roles: &[u8],
     area: &mut [u8],
-) -> Resolutions
+) -> Result<References, Refusal>
     requires { Ready scratch.now area.old 4096 × SpansIn count starts.now sizes.now ids.now }
-    ensures { Resolving (references (given based base.now) (fresh_by count starts.now sizes.now ids.now) (five_at scratch.now spans.now k roles.now)) area.old area.new result }
+    ensures { Resolving (references (text_if base.entry) (fresh_by count starts.now sizes.now ids.now) (five_at scratch.now spans.now k roles.now)) area.old area.new result }
 {
-    let id = resolve_id(based, base, scratch, spans, k, roles, area);
+    let id = resolve_id(base, scratch, spans, k, roles, area);
     if id.is_bad() {
-        return Resolutions::Stop(Refusal::BadIri);
+        return Err(Refusal::BadIri);
     }
     if is_used(id, area, count, starts, sizes, ids) {
-        return Resolutions::Stop(Refusal::RepeatedId);
+        return Err(Refusal::RepeatedId);
     }
-    let others = resolve_others(based, base, scratch, spans, k, roles, area);
+    let others = resolve_others(base, scratch, spans, k, roles, area);
     if others.is_bad() {
-        return Resolutions::Stop(Refusal::BadIri);
+        return Err(Refusal::BadIri);
     }
-    Resolutions::Good(References { id, others })
+    Ok(References { id, others })
 }
 
 fn resolve_id(
-    based: bool,
-    base: &[u8],
+    base: Option<&[u8]>,
     scratch: &[u8],
     spans: &[u32],
     k: usize,
@@ -177,14 +141,14 @@ fn resolve_id(
     area: &mut [u8],
 ) -> Reference
     requires { Ready scratch.now area.old 0 }
-    ensures { Resolves (resolved (given based base.now) (with_hash (value_if scratch.now spans.now k (first_in roles.now k rdf_ID)))) area.old area.new 0 result }
+    ensures { Resolves (resolved (text_if base.entry) (with_hash (value_if scratch.now spans.now k (first_in roles.now k rdf_ID)))) area.old area.new 0 result }
 {
     let j = start_attributes::first_in(roles, k, Role::Id);
     if k <= j {
         return Reference::Missing;
     }
     let value = start_names::value_of(scratch, spans, j);
-    crate::reference::resolved_id(based, base, value, area)
+    crate::reference::resolved_id(base, value, area)
 }
 
 // Had an earlier event this rdf:ID? One that is too long had none.
@@ -200,9 +164,7 @@ fn is_used(
     ensures { result ≡ used_by count starts.now sizes.now ids.now area.now id }
 {
     match id {
-        Reference::Missing => false,
-        Reference::Bad => false,
-        Reference::Long => false,
+        Reference::Missing | Reference::Bad | Reference::Long => false,
         Reference::Made(n) => state_ids::find(
             count,
             starts,
@@ -214,8 +176,7 @@ fn is_used(
 }
 
 fn resolve_others(
-    based: bool,
-    base: &[u8],
+    base: Option<&[u8]>,
     scratch: &[u8],
     spans: &[u32],
     k: usize,
@@ -223,11 +184,10 @@ fn resolve_others(
     area: &mut [u8],
 ) -> Others
     requires { Ready scratch.now area.old 4096 }
-    ensures { Four (given based base.now) (five_at scratch.now spans.now k roles.now) area.old area.new result }
+    ensures { Four (text_if base.entry) (five_at scratch.now spans.now k roles.now) area.old area.new result }
 {
     let about = resolve_in(
         Role::About,
-        based,
         base,
         scratch,
         spans,
@@ -238,7 +198,6 @@ fn resolve_others(
     );
     let resource = resolve_in(
         Role::Resource,
-        based,
         base,
         scratch,
         spans,
@@ -249,7 +208,6 @@ fn resolve_others(
     );
     let datatype = resolve_in(
         Role::Datatype,
-        based,
         base,
         scratch,
         spans,
@@ -258,17 +216,7 @@ fn resolve_others(
         area,
         Area::DATATYPE,
     );
-    let kind = resolve_in(
-        Role::Type,
-        based,
-        base,
-        scratch,
-        spans,
-        k,
-        roles,
-        area,
-        Area::TYPE,
-    );
+    let kind = resolve_in(Role::Type, base, scratch, spans, k, roles, area, Area::TYPE);
     Others {
         about,
         resource,
@@ -280,8 +228,7 @@ fn resolve_others(
 // The value of the first attribute in a role, resolved to a place of the area.
 fn resolve_in(
     role: Role,
-    based: bool,
-    base: &[u8],
+    base: Option<&[u8]>,
     scratch: &[u8],
     spans: &[u32],
     k: usize,
@@ -290,12 +237,12 @@ fn resolve_in(
     at: usize,
 ) -> Reference
     requires { Ready scratch.now area.old at }
-    ensures { Resolves (resolved (given based base.now) (value_if scratch.now spans.now k (first_in roles.now k (role_is role)))) area.old area.new at result }
+    ensures { Resolves (resolved (text_if base.entry) (value_if scratch.now spans.now k (first_in roles.now k (role_is role)))) area.old area.new at result }
 {
     let j = start_attributes::first_in(roles, k, role);
     if k <= j {
         return Reference::Missing;
     }
     let value = start_names::value_of(scratch, spans, j);
-    crate::reference::resolved(based, base, value, area, at)
+    crate::reference::resolved(base, value, area, at)
 }

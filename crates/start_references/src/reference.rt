@@ -1,12 +1,12 @@
 // References of a start tag, resolved into the area that is lent for an event.
-ghost use Rattle.std.specs.Prelude.{◌≡◌, true, ◌<◌, length};
+ghost use Rattle.std.specs.Prelude.{◌≡◌, true, ◌<◌, ◌≤◌, length};
 ghost use Rattle.std.proofs.Math.Option.{none, some};
 ghost use Rattle.spec.specs.Rfc3987.{is_iri_reference};
 ghost use Rattle.spec.specs.StartTag.{resolved, with_hash};
-ghost use Rattle.start_references.specs.Reference.{given, Resolves, Room, RoomForId, is_bad, is_long};
+ghost use Rattle.start_references.specs.Reference.{text_if, Resolves, Room, RoomForId, is_bad, is_long};
 
 use pyx::Event;
-use resolve::Resolved;
+use resolve::{ResolveError, Resolved};
 use state::Registers;
 
 // What is made for an event stands in one lent area, each thing at its place. Resolving takes a few bytes more, so later places are written later.
@@ -14,7 +14,8 @@ use state::Registers;
 pub struct Area {}
 
 // A reference, resolved: missing; no IRI comes of it; longer than an IRI may be; or in the area, of this many bytes.
-#[derive(Clone, Copy)]
+// Four ways, asked for one by one: what is too long is no refusal before all else was judged.
+#[derive(Clone, Copy, PartialEq, Eq, Debug)]
 pub enum Reference {
     Missing,
     Bad,
@@ -55,71 +56,53 @@ impl Reference {
     pub fn is_bad(self) -> bool
         ensures { result ≡ is_bad self }
     {
-        match self {
-            Reference::Missing => false,
-            Reference::Bad => true,
-            Reference::Long => false,
-            Reference::Made(_) => false,
-        }
+        self == Reference::Bad
     }
 
     // Is it longer than an IRI may be?
     pub fn is_long(self) -> bool
         ensures { result ≡ is_long self }
     {
-        match self {
-            Reference::Missing => false,
-            Reference::Bad => false,
-            Reference::Long => true,
-            Reference::Made(_) => false,
-        }
+        self == Reference::Long
     }
 }
 
 // A reference on a base that may be missing: without one it has to be an IRI.
-pub fn resolved(based: bool, base: &[u8], reference: &[u8], area: &mut [u8], at: usize) -> Reference
+pub fn resolved(base: Option<&[u8]>, reference: &[u8], area: &mut [u8], at: usize) -> Reference
     requires { Room area.old at }
-    ensures { Resolves (resolved (given based base.now) (some reference.now)) area.old area.new at result }
+    ensures { Resolves (resolved (text_if base.entry) (some reference.now)) area.old area.new at result }
 {
-    if !based {
-        return absolute(reference, area, at);
+    match base {
+        None => absolute(reference, area, at),
+        Some(base) => {
+            if !iri::is_iri_reference(reference) {
+                return Reference::Bad;
+            }
+            on_base(base, reference, area, at)
+        }
     }
-    if !iri::is_iri_reference(reference) {
-        return Reference::Bad;
-    }
-    on_base(base, reference, area, at)
 }
 
-// rdf:ID: "#" and the value.
-pub fn resolved_id(based: bool, base: &[u8], value: &[u8], area: &mut [u8]) -> Reference
+// rdf:ID: "#" and the value. Nearly all values are short, and room for the longest would cost more to lay out than all the rest.
+pub fn resolved_id(base: Option<&[u8]>, value: &[u8], area: &mut [u8]) -> Reference
     requires { RoomForId value.now area.old }
-    ensures { Resolves (resolved (given based base.now) (with_hash (some value.now))) area.old area.new 0 result }
+    ensures { Resolves (resolved (text_if base.entry) (with_hash (some value.now))) area.old area.new 0 result }
 {
     if value.len() < FEW {
-        return near_id(based, base, value, area);
+        return hashed::<FEW>(base, value, area);
     }
-    far_id(based, base, value, area)
+    hashed::<HASHED>(base, value, area)
 }
 
-// The same where the value is short, as nearly all are: room for the longest would cost more to lay out than all the rest.
-fn near_id(based: bool, base: &[u8], value: &[u8], area: &mut [u8]) -> Reference
-    requires { RoomForId value.now area.old × (length value.now < 256) }
-    ensures { Resolves (resolved (given based base.now) (with_hash (some value.now))) area.old area.new 0 result }
+// The same for a value that is shorter than N bytes.
+fn hashed<const N: usize>(base: Option<&[u8]>, value: &[u8], area: &mut [u8]) -> Reference
+    requires { RoomForId value.now area.old × (length value.now < N) × (N ≤ 32_769) }
+    ensures { Resolves (resolved (text_if base.entry) (with_hash (some value.now))) area.old area.new 0 result }
 {
     let n = value.len() + 1;
-    let mut reference = [b'#'; FEW];
+    let mut reference = [b'#'; N];
     copy::put(&mut reference, 1, value);
-    resolved(based, base, &reference[..n], area, Area::ID)
-}
-
-fn far_id(based: bool, base: &[u8], value: &[u8], area: &mut [u8]) -> Reference
-    requires { RoomForId value.now area.old }
-    ensures { Resolves (resolved (given based base.now) (with_hash (some value.now))) area.old area.new 0 result }
-{
-    let n = value.len() + 1;
-    let mut reference = [b'#'; HASHED];
-    copy::put(&mut reference, 1, value);
-    resolved(based, base, &reference[..n], area, Area::ID)
+    resolved(base, &reference[..n], area, Area::ID)
 }
 
 // Without a base.
@@ -144,9 +127,9 @@ fn on_base(base: &[u8], reference: &[u8], area: &mut [u8], at: usize) -> Referen
 {
     let to = at + Resolved::AREA;
     match resolve::resolve(base, reference, &mut area[at..to]) {
-        Resolved::Length(n) => Reference::Made(n),
-        Resolved::NoForm => Reference::Bad,
-        Resolved::TooLong => Reference::Long,
-        Resolved::NoArea => Reference::Bad,
+        Ok(resolved) => Reference::Made(resolved.len),
+        Err(ResolveError::NoForm) => Reference::Bad,
+        Err(ResolveError::TooLong) => Reference::Long,
+        Err(ResolveError::NoArea) => Reference::Bad,
     }
 }

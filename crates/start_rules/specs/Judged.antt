@@ -17,11 +17,10 @@ use Rattle.spec.specs.StartTag.{Tag}
 use Rattle.spec.specs.Productions.{Opened, type_line, tag_lines, statement, one_more, two_of, subject_of, element_type, open_node, no_parse_type, as_collection, as_resource, as_literal, as_other, parse_type_of, has_node, object_of, open_with_node, open_default, open_resource, open_with, open_as, two_objects, is_li, property_iri, open_property, open_root}
 use Rattle.spec.specs.Productions as O
 use Rattle.ntriples.specs.Terms.{id_of as given}
-use Rattle.start_attributes.specs.declared.roles.Judgment.{Judgment}
-use Rattle.start_attributes.specs.declared.roles.Judgment.TheVariants.{Good, Stop}
 use Rattle.start_attributes.specs.Judgment.{said}
 use Rattle.start_rules.specs.declared.ParseType.{ParseType}
 use Rattle.start_rules.specs.declared.ParseType.TheVariants as parse
+use Rattle.std.specs.Prelude.{Result, Ok, Err}
 
 -- ---- the values of rdf:parseType
 
@@ -102,10 +101,6 @@ below {a} n h e = ltb-true n most_labels (not-false (ltb n most_labels) (rw e at
 abbrev pub two_of_three : Bool → Bool → Bool → Bool
 two_of_three a b c = (a && b) || (a && c) || (b && c)
 
-pub first_there : (t : Bool) → t ≡ two_of_three true false t
-first_there true = refl
-first_there false = refl
-
 -- what `judge_node` is told of a start tag
 pub record NodeTag (t : Tag) (reserved id node_id about : Bool) : Type 0 where
   pub name : reserved ≡ not (may_be_node t.iri)
@@ -122,11 +117,11 @@ node_opened t n =
     record { lines = tag_lines (node_subject t n) t ++ type_line (node_subject t n) (element_type t.iri); kind = node_element (node_subject t n) 0; labels = suc n }
 
 -- what `judge_node` answers
-pub record NodeJudged (reserved id node_id about : Bool) (n : ℕ) (r : Judgment) : Type 0 where
+pub record NodeJudged (reserved id node_id about : Bool) (n : ℕ) (r : Result Unit Refusal) : Type 0 where
   pub is : (t : Tag) → NodeTag t reserved id node_id about → open_node t n ≡ said r (node_opened t n)
-  pub left : r ≡ Good → n < most_labels
+  pub left : r ≡ Ok tt → n < most_labels
 
-stop_good : {x : Refusal} → Stop x ≡ Good → ⊥
+stop_good : {x : Refusal} → ◌≡◌ {A = Result (Unit {0}) Refusal} (Err x) (Ok tt) → ⊥
 stop_good e = let z : ◌≡◌ {A = ℕ} 0 1 = cc in omega arith
 
 two_said : {t : Tag} {reserved id node_id about : Bool} → NodeTag t reserved id node_id about → two_of t.id t.node_id t.about ≡ two_of_three id node_id about
@@ -140,21 +135,21 @@ node_rules t n = refl
 
 -- the tests of `judge_node`
 module _ {reserved id node_id about : Bool} {n : ℕ} where
-  pub node_reserved : reserved ≡ true → NodeJudged reserved id node_id about n (Stop Reserved)
+  pub node_reserved : reserved ≡ true → NodeJudged reserved id node_id about n (Err Reserved)
   unfolding ◌>>◌ require◌or◌
   node_reserved h = record { is = λ t k. node_rules t n ∙ rw (refused_by (may_be_node t.iri) k.name h); left = λ e. absurd (stop_good e) }
 
   module _ (h : reserved ≡ false) where
-    pub node-two : two_of_three id node_id about ≡ true → NodeJudged reserved id node_id about n (Stop TwoNames)
+    pub node-two : two_of_three id node_id about ≡ true → NodeJudged reserved id node_id about n (Err TwoNames)
     unfolding ◌>>◌ require◌or◌ two_of
     node-two w = record { is = λ t k. node_rules t n ∙ rw (passed_by (may_be_node t.iri) k.name h, two_said k, w); left = λ e. absurd (stop_good e) }
 
     module _ (w : two_of_three id node_id about ≡ false) where
-      pub node-spent : (true && not (ltb n most_labels)) ≡ true → NodeJudged reserved id node_id about n (Stop LabelsSpent)
+      pub node-spent : (true && not (ltb n most_labels)) ≡ true → NodeJudged reserved id node_id about n (Err LabelsSpent)
       unfolding ◌>>◌ require◌or◌
       node-spent m = record { is = λ t k. node_rules t n ∙ rw (passed_by (may_be_node t.iri) k.name h, two_said k, w, one-spent n m); left = λ e. absurd (stop_good e) }
 
-      pub node_good : (true && not (ltb n most_labels)) ≡ false → NodeJudged reserved id node_id about n Good
+      pub node_good : (true && not (ltb n most_labels)) ≡ false → NodeJudged reserved id node_id about n (Ok tt)
       unfolding ◌>>◌ require◌or◌
       node_good m = record { is = λ t k. node_rules t n ∙ rw (passed_by (may_be_node t.iri) k.name h, two_said k, w, one_left n m); left = λ e. below n m refl }
 
@@ -218,11 +213,11 @@ property_opened as_literal t p n = record { lines = []; kind = property_element 
 property_opened as_other t p n = record { lines = []; kind = property_element p other; labels = n }
 
 -- what `judge_property` answers
-pub record PropertyJudged (reserved li : Bool) (count : ℕ) (p : ParseType) (resource node_id properties : Bool) (n : ℕ) (r : Judgment) : Type 0 where
+pub record PropertyJudged (reserved li : Bool) (count : ℕ) (p : ParseType) (resource node_id properties : Bool) (n : ℕ) (r : Result Unit Refusal) : Type 0 where
   pub is : (t : Tag) (s : Subject) → PropertyTag t reserved li p resource node_id properties
       → open_property t s count n ≡ said r (property_opened (parse_type_is p) t (property_in t s count) n)
-  pub numbers : r ≡ Good → li ≡ true → count < most_labels
-  pub left : r ≡ Good → takes_label (parse_type_is p) resource node_id properties ≡ true → n < most_labels
+  pub numbers : r ≡ Ok tt → li ≡ true → count < most_labels
+  pub left : r ≡ Ok tt → takes_label (parse_type_is p) resource node_id properties ≡ true → n < most_labels
 
 -- an rdf:parseType that is there is never none
 some-parse : (v : Bytes) (a b : Bool) → two_objects_by (parse_type_of (some v)) a b ≡ false
@@ -274,29 +269,29 @@ property_rules {t} s count n k =
 
 -- the tests of `judge_property`
 module _ {reserved li : Bool} {count : ℕ} {p : ParseType} {resource node_id properties : Bool} {n : ℕ} where
-  pub property_reserved : reserved ≡ true → PropertyJudged reserved li count p resource node_id properties n (Stop Reserved)
+  pub property_reserved : reserved ≡ true → PropertyJudged reserved li count p resource node_id properties n (Err Reserved)
   unfolding ◌>>◌ require◌or◌
   property_reserved h = record { is = λ t s k. property_rules s count n k ∙ rw h; numbers = λ e. absurd (stop_good e); left = λ e. absurd (stop_good e) }
 
   module _ (h : reserved ≡ false) where
-    pub property-two : two_objects_by (parse_type_is p) resource node_id ≡ true → PropertyJudged reserved li count p resource node_id properties n (Stop TwoNames)
+    pub property-two : two_objects_by (parse_type_is p) resource node_id ≡ true → PropertyJudged reserved li count p resource node_id properties n (Err TwoNames)
     unfolding ◌>>◌ require◌or◌
     property-two w = record { is = λ t s k. property_rules s count n k ∙ rw (h, w); numbers = λ e. absurd (stop_good e); left = λ e. absurd (stop_good e) }
 
     module _ (w : two_objects_by (parse_type_is p) resource node_id ≡ false) where
-      pub property-counted : (li && not (ltb count most_labels)) ≡ true → PropertyJudged reserved li count p resource node_id properties n (Stop LabelsSpent)
+      pub property-counted : (li && not (ltb count most_labels)) ≡ true → PropertyJudged reserved li count p resource node_id properties n (Err LabelsSpent)
       unfolding ◌>>◌ require◌or◌
       property-counted m = record { is = λ t s k. property_rules s count n k ∙ rw (h, w, asked_spent li count m); numbers = λ e. absurd (stop_good e); left = λ e. absurd (stop_good e) }
 
       module _ (m : (li && not (ltb count most_labels)) ≡ false) where
         pub property-spent : (takes_label (parse_type_is p) resource node_id properties && not (ltb n most_labels)) ≡ true
-            → PropertyJudged reserved li count p resource node_id properties n (Stop LabelsSpent)
+            → PropertyJudged reserved li count p resource node_id properties n (Err LabelsSpent)
         unfolding ◌>>◌ require◌or◌
         property-spent g =
             record { is = λ t s k. property_rules s count n k ∙ rw (h, w, asked_left li count m, asked_spent _ n g); numbers = λ e. absurd (stop_good e); left = λ e. absurd (stop_good e) }
 
         pub property_good : (takes_label (parse_type_is p) resource node_id properties && not (ltb n most_labels)) ≡ false
-            → PropertyJudged reserved li count p resource node_id properties n Good
+            → PropertyJudged reserved li count p resource node_id properties n (Ok tt)
         unfolding ◌>>◌ require◌or◌
         property_good g =
             record { is = λ t s k. property_rules s count n k ∙ rw (h, w, asked_left li count m, asked_left _ n g); numbers = λ e. below count m; left = λ e. below n g }
@@ -322,7 +317,7 @@ module _ (t : Tag) (n : ℕ) where
   subject_generated e f g = rw (e, f, g)
 
 -- a property element that is good, by its rdf:parseType and its object
-module _ {t : Tag} {reserved li : Bool} {count : ℕ} {p : ParseType} {resource node_id properties : Bool} {n : ℕ} (h : PropertyJudged reserved li count p resource node_id properties n Good)
+module _ {t : Tag} {reserved li : Bool} {count : ℕ} {p : ParseType} {resource node_id properties : Bool} {n : ℕ} (h : PropertyJudged reserved li count p resource node_id properties n (Ok tt))
     (s : Subject) (k : PropertyTag t reserved li p resource node_id properties) where
   pub opens_collection : p ≡ parse.Collection → open_property t s count n ≡ good (record { lines = []; kind = property_element (property_in t s count) (collection []); labels = n })
   unfolding property_opened

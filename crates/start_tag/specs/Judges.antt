@@ -54,10 +54,9 @@ use Rattle.start_lines.specs.Lines.{element_type_lem}
 use Rattle.start_tag.specs.Giving.{made_at, Gives, Shorts, shorts, Keeps, given-says, kind-says, iri_says}
 use Rattle.start_form.specs.Order.{production_in, produced_in, no_production, too_long_lem, opens_good}
 use Rattle.start_form.specs.Form.{Formed}
-use Rattle.start_tag.specs.declared.judging.Verdict.{Verdict}
-use Rattle.start_tag.specs.declared.judging.Verdict.TheVariants.{Stop, Go}
 use Rattle.start_tag.specs.Limits.{room_for_id, opening, element_of, behind_fits}
 use Rattle.start_tag.specs.Rules.{is_reserved, under_reserved, under_broken}
+use Rattle.std.specs.Prelude.{Result, Ok, Err}
 
 -- a start tag t that was read, in a state and beside a table of rdf:IDs; cs and rs: the classes and roles of its attributes; a: what was made for it
 pub record Known (t : Tag) (r : Registers) (count used : ℕ) (fs bs is w ia il st e v : List ℕ) (m k : ℕ) (cs rs a : List ℕ) : Type 0 where
@@ -69,12 +68,12 @@ pub record Known (t : Tag) (r : Registers) (count used : ℕ) (fs bs is w ia il 
 
 -- ---- what comes of it
 
-abbrev pub Rules : Verdict → Registers → ℕ → ℕ → List ℕ → List ℕ → List ℕ → List ℕ → List ℕ → List ℕ → List ℕ → List ℕ → List ℕ → ℕ → ℕ → List ℕ → List ℕ → List ℕ → Type 0
-Rules (Stop n) r count used fs bs is w ia il st e v m k cs rs b = (room : ℕ) → handled (P.opening (take m e) (attributes_of e v k)) room (doc_of r fs bs is w (ids_of ia il st count)) ≡ refuse n
-Rules (Go x) r count used fs bs is w ia il st e v m k cs rs b = Goes x (doc_of r fs bs is w (ids_of ia il st count)) r fs bs w e v m k b cs rs count used
+abbrev pub Rules : Result Start Refusal → Registers → ℕ → ℕ → List ℕ → List ℕ → List ℕ → List ℕ → List ℕ → List ℕ → List ℕ → List ℕ → List ℕ → ℕ → ℕ → List ℕ → List ℕ → List ℕ → Type 0
+Rules (Err n) r count used fs bs is w ia il st e v m k cs rs b = (room : ℕ) → handled (P.opening (take m e) (attributes_of e v k)) room (doc_of r fs bs is w (ids_of ia il st count)) ≡ refuse n
+Rules (Ok x) r count used fs bs is w ia il st e v m k cs rs b = Goes x (doc_of r fs bs is w (ids_of ia il st count)) r fs bs w e v m k b cs rs count used
 
 -- b: the area behind it
-pub record Judges (q : Verdict) (t : Tag) (r : Registers) (count used : ℕ) (fs w e v : List ℕ) (m k : ℕ) (a b : List ℕ) : Type 0 where
+pub record Judges (q : Result Start Refusal) (t : Tag) (r : Registers) (count used : ℕ) (fs w e v : List ℕ) (m k : ℕ) (a b : List ℕ) : Type 0 where
   pub cases : (bs is ia il st cs rs : List ℕ) → Known t r count used fs bs is w ia il st e v m k cs rs a → Rules q r count used fs bs is w ia il st e v m k cs rs b
   pub same : length b ≡ length a
 
@@ -87,16 +86,16 @@ pub record Waits (x : Start) (r : Registers) (count used : ℕ) (fs bs is w ia i
   pub fits : {n : ℕ} → Measures e v m k b x.plan.parts n → (room_for_id count used x.id e b && leb (r.store.top - r.store.noted + n) most_held_bytes) ≡ true
       → Goes x (doc_of r fs bs is w (ids_of ia il st count)) r fs bs w e v m k b cs rs count used
 
-abbrev pub Drafted : Verdict → Registers → ℕ → ℕ → List ℕ → List ℕ → List ℕ → List ℕ → List ℕ → List ℕ → List ℕ → List ℕ → List ℕ → ℕ → ℕ → List ℕ → List ℕ → List ℕ → Type 0
-Drafted (Stop n) r count used fs bs is w ia il st e v m k cs rs b = Rules (Stop n) r count used fs bs is w ia il st e v m k cs rs b
-Drafted (Go x) r count used fs bs is w ia il st e v m k cs rs b = Waits x r count used fs bs is w ia il st e v m k cs rs b
+abbrev pub Drafted : Result Start Refusal → Registers → ℕ → ℕ → List ℕ → List ℕ → List ℕ → List ℕ → List ℕ → List ℕ → List ℕ → List ℕ → List ℕ → ℕ → ℕ → List ℕ → List ℕ → List ℕ → Type 0
+Drafted (Err n) r count used fs bs is w ia il st e v m k cs rs b = Rules (Err n) r count used fs bs is w ia il st e v m k cs rs b
+Drafted (Ok x) r count used fs bs is w ia il st e v m k cs rs b = Waits x r count used fs bs is w ia il st e v m k cs rs b
 
 -- the bytes of what is planned can be counted
-abbrev pub Measurable : Verdict → Type 0
-Measurable (Stop n) = Unit
-Measurable (Go x) = Fitting x.plan.parts
+abbrev pub Measurable : Result Start Refusal → Type 0
+Measurable (Err n) = Unit
+Measurable (Ok x) = Fitting x.plan.parts
 
-pub record Drafts (q : Verdict) (t : Tag) (r : Registers) (fs w e v : List ℕ) (k : ℕ) (a b : List ℕ) : Type 0 where
+pub record Drafts (q : Result Start Refusal) (t : Tag) (r : Registers) (fs w e v : List ℕ) (k : ℕ) (a b : List ℕ) : Type 0 where
   pub cases : (count used m : ℕ) (bs is ia il st cs rs : List ℕ) → Known t r count used fs bs is w ia il st e v m k cs rs a → Drafted q r count used fs bs is w ia il st e v m k cs rs b
   pub measurable : Measurable q
   pub same : length b ≡ length a

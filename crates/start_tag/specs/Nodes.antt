@@ -26,8 +26,7 @@ use Rattle.state.specs.Language.{is_said, carries_by_lem}
 use Rattle.state.specs.declared.Registers.{Registers}
 use Rattle.state.specs.Meaning.{subject_below, elements_of}
 use Rattle.state.specs.Valid.{stands}
-use Rattle.start_attributes.specs.declared.roles.Judgment.{Judgment}
-use Rattle.start_attributes.specs.declared.roles.Judgment.TheVariants as judgment
+use Rattle.start_element.specs.declared.Pending.{Pending}
 use Rattle.start_attributes.specs.Judgment.{said}
 use Rattle.start_rules.specs.Judged.{NodeTag, NodeJudged, node_subject, node_opened, node_reserved}
 use Rattle.start_element.specs.declared.Source.TheVariants.{Missing}
@@ -43,14 +42,13 @@ use Rattle.start_plan.specs.Goes.{told, main_of, object_of, property_of}
 use Rattle.start_tag.specs.declared.reading.Tag.{Tag}
 use Rattle.start_tag.specs.Giving.{is_missing, made_there, value-given, Gives, shorts, Keeps, given-says}
 use Rattle.start_form.specs.Order.{production_in}
-use Rattle.start_tag.specs.declared.judging.Verdict.{Verdict}
-use Rattle.start_tag.specs.declared.judging.Verdict.TheVariants.{Stop, Go}
 use Rattle.start_tag.specs.Names.{iri_text, node-name, description-name, alt-name}
 use Rattle.start_tag.specs.Rules.{is_reserved, node-free}
 use Rattle.start_tag.specs.Packets as P
 use Rattle.start_tag.specs.Packets.{node_part}
 use Rattle.start_tag.specs.Remembered.{in_node, node-part, noted-base, noted_so, main_about, main_short, Unnamed, unnamed}
 use Rattle.start_tag.specs.Judges.{Known, Waits, Drafted, Measurable, start_by, reserved_stops, broken_stops, production_stops, long_stops, waits}
+use Rattle.std.specs.Prelude.{Result, Ok, Err}
 
 -- what is asked of the scratch, the words and the area
 pub record Ready (e v : List ℕ) (k : ℕ) (a : List ℕ) : Type 0 where
@@ -63,7 +61,7 @@ pub record Ready (e v : List ℕ) (k : ℕ) (a : List ℕ) : Type 0 where
 -- ---- what is made of a node
 
 -- its label, in b; kind: what it is in a packet
-pub record MakesNode (x : Start) (t : Tag) (kind : ℕ) (named wrapped : Bool) (labels : ℕ) (e v : List ℕ) (k : ℕ) (a b : List ℕ) : Type 0 where
+pub record MakesNode (x : Start) (t : Tag) (kind : Pending) (named wrapped : Bool) (labels : ℕ) (e v : List ℕ) (k : ℕ) (a b : List ℕ) : Type 0 where
   pub parts : Given
   pub gives : Gives t v k parts
   pub is : x ≡ start_by (node_plan parts kind (labels + 1)) t wrapped named Missing
@@ -85,7 +83,7 @@ pub record Wraps (r : Registers) (fs : List ℕ) (i : Bytes) (wrapped : Bool) : 
   pub counted : CountedBy r fs i wrapped
   pub counts : wrapped ≡ true → Counts r fs
 
-pub record JudgesNode (q : Verdict) (t : Tag) (r : Registers) (wrapped : Bool) (fs w e v : List ℕ) (k : ℕ) (a b : List ℕ) : Type 0 where
+pub record JudgesNode (q : Result Start Refusal) (t : Tag) (r : Registers) (wrapped : Bool) (fs w e v : List ℕ) (k : ℕ) (a b : List ℕ) : Type 0 where
   pub cases : (count used m : ℕ) (bs is ia il st cs rs : List ℕ) (y : Known t r count used fs bs is w ia il st e v m k cs rs a)
       → production_in (place_in (elements_of r fs bs is w)) y.tells.is r.counts.labels ≡ open_node y.tells.is r.counts.labels → in_node (place_in (elements_of r fs bs is w)) ≡ false → Wraps r fs y.tells.is.iri wrapped
       → Drafted q r count used fs bs is w ia il st e v m k cs rs b
@@ -110,14 +108,14 @@ module _ {t : Tag} {r : Registers} {count used : ℕ} {fs bs is w ia il st e v :
 -- ---- how `judge_node` comes to its answer
 
 -- a label is left
-pub node-left : {reserved id node about : Bool} {n : ℕ} {j : Judgment} → NodeJudged reserved id node about n j → j ≡ judgment.Good → n < 99_999_999
+pub node-left : {reserved id node about : Bool} {n : ℕ} {j : Result Unit Refusal} → NodeJudged reserved id node about n j → j ≡ Ok tt → n < 99_999_999
 unfolding most_labels
 node-left jd h = jd.left h
 
 -- i: the element's name as it was read
 module _ {t : Tag} {r : Registers} {fs w e v : List ℕ} {k : ℕ} {a : List ℕ} {i : Bytes} {reserved : Bool} (p : i ≡ iri_text t.iri a) (q : reserved ≡ not (may_be_node i)) where
   -- 14
-  pub node_reserved_here : {wrapped : Bool} → reserved ≡ true → JudgesNode (Stop Reserved) t r wrapped fs w e v k a a
+  pub node_reserved_here : {wrapped : Bool} → reserved ≡ true → JudgesNode (Err Reserved) t r wrapped fs w e v k a a
   node_reserved_here h =
       record {
         cases = λ count used m bs is ia il st cs rs y as_node out ws. reserved_stops y (as_node ∙ (node_reserved h).is y.tells.is (node-tag y p q));
@@ -134,7 +132,7 @@ module _ {t : Tag} {r : Registers} {fs w e v : List ℕ} {k : ℕ} {a : List ℕ
       kept_is {count = count} {ia = ia} {il} {st} y = kb.is (ids_of ia il st count) y.lawful.valid y.level y.tells
 
       -- 19
-      pub node_broken : {wrapped : Bool} → u ≡ false → JudgesNode (Stop ProfileBroken) t r wrapped fs w e v k a a
+      pub node_broken : {wrapped : Bool} → u ≡ false → JudgesNode (Err ProfileBroken) t r wrapped fs w e v k a a
       node_broken h =
           record {
             cases = λ count used m bs is ia il st cs rs y as_node out ws. broken_stops y (sym (kept_is y) ∙ h) (ap is_reserved as_node ∙ node-free y.tells.is r.counts.labels (allowed y));
@@ -143,7 +141,7 @@ module _ {t : Tag} {r : Registers} {fs w e v : List ℕ} {k : ℕ} {a : List ℕ
           }
 
       -- f and g: are its rdf:ID and its rdf:about missing? n: what it is in a packet
-      module _ (kt : u ≡ true) {named f g : Bool} {n : ℕ} {j : Judgment} (pt : n ≡ node_part r.mode.xmp i) (nm : named ≡ same i (rdf "Description")) (fm : f ≡ is_missing t.id) (gm : g ≡ is_missing t.about)
+      module _ (kt : u ≡ true) {named f g : Bool} {n : Pending} {j : Result Unit Refusal} (pt : n ≡ node_part r.mode.xmp i) (nm : named ≡ same i (rdf "Description")) (fm : f ≡ is_missing t.id) (gm : g ≡ is_missing t.about)
           (jg : NodeJudged reserved (not f) (ltb t.node k) (not g) r.counts.labels j) where
         tagged : {count used m : ℕ} {bs is ia il st cs rs : List ℕ} (y : Known t r count used fs bs is w ia il st e v m k cs rs a) → NodeTag y.tells.is reserved (not f) (ltb t.node k) (not g)
         tagged y =
@@ -154,21 +152,21 @@ module _ {t : Tag} {r : Registers} {fs w e v : List ℕ} {k : ℕ} {a : List ℕ
         kept y = sym (kept_is y) ∙ kt
 
         -- 15, 18
-        pub node-refused : {wrapped : Bool} {x : Refusal} → j ≡ judgment.Stop x → JudgesNode (Stop x) t r wrapped fs w e v k a a
+        pub node-refused : {wrapped : Bool} {x : Refusal} → j ≡ Err x → JudgesNode (Err x) t r wrapped fs w e v k a a
         node-refused h =
             record {
-              cases = λ count used m bs is ia il st cs rs y as_node out ws. production_stops y (kept y) (as_node ∙ (jg.is y.tells.is (tagged y) ∙ ap (λ (x : Judgment). said x (node_opened y.tells.is r.counts.labels)) h));
+              cases = λ count used m bs is ia il st cs rs y as_node out ws. production_stops y (kept y) (as_node ∙ (jg.is y.tells.is (tagged y) ∙ ap (λ (x : Result Unit Refusal). said x (node_opened y.tells.is r.counts.labels)) h));
               measurable = tt;
               same = refl;
             }
 
-        module _ (h : j ≡ judgment.Good) where
+        module _ (h : j ≡ Ok tt) where
           opens : {count used m : ℕ} {bs is ia il st cs rs : List ℕ} (y : Known t r count used fs bs is w ia il st e v m k cs rs a)
               → production_in (place_in (elements_of r fs bs is w)) y.tells.is r.counts.labels ≡ open_node y.tells.is r.counts.labels
               → production_in (place_in (elements_of r fs bs is w)) y.tells.is r.counts.labels ≡ good (node_opened y.tells.is r.counts.labels)
-          opens y as_node = as_node ∙ (jg.is y.tells.is (tagged y) ∙ ap (λ (x : Judgment). said x (node_opened y.tells.is r.counts.labels)) h)
+          opens y as_node = as_node ∙ (jg.is y.tells.is (tagged y) ∙ ap (λ (x : Result Unit Refusal). said x (node_opened y.tells.is r.counts.labels)) h)
 
-          pub node-long : {wrapped : Bool} → t.short ≡ false → JudgesNode (Stop OverLimit) t r wrapped fs w e v k a a
+          pub node-long : {wrapped : Bool} → t.short ≡ false → JudgesNode (Err OverLimit) t r wrapped fs w e v k a a
           node-long s = record { cases = λ count used m bs is ia il st cs rs y as_node out ws. long_stops y (kept y) (opens y as_node) s; measurable = tt; same = refl }
 
           module _ {wrapped : Bool} {b : List ℕ} {x : Start} (s : t.short ≡ true) (rd : Ready e v k a) (mk : MakesNode x t n (not named) wrapped r.counts.labels e v k a b) where
@@ -240,7 +238,7 @@ module _ {t : Tag} {r : Registers} {fs w e v : List ℕ} {k : ℕ} {a : List ℕ
                     lines = told-lines;
                   }))
 
-            pub node_judged : JudgesNode (Go x) t r wrapped fs w e v k a b
+            pub node_judged : JudgesNode (Ok x) t r wrapped fs w e v k a b
             node_judged = record { cases = λ count used m bs is ia il st cs rs y as_node out ws. drafted y as_node out ws; measurable = rw mk.is (record { lacks = (refl, refl, refl) }); same = wrote_same mk.wrote }
 
 -- ---- what the calls ask, and what they tell
@@ -249,7 +247,7 @@ pub label_asks : {e v : List ℕ} {k : ℕ} {a : List ℕ} {n : ℕ} → Ready e
 unfolding most_held_bytes
 label_asks rd l = (l, omega (arith, rd.room))
 
-pub node_made : {x : Start} {t : Tag} {kind : ℕ} {named wrapped : Bool} {labels n : ℕ} {e v : List ℕ} {k : ℕ} {a b : List ℕ} {g : Given} {p : Plan} → Gives t v k g → p ≡ node_plan g kind n → (n ≡ labels + 1) × Wrote a b 6144 (6144 + 12) (label (labels + 1))
+pub node_made : {x : Start} {t : Tag} {kind : Pending} {named wrapped : Bool} {labels n : ℕ} {e v : List ℕ} {k : ℕ} {a b : List ℕ} {g : Given} {p : Plan} → Gives t v k g → p ≡ node_plan g kind n → (n ≡ labels + 1) × Wrote a b 6144 (6144 + 12) (label (labels + 1))
     → x ≡ start_by p t wrapped named Missing → MakesNode x t kind named wrapped labels e v k a b
 node_made {t = t} {named = named} {wrapped = wrapped} gv q w h =
     record { parts = _; gives = gv; is = h ∙ ap (λ (y : Plan). start_by y t wrapped named Missing) (q ∙ ap (node_plan _ _) w.0); wrote = w.1 }

@@ -25,6 +25,8 @@ use Rattle.state_words.specs.declared.Frame.{Frame}
 use Rattle.state_words.specs.Words.{pick, frame_at, load_frame, load_frame_lem}
 use Rattle.spec.specs.XmlLang.{carries}
 use Rattle.state.specs.Language.{is_said, carries_if}
+use Rattle.start_element.specs.declared.Pending.{Pending}
+use Rattle.start_element.specs.declared.Pending.TheVariants as pending
 use Rattle.start_tag.specs.Made.{said_there}
 use Rattle.state.specs.declared.Registers.{Registers}
 use Rattle.state.specs.Meaning.{at, has, count, span, what_of, part_of, element_of, frames_of, inners_of, elements_of, doc_of}
@@ -45,14 +47,14 @@ pub record Keeps (b : Bool) (t : Tag) (r : Registers) (fs w e v : List ℕ) (k :
   pub is : {bs is : List ℕ} {m : ℕ} {cs rs : List ℕ} (ids : List Bytes) → Valid r fs bs is w → r.counts.inner ≡ 0 → (y : Tells t e v m k w cs rs a (doc_of r fs bs is w ids))
       → b ≡ X.keeps r.mode.xmp (elements_of r fs bs is w) y.is
 
--- what a new rdf:RDF is in a packet, and a new node element of the name i: 0 nothing, 1 without a child so far
-unfoldable pub rdf_part : Bool → ℕ
-rdf_part false = 0
-rdf_part true = 1
+-- what a new rdf:RDF is in a packet, and a new node element of the name i
+unfoldable pub rdf_part : Bool → Pending
+rdf_part false = pending.Absent
+rdf_part true = pending.Awaited
 
-unfoldable pub node_part : Bool → Bytes → ℕ
-node_part false i = 0
-node_part true i = pick (same i (rdf "Alt")) 1 0
+unfoldable pub node_part : Bool → Bytes → Pending
+node_part false i = pending.Absent
+node_part true i = pick (same i (rdf "Alt")) pending.Awaited pending.Absent
 
 -- ---- as the code tests them: i is the element's name, o whether it has xml:lang
 
@@ -164,24 +166,24 @@ module _ (f : Frame) (i : Bytes) (o : Bool) where
 
 -- the arms of `rdf_part` and `node_part`
 module _ {p : Bool} where
-  pub rdf_ordinary : p ≡ false → 0 ≡ rdf_part p
+  pub rdf_ordinary : p ≡ false → pending.Absent ≡ rdf_part p
   unfolding rdf_part
   rdf_ordinary h = rw h
 
-  pub rdf-awaits : p ≡ true → 1 ≡ rdf_part p
+  pub rdf-awaits : p ≡ true → pending.Awaited ≡ rdf_part p
   unfolding rdf_part
   rdf-awaits h = rw h
 
   module _ (i : Bytes) where
-    pub node_ordinary : p ≡ false → 0 ≡ node_part p i
+    pub node_ordinary : p ≡ false → pending.Absent ≡ node_part p i
     unfolding node_part
     node_ordinary h = rw h
 
-    pub node-other : p ≡ true → same i (rdf "Alt") ≡ false → 0 ≡ node_part p i
+    pub node-other : p ≡ true → same i (rdf "Alt") ≡ false → pending.Absent ≡ node_part p i
     unfolding node_part
     node-other h q = rw (h, q)
 
-    pub node-awaits : p ≡ true → same i (rdf "Alt") ≡ true → 1 ≡ node_part p i
+    pub node-awaits : p ≡ true → same i (rdf "Alt") ≡ true → pending.Awaited ≡ node_part p i
     unfolding node_part
     node-awaits h q = rw (h, q)
 

@@ -36,6 +36,7 @@ use Rattle.state_stack.specs.Packets.{is_node_lem, is_wrapper_lem}
 use Rattle.event.specs.declared.Place.{Place}
 use Rattle.event.specs.declared.Place.TheVariants.{Outside, Nodes, Properties, NodesOrText, Xml}
 use Rattle.event.specs.Place.{place_of, place_at, place_is, place_read}
+use Rattle.start_element.specs.declared.Pending.{Pending}
 use Rattle.start_rules.specs.Judged.{root-rdf, root-node}
 use Rattle.start_element.specs.declared.Source.TheVariants.{Missing}
 use Rattle.start_element.specs.Element.{text_of, Fitting}
@@ -56,17 +57,16 @@ use Rattle.state_ids.specs.Ids.{ids_of}
 use Rattle.start_form.specs.Order.{production_in}
 use Rattle.start_tag.specs.declared.judging.Opens.{Opens}
 use Rattle.start_tag.specs.declared.judging.Opens.TheVariants as what
-use Rattle.start_tag.specs.declared.judging.Verdict.{Verdict}
-use Rattle.start_tag.specs.declared.judging.Verdict.TheVariants.{Stop, Go}
 use Rattle.start_tag.specs.Names.{iri_text, rdf-name}
 use Rattle.start_tag.specs.Limits.{Fits}
 use Rattle.start_tag.specs.Judges.{Known, Judges, Waits, Drafted, Measurable, Drafts, start_by, broken_stops, long_stops, waits}
 use Rattle.start_tag.specs.Nodes.{Ready, Wraps, JudgesNode}
 use Rattle.start_tag.specs.Properties.{JudgesProperty}
+use Rattle.std.specs.Prelude.{Result, Ok, Err}
 
 -- ---- the root
 
-pub record JudgesRoot (q : Verdict) (t : Tag) (r : Registers) (wrapped : Bool) (fs w e v : List ℕ) (k : ℕ) (a : List ℕ) : Type 0 where
+pub record JudgesRoot (q : Result Start Refusal) (t : Tag) (r : Registers) (wrapped : Bool) (fs w e v : List ℕ) (k : ℕ) (a : List ℕ) : Type 0 where
   pub cases : (ids used m : ℕ) (bs is ia il st cs rs : List ℕ) → Ready e v k a → (y : Known t r ids used fs bs is w ia il st e v m k cs rs a)
       → D.place_in (elements_of r fs bs is w) ≡ D.outside → same y.tells.is.iri (rdf "RDF") ≡ true
       → Wraps r fs y.tells.is.iri wrapped → is_root_in fs r.counts.depth ≡ true
@@ -102,7 +102,7 @@ module _ {t : Tag} {r : Registers} {fs w e v : List ℕ} {k : ℕ} {a : List ℕ
   kept_is {ids = ids} {ia = ia} {il} {st} y = kb.is (ids_of ia il st ids) y.lawful.valid y.level y.tells
 
   -- 19
-  pub root_broken : {wrapped : Bool} → u ≡ false → JudgesRoot (Stop ProfileBroken) t r wrapped fs w e v k a
+  pub root_broken : {wrapped : Bool} → u ≡ false → JudgesRoot (Err ProfileBroken) t r wrapped fs w e v k a
   root_broken h =
       record {
         cases = λ ids used m bs is ia il st cs rs rd y at z ws ro. broken_stops y (sym (kept_is y) ∙ h) (ap is_reserved (produced y at) ∙ root-free y.tells.is r.counts.labels z);
@@ -117,12 +117,12 @@ module _ {t : Tag} {r : Registers} {fs w e v : List ℕ} {k : ℕ} {a : List ℕ
         → production_in (D.place_in (elements_of r fs bs is w)) y.tells.is r.counts.labels ≡ good (record { lines = []; kind = D.rdf_rdf; labels = r.counts.labels })
     opens y at z = produced y at ∙ root-rdf y.tells.is r.counts.labels z
 
-    pub root-long : {wrapped : Bool} → t.short ≡ false → JudgesRoot (Stop OverLimit) t r wrapped fs w e v k a
+    pub root-long : {wrapped : Bool} → t.short ≡ false → JudgesRoot (Err OverLimit) t r wrapped fs w e v k a
     root-long s = record { cases = λ ids used m bs is ia il st cs rs rd y at z ws ro. long_stops y (kept y) (opens y at z) s; measurable = tt }
 
-    module _ {wrapped : Bool} {g : Given} {n : ℕ} {p : Plan} {x : Start} (s : t.short ≡ true) (gv : Gives t v k g) (pt : n ≡ rdf_part r.mode.xmp) (pl : p ≡ root_plan g n r.counts.labels) (is_so : x ≡ start_by p t wrapped true Missing) where
+    module _ {wrapped : Bool} {g : Given} {n : Pending} {p : Plan} {x : Start} (s : t.short ≡ true) (gv : Gives t v k g) (pt : n ≡ rdf_part r.mode.xmp) (pl : p ≡ root_plan g n r.counts.labels) (is_so : x ≡ start_by p t wrapped true Missing) where
       made : x ≡ start_by (root_plan g (rdf_part r.mode.xmp) r.counts.labels) t wrapped true Missing
-      made = is_so ∙ ap (λ (y : Plan). start_by y t wrapped true Missing) (pl ∙ ap (λ (m : ℕ). root_plan g m r.counts.labels) pt)
+      made = is_so ∙ ap (λ (y : Plan). start_by y t wrapped true Missing) (pl ∙ ap (λ (m : Pending). root_plan g m r.counts.labels) pt)
 
       drafted : {ids used m : ℕ} {bs is ia il st cs rs : List ℕ} → Ready e v k a → (y : Known t r ids used fs bs is w ia il st e v m k cs rs a)
           → D.place_in (elements_of r fs bs is w) ≡ D.outside → same y.tells.is.iri (rdf "RDF") ≡ true
@@ -150,7 +150,7 @@ module _ {t : Tag} {r : Registers} {fs w e v : List ℕ} {k : ℕ} {a : List ℕ
           all_kept : Keeps a a
           all_kept = record { before = kept_all; behind = kept_all; same = refl; room = rd.room }
 
-      pub root_judged : JudgesRoot (Go x) t r wrapped fs w e v k a
+      pub root_judged : JudgesRoot (Ok x) t r wrapped fs w e v k a
       root_judged = record { cases = λ ids used m bs is ia il st cs rs rd y at z ws ro. drafted rd y at z ws ro; measurable = rw made (record { lacks = (refl, refl, refl, refl) }) }
 
 -- ---- by place
@@ -328,7 +328,7 @@ not_in_node NodesOrText s n h = refl
 not_in_node Xml s n h = refl
 
 -- the arms of `draft`: o is what is opened
-module _ {q : Verdict} {t : Tag} {r : Registers} {fs w e v : List ℕ} {k : ℕ} {a : List ℕ} {p : Place} {i : Bytes} {o : Opens} (at : p ≡ place_at r fs) (ip : i ≡ iri_text t.iri a) (op : o ≡ opens_at p i) where
+module _ {q : Result Start Refusal} {t : Tag} {r : Registers} {fs w e v : List ℕ} {k : ℕ} {a : List ℕ} {p : Place} {i : Bytes} {o : Opens} (at : p ≡ place_at r fs) (ip : i ≡ iri_text t.iri a) (op : o ≡ opens_at p i) where
   pub as_rdf : o ≡ what.Rdf → Ready e v k a → JudgesRoot q t r (is_wrapped p r.counts.depth) fs w e v k a → Drafts q t r fs w e v k a a
   unfolding place_is
   as_rdf h rd j =
@@ -366,11 +366,11 @@ module _ {q : Verdict} {t : Tag} {r : Registers} {fs w e v : List ℕ} {k : ℕ}
 
 -- ---- the limits
 
-module _ {q : Verdict} {t : Tag} {r : Registers} {fs w e v : List ℕ} {k : ℕ} {a b : List ℕ} (d : Drafts q t r fs w e v k a b) where
-  pub tag-refused : {ids used m : ℕ} {n : Refusal} → q ≡ Stop n → Judges (Stop n) t r ids used fs w e v m k a b
+module _ {q : Result Start Refusal} {t : Tag} {r : Registers} {fs w e v : List ℕ} {k : ℕ} {a b : List ℕ} (d : Drafts q t r fs w e v k a b) where
+  pub tag-refused : {ids used m : ℕ} {n : Refusal} → q ≡ Err n → Judges (Err n) t r ids used fs w e v m k a b
   tag-refused {ids} {used} {m} h = record { cases = λ bs is ia il st cs rs y. rw h at (d.cases ids used m bs is ia il st cs rs y); same = d.same }
 
-  module _ {x : Start} (h : q ≡ Go x) where
+  module _ {x : Start} (h : q ≡ Ok x) where
     pub fits_asks : Ready e v k a → (Short e b) × (k ≤ most_attributes) × (Fitting x.plan.parts)
     unfolding most_attributes
     fits_asks rd = (record { event = omega (arith, rd.event); area = omega (arith, rd.small, d.same) }, omega (arith, rd.few), rw h at d.measurable)
@@ -379,8 +379,8 @@ module _ {q : Verdict} {t : Tag} {r : Registers} {fs w e v : List ℕ} {k : ℕ}
       waiting : {bs is ia il st cs rs : List ℕ} → Known t r ids used fs bs is w ia il st e v m k cs rs a → Waits x r ids used fs bs is w ia il st e v m k cs rs b
       waiting {bs} {is} {ia} {il} {st} {cs} {rs} y = rw h at (d.cases ids used m bs is ia il st cs rs y)
 
-      pub tag_full : u ≡ false → Judges (Stop OverLimit) t r ids used fs w e v m k a b
+      pub tag_full : u ≡ false → Judges (Err OverLimit) t r ids used fs w e v m k a b
       tag_full z = record { cases = λ bs is ia il st cs rs y. (waiting y).full f.measures (sym f.is ∙ z); same = d.same }
 
-      pub tag_goes : u ≡ true → Judges (Go x) t r ids used fs w e v m k a b
+      pub tag_goes : u ≡ true → Judges (Ok x) t r ids used fs w e v m k a b
       tag_goes z = record { cases = λ bs is ia il st cs rs y. (waiting y).fits f.measures (sym f.is ∙ z); same = d.same }

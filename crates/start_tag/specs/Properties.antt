@@ -1,5 +1,5 @@
 -- Property elements: judged, and what is made of one.
-use Rattle.std.specs.Prelude.{ℕ, suc, ◌+◌, ◌<◌, ◌≤◌, Bool, ◌||◌, List, ◌++◌, eqb, ltb}
+use Rattle.std.specs.Prelude.{ℕ, suc, ◌+◌, ◌<◌, ◌≤◌, Bool, ◌||◌, List, ◌++◌, ltb}
 use Rattle.std.proofs.Math.Path.{◌≡◌, refl, ap}
 use Rattle.std.proofs.Common.{sym, ◌∙◌, inl, arith, add-one, length-append, leb-true}
 use Rattle.std.proofs.Math.Bool.{true, false, not}
@@ -40,8 +40,6 @@ use Rattle.start_names.specs.Tag.{value_at}
 use Rattle.start_references.specs.declared.reference.Reference.{Reference}
 use Rattle.start_references.specs.Reference.{given}
 use Rattle.start_references.specs.Values.{value_if}
-use Rattle.start_attributes.specs.declared.roles.Judgment.{Judgment}
-use Rattle.start_attributes.specs.declared.roles.Judgment.TheVariants as judgment
 use Rattle.start_attributes.specs.Judgment.{said}
 use Rattle.start_rules.specs.declared.ParseType.{ParseType}
 use Rattle.start_rules.specs.declared.ParseType.TheVariants as parse
@@ -51,7 +49,7 @@ use Rattle.start_rules.specs.Made.{li_iri, own_iri}
 use Rattle.ntriples.specs.Terms as N
 use Rattle.start_element.specs.declared.Source.{Source}
 use Rattle.start_element.specs.declared.Source.TheVariants.{Made}
-use Rattle.start_element.specs.Element.{text_of, maybe, node_is, Fitting}
+use Rattle.start_element.specs.Element.{is_blank, text_of, maybe, node_is, Fitting}
 use Rattle.start_element.specs.Laws.{CountedBy, is_outer, stands_in}
 use Rattle.start_plan.specs.declared.Given.{Given}
 use Rattle.start_plan.specs.declared.Plan.{Plan}
@@ -64,8 +62,6 @@ use Rattle.start_tag.specs.declared.reading.Tag.{Tag}
 use Rattle.start_tag.specs.Giving as G
 use Rattle.start_tag.specs.Giving.{made_at, is_missing, made_there, Gives, shorts, Keeps, given-says, iri_says}
 use Rattle.start_form.specs.Order.{production_in}
-use Rattle.start_tag.specs.declared.judging.Verdict.{Verdict}
-use Rattle.start_tag.specs.declared.judging.Verdict.TheVariants.{Stop, Go}
 use Rattle.start_tag.specs.Names.{iri_text, property-name, li-name}
 use Rattle.start_tag.specs.Made.{short_if}
 use Rattle.start_tag.specs.Rules.{is_reserved, property-free}
@@ -74,6 +70,7 @@ use Rattle.start_tag.specs.Packets.{part-few}
 use Rattle.start_tag.specs.Remembered.{top_is_frame, noted_so}
 use Rattle.start_tag.specs.Judges.{Known, Waits, Drafted, Measurable, start_by, text_of_lem, reserved_stops, broken_stops, production_stops, long_stops, waits}
 use Rattle.start_tag.specs.Nodes.{Ready, refused_good, label-made}
+use Rattle.std.specs.Prelude.{Result, Ok, Err}
 
 -- ---- what is made of a property
 
@@ -134,12 +131,12 @@ fitting_of parse.Literal g s u n = record { lacks = (refl, refl) }
 fitting_of parse.Other g s u n = record { lacks = (refl, refl) }
 
 -- a label is left, a number is left
-pub label-left : {reserved li : Bool} {c : ℕ} {p : ParseType} {resource node_id properties : Bool} {n : ℕ} {j : Judgment} → PropertyJudged reserved li c p resource node_id properties n j → j ≡ judgment.Good
+pub label-left : {reserved li : Bool} {c : ℕ} {p : ParseType} {resource node_id properties : Bool} {n : ℕ} {j : Result Unit Refusal} → PropertyJudged reserved li c p resource node_id properties n j → j ≡ Ok tt
     → takes_label (parse_type_is p) resource node_id properties ≡ true → n < 99_999_999
 unfolding most_labels
 label-left jg h u = jg.left h u
 
-pub li-left : {reserved li : Bool} {c : ℕ} {p : ParseType} {resource node_id properties : Bool} {n : ℕ} {j : Judgment} → PropertyJudged reserved li c p resource node_id properties n j → j ≡ judgment.Good
+pub li-left : {reserved li : Bool} {c : ℕ} {p : ParseType} {resource node_id properties : Bool} {n : ℕ} {j : Result Unit Refusal} → PropertyJudged reserved li c p resource node_id properties n j → j ≡ Ok tt
     → li ≡ true → c < 99_999_999
 unfolding most_labels
 li-left jg h u = jg.numbers h u
@@ -158,7 +155,7 @@ number_short c = omega (arith, length-append (rdf "_") (decimal (c + 1)), length
 
 -- ---- judged
 
-pub record JudgesProperty (q : Verdict) (t : Tag) (r : Registers) (fs w e v : List ℕ) (k : ℕ) (a b : List ℕ) : Type 0 where
+pub record JudgesProperty (q : Result Start Refusal) (t : Tag) (r : Registers) (fs w e v : List ℕ) (k : ℕ) (a b : List ℕ) : Type 0 where
   pub cases : (ids used m : ℕ) (bs is ia il st cs rs : List ℕ) (y : Known t r ids used fs bs is w ia il st e v m k cs rs a) → (top_frame r fs).kind ≡ NodeElt → r.counts.depth ≤ 64 → length fs ≡ TABLE
       → D.place_in (elements_of r fs bs is w) ≡ D.properties (subject_below fs w r.counts.depth) (count (top_frame r fs))
       → Drafted q r ids used fs bs is w ia il st e v m k cs rs b
@@ -214,7 +211,7 @@ module _ {t : Tag} {r : Registers} {fs w e v : List ℕ} {k : ℕ} {a : List ℕ
   produced y h = rw h
 
   -- 14
-  pub property_reserved_here : reserved ≡ true → JudgesProperty (Stop Reserved) t r fs w e v k a a
+  pub property_reserved_here : reserved ≡ true → JudgesProperty (Err Reserved) t r fs w e v k a a
   property_reserved_here h =
       record {
         cases = λ ids used m bs is ia il st cs rs y kd dp fw at.
@@ -228,7 +225,7 @@ module _ {t : Tag} {r : Registers} {fs w e v : List ℕ} {k : ℕ} {a : List ℕ
     kept_is {ids = ids} {ia = ia} {il} {st} y = kb.is (ids_of ia il st ids) y.lawful.valid y.level y.tells
 
     -- 19
-    pub property_broken : u ≡ false → JudgesProperty (Stop ProfileBroken) t r fs w e v k a a
+    pub property_broken : u ≡ false → JudgesProperty (Err ProfileBroken) t r fs w e v k a a
     property_broken h =
         record {
           cases = λ ids used m bs is ia il st cs rs y kd dp fw at.
@@ -239,7 +236,7 @@ module _ {t : Tag} {r : Registers} {fs w e v : List ℕ} {k : ℕ} {a : List ℕ
         }
 
 -- f: is its rdf:resource missing? u: does it keep the rules of its mode?
-module _ {t : Tag} {r : Registers} {fs w e v : List ℕ} {k : ℕ} {a : List ℕ} {i : Bytes} {reserved li f u : Bool} {p : ParseType} {c : ℕ} {j : Judgment}
+module _ {t : Tag} {r : Registers} {fs w e v : List ℕ} {k : ℕ} {a : List ℕ} {i : Bytes} {reserved li f u : Bool} {p : ParseType} {c : ℕ} {j : Result Unit Refusal}
     (ip : i ≡ iri_text t.iri a) (rp : reserved ≡ not (may_be_property i)) (kb : K.Keeps u t r fs w e v k a) (kt : u ≡ true) (lp : li ≡ is_li i) (fm : f ≡ is_missing t.resource)
     (pp : parse_type_is p ≡ parse_type_of (N.id_of (ltb t.parse k) (value_at e v t.parse))) (cp : c ≡ count (top_frame r fs))
     (jg : PropertyJudged reserved li c p (not f) (ltb t.node k) t.properties r.counts.labels j) where
@@ -263,25 +260,25 @@ module _ {t : Tag} {r : Registers} {fs w e v : List ℕ} {k : ℕ} {a : List ℕ
         → production_in (D.place_in (elements_of r fs bs is w)) y.tells.is r.counts.labels ≡ open_property y.tells.is (subject_below fs w r.counts.depth) c r.counts.labels
     asked h = produced ip rp y h ∙ rw cp
 
-  pub property-refused : {n : Refusal} → j ≡ judgment.Stop n → JudgesProperty (Stop n) t r fs w e v k a a
+  pub property-refused : {n : Refusal} → j ≡ Err n → JudgesProperty (Err n) t r fs w e v k a a
   property-refused {n} h =
       record {
         cases = λ ids used m bs is ia il st cs rs y kd dp fw at. production_stops y (kept y) (asked y at ∙ (jg.is y.tells.is (subject_below fs w r.counts.depth) (tagged y)
-            ∙ ap (λ (x : Judgment). said x (property_opened (parse_type_is p) y.tells.is (property_in y.tells.is (subject_below fs w r.counts.depth) c) r.counts.labels)) h));
+            ∙ ap (λ (x : Result Unit Refusal). said x (property_opened (parse_type_is p) y.tells.is (property_in y.tells.is (subject_below fs w r.counts.depth) c) r.counts.labels)) h));
         measurable = tt;
         same = refl;
       }
 
-  module _ (h : j ≡ judgment.Good) where
+  module _ (h : j ≡ Ok tt) where
     opens : {ids used m : ℕ} {bs is ia il st cs rs : List ℕ} (y : Known t r ids used fs bs is w ia il st e v m k cs rs a)
         → D.place_in (elements_of r fs bs is w) ≡ D.properties (subject_below fs w r.counts.depth) (count (top_frame r fs))
         → production_in (D.place_in (elements_of r fs bs is w)) y.tells.is r.counts.labels
         ≡ good (property_opened (parse_type_is p) y.tells.is (property_in y.tells.is (subject_below fs w r.counts.depth) c) r.counts.labels)
     opens y at =
         asked y at ∙ (jg.is y.tells.is (subject_below fs w r.counts.depth) (tagged y)
-        ∙ ap (λ (x : Judgment). said x (property_opened (parse_type_is p) y.tells.is (property_in y.tells.is (subject_below fs w r.counts.depth) c) r.counts.labels)) h)
+        ∙ ap (λ (x : Result Unit Refusal). said x (property_opened (parse_type_is p) y.tells.is (property_in y.tells.is (subject_below fs w r.counts.depth) c) r.counts.labels)) h)
 
-    pub property-long : t.short ≡ false → JudgesProperty (Stop OverLimit) t r fs w e v k a a
+    pub property-long : t.short ≡ false → JudgesProperty (Err OverLimit) t r fs w e v k a a
     property-long s = record { cases = λ ids used m bs is ia il st cs rs y kd dp fw at. long_stops y (kept y) (opens y at) s; measurable = tt; same = refl }
 
     module _ {takes : Bool} {b : List ℕ} {x : Start} (tk : takes ≡ takes_label (parse_type_is p) (not f) (ltb t.node k) t.properties) (s : t.short ≡ true) (rd : Ready e v k a)
@@ -357,7 +354,7 @@ module _ {t : Tag} {r : Registers} {fs w e v : List ℕ} {k : ℕ} {a : List ℕ
         -- a default property: has it a node at once?
         default_lines : p ≡ parse.Absent → (u : Bool) → (is_some y.tells.is.resource || is_some y.tells.is.node_id || t.properties) ≡ u → (n : ℕ)
             → (property_opened no_parse_type y.tells.is (property_in y.tells.is (subject_below fs w r.counts.depth) c) r.counts.labels).lines
-            ≡ told (default_plan mk.parts mk.property t.properties n).lines (node_is false (text_of mk.property e b)) (node_is (eqb (object_in mk.parts t.properties).what 2) (text_of (object_in mk.parts t.properties).source e b)) y.tells.is.language y.tells.is.attributes y.tells.is.type (element_type y.tells.is.iri) (property_in y.tells.is (subject_below fs w r.counts.depth) c)
+            ≡ told (default_plan mk.parts mk.property t.properties n).lines (node_is false (text_of mk.property e b)) (node_is (is_blank (object_in mk.parts t.properties).what) (text_of (object_in mk.parts t.properties).source e b)) y.tells.is.language y.tells.is.attributes y.tells.is.type (element_type y.tells.is.iri) (property_in y.tells.is (subject_below fs w r.counts.depth) c)
         unfolding property_opened has_node J.object_in told tag_lines when◌then◌else◌
         default_lines z true u n =
             let g = no_object_lem mk.parts says t.properties in
@@ -430,7 +427,7 @@ module _ {t : Tag} {r : Registers} {fs w e v : List ℕ} {k : ℕ} {a : List ℕ
             few_labels = rw (labels_of p mk.parts mk.property t.properties (pick (takes_label (parse_type_is p) (is_some y.tells.is.resource) (is_some y.tells.is.node_id) t.properties) (r.counts.labels + 1) r.counts.labels))
                 (at_most_lem (takes_label (parse_type_is p) (is_some y.tells.is.resource) (is_some y.tells.is.node_id) t.properties) y.lawful.valid.labels (λ u. label-left jg h (sym (sym takes_is ∙ tk) ∙ u)))
 
-      pub property_judged : JudgesProperty (Go x) t r fs w e v k a b
+      pub property_judged : JudgesProperty (Ok x) t r fs w e v k a b
       property_judged =
           record {
             cases = λ ids used m bs is ia il st cs rs y kd dp fw at. drafted y at kd dp fw;
@@ -510,7 +507,7 @@ numbers_asks rd l lb = (omega (arith, rd.room, lb.same), l.number)
 pub parse_read : (e v : List ℕ) (b : Bool) (j : ℕ) {p : O.ParseType} {x : Bytes} → p ≡ parse_type_of (N.id_of b x) → x ≡ value_at e v j → p ≡ parse_type_of (N.id_of b (value_at e v j))
 parse_read e v b j h q = h ∙ ap (λ (y : Bytes). parse_type_of (N.id_of b y)) q
 
-pub both_left : {reserved li : Bool} {c : ℕ} {p : ParseType} {resource node_id properties takes : Bool} {n : ℕ} {j : Judgment} → PropertyJudged reserved li c p resource node_id properties n j → j ≡ judgment.Good
+pub both_left : {reserved li : Bool} {c : ℕ} {p : ParseType} {resource node_id properties takes : Bool} {n : ℕ} {j : Result Unit Refusal} → PropertyJudged reserved li c p resource node_id properties n j → j ≡ Ok tt
     → takes ≡ takes_label (parse_type_is p) resource node_id properties → Left takes li n c
 both_left jg h tk = record { label = λ u. label-left jg h (sym tk ∙ u); number = λ u. li-left jg h u }
 

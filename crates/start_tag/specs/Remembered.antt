@@ -35,6 +35,7 @@ use Rattle.state.specs.Meaning.{has, what_of, part_of, element_of, frames_of, in
 use Rattle.state.specs.Valid.{Valid}
 use Rattle.state_stack.specs.Calls.{top_frame, same_kind}
 use Rattle.state_stack.specs.Packets.{note_li, note_about}
+use Rattle.start_element.specs.declared.Pending.TheVariants as pending
 use Rattle.start_element.specs.declared.Source.{Source}
 use Rattle.start_element.specs.declared.Source.TheVariants.{Missing, Own, Made}
 use Rattle.start_element.specs.Element.{text_of, maybe, part_is}
@@ -78,12 +79,12 @@ outside-rdf (f ∷ es) t h k = go f.kind h k
     go xml_element h k = absurd (let z : ◌≡◌ {A = ℕ} 0 1 = cc in omega arith)
 
 -- an rdf:Alt awaits its first rdf:li
-alt-part : (b : Bool) (g : Given) (n : ℕ) (e a : List ℕ) → part_is NodeElt (node_plan g (pick b 1 0) n).parts e a ≡ (when b then alternatives none else ordinary)
+alt-part : (b : Bool) (g : Given) (n : ℕ) (e a : List ℕ) → part_is NodeElt (node_plan g (pick b pending.Awaited pending.Absent) n).parts e a ≡ (when b then alternatives none else ordinary)
 unfolding part_is when◌then◌else◌
 alt-part true g n e a = refl
 alt-part false g n e a = refl
 
-plain-part : (g : Given) (n : ℕ) (e a : List ℕ) → part_is NodeElt (node_plan g 0 n).parts e a ≡ ordinary
+plain-part : (g : Given) (n : ℕ) (e a : List ℕ) → part_is NodeElt (node_plan g pending.Absent n).parts e a ≡ ordinary
 unfolding part_is
 plain-part g n e a = refl
 
@@ -94,7 +95,7 @@ unfolding node_part new_part X.keeps in_node is_xml
 node-part false g n e a es t i kp mb ix np al = plain-part g n e a
 node-part true g n e a es t i kp mb ix np al = go (place_in es) refl
   where
-    go : (q : Place) → place_in es ≡ q → part_is NodeElt (node_plan g (pick (same i (rdf "Alt")) 1 0) n).parts e a ≡ new_part true q t.iri
+    go : (q : Place) → place_in es ≡ q → part_is NodeElt (node_plan g (pick (same i (rdf "Alt")) pending.Awaited pending.Absent) n).parts e a ≡ new_part true q t.iri
     go outside h = absurd (false≢true (sym (node_not_rdf t.iri mb) ∙ outside-rdf es t h (and_left (X.keeps_around es t) _ kp)))
     go nodes h = rw al (alt-part (same t.iri (rdf "Alt")) g n e a)
     go nodes_or_text h = rw al (alt-part (same t.iri (rdf "Alt")) g n e a)

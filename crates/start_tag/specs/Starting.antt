@@ -18,24 +18,20 @@ use Rattle.state.specs.Meaning.{elements_of, doc_of}
 use Rattle.start_names.specs.Tag.{attributes_of}
 use Rattle.event.specs.Result.{handled, handled_by, refused_on}
 use Rattle.event.specs.Progress.{Lent, lent, doc_in, Lawful, HandlesAll, stopped}
-use Rattle.event.specs.declared.Progress.TheVariants as progress
-use Rattle.start_form.specs.declared.Form.{Form}
-use Rattle.start_form.specs.declared.Form.TheVariants as form
 use Rattle.start_form.specs.Order.{unread}
 use Rattle.start_form.specs.Form.{Decoded, Asked, Formed, Checks}
 use Rattle.start_tag.specs.declared.reading.Tag.{Tag}
 use Rattle.start_tag.specs.declared.reading.Read.{Read}
-use Rattle.start_tag.specs.declared.reading.Read.TheVariants as read
+use Rattle.start_tag.specs.declared.reading.Read.TheVariants.{Wrapper, Element}
 use Rattle.start_tag.specs.Tag as T
 use Rattle.start_tag.specs.Tag.{Tells}
 use Rattle.start_tag.specs.Reading.{is_wrapping, ReadsTag}
 use Rattle.start_tag.specs.Wrapper.{Wrapping, JudgesWrapper}
 use Rattle.start_plan.specs.declared.Start.{Start}
 use Rattle.start_plan.specs.Goes.{Goes}
-use Rattle.start_tag.specs.declared.judging.Verdict.{Verdict}
-use Rattle.start_tag.specs.declared.judging.Verdict.TheVariants.{Stop, Go}
 use Rattle.start_tag.specs.Judges.{Known, Rules, Judges}
 use Rattle.start_tag.specs.Nodes.{Ready}
+use Rattle.std.specs.Prelude.{Result, Ok, Err}
 
 -- a lawful state, and a decoded start tag that stands outside Literal content
 pub record Asks (r : Registers) (count used : ℕ) (l : Lent) (e v : List ℕ) (m c k : ℕ) (a : List ℕ) : Type 0 where
@@ -51,7 +47,7 @@ pub record Roomy (cs rs : List ℕ) : Type 0 where
 
 -- ---- judged
 
-pub record JudgesStart (q : Verdict) (r : Registers) (count used : ℕ) (l : Lent) (e v : List ℕ) (m k : ℕ) (cs rs a cs' rs' a' : List ℕ) : Type 0 where
+pub record JudgesStart (q : Result Start Refusal) (r : Registers) (count used : ℕ) (l : Lent) (e v : List ℕ) (m k : ℕ) (cs rs a cs' rs' a' : List ℕ) : Type 0 where
   pub rules : Rules q r count used l.frames l.bindings l.inners l.work l.places l.sizes l.ids e v m k cs' rs' a'
   pub classes : length cs' ≡ length cs
   pub roles : length rs' ≡ length rs
@@ -66,13 +62,13 @@ module _ {r : Registers} {count used : ℕ} {fs bs is w ia il st e v : List ℕ}
   unfolding on_event
   stops {n} h room = handled_by (P.opening (take m e) (attributes_of e v k)) room (doc_of r fs bs is w (ids_of ia il st count)) h ∙ refused_on room n
 
-  module _ {f : Form} {ds : List ℕ} (ch : Checks f r fs bs is w e v m k cs ds) where
-    pub form_stops : {n : Refusal} → f ≡ form.Stop n → JudgesStart (Stop n) r count used (lent fs bs is w ia il st []) e v m k cs rs a ds rs a
+  module _ {f : Result Unit Refusal} {ds : List ℕ} (ch : Checks f r fs bs is w e v m k cs ds) where
+    pub form_stops : {n : Refusal} → f ≡ Err n → JudgesStart (Err n) r count used (lent fs bs is w ia il st []) e v m k cs rs a ds rs a
     form_stops {n} h =
         let z : (i : List Bytes) → on_opening (take m e) (attributes_of e v k) (doc_of r fs bs is w i) ≡ refuse n = rw h at ch.cases in
         record { rules = stops (z (ids_of ia il st count)); classes = ch.same; roles = refl; area = refl }
 
-    module _ (h : f ≡ form.Good) where
+    module _ (h : f ≡ Ok tt) where
       formed : Formed r fs bs is w e v m k ds
       formed = rw h at ch.cases
 
@@ -88,11 +84,11 @@ module _ {r : Registers} {count used : ℕ} {fs bs is w ia il st e v : List ℕ}
             classified = formed.classes;
           }
 
-      module _ {t : Read} {rs' b : List ℕ} (rd : ReadsTag r fs bs w count ia il st e v m k ds rs a rs' b t) where
+      module _ {t : Result Read Refusal} {rs' b : List ℕ} (rd : ReadsTag r fs bs w count ia il st e v m k ds rs a rs' b t) where
         wrapping : starts_wrapper r.mode.xmp (take m e) (attributes_of e v k) (elements_of r fs bs is w) ≡ is_wrapping t
         wrapping = rd.wraps is x.lawful.valid x.level
 
-        pub read_stops : {n : Refusal} → t ≡ read.Stop n → JudgesStart (Stop n) r count used (lent fs bs is w ia il st []) e v m k cs rs a ds rs' b
+        pub read_stops : {n : Refusal} → t ≡ Err n → JudgesStart (Err n) r count used (lent fs bs is w ia il st []) e v m k cs rs a ds rs' b
         unfolding doc_of
         read_stops {n} q =
             let z : read_tag (take m e) (attributes_of e v k) (doc_of r fs bs is w (ids_of ia il st count)) ≡ refuse n = rw q at (rd.reads.cases is used x.lawful.valid x.lawful.table) in
@@ -102,7 +98,7 @@ module _ {r : Registers} {count used : ℕ} {fs bs is w ia il st e v : List ℕ}
             counts = formed.counts
 
         -- the wrapper's
-        pub wrapper_starts : {q : Verdict} → t ≡ read.Wrapper → JudgesWrapper q r e v m k w ds → JudgesStart q r count used (lent fs bs is w ia il st []) e v m k cs rs a ds rs' b
+        pub wrapper_starts : {q : Result Start Refusal} → t ≡ Ok Wrapper → JudgesWrapper q r e v m k w ds → JudgesStart q r count used (lent fs bs is w ia il st []) e v m k cs rs a ds rs' b
         wrapper_starts {q} h j =
             let y : Wrapping r count used fs bs is w ia il st e v m k ds = record { lawful = x.lawful; level = x.level; formed = formed; splits = x.tag.splits; wraps = wrapping ∙ ap is_wrapping h } in
             record { rules = j.cases count used fs bs is ia il st rs' b y; classes = ch.same; roles = rd.reads.places; area = rd.reads.same }
@@ -117,7 +113,7 @@ module _ {r : Registers} {count used : ℕ} {fs bs is w ia il st e v : List ℕ}
               few = x.ready.few;
             }
 
-        pub start_judged : {y : Tag} {q : Verdict} {a' : List ℕ} → t ≡ read.Good y → Judges q y r count used fs w e v m k b a' → JudgesStart q r count used (lent fs bs is w ia il st []) e v m k cs rs a ds rs' a'
+        pub start_judged : {y : Tag} {q : Result Start Refusal} {a' : List ℕ} → t ≡ Ok (Element y) → Judges q y r count used fs w e v m k b a' → JudgesStart q r count used (lent fs bs is w ia il st []) e v m k cs rs a ds rs' a'
         start_judged {y} {q} g j =
             let z : Tells y e v m k w ds rs' b (doc_of r fs bs is w (ids_of ia il st count)) = rw g at (rd.reads.cases is used x.lawful.valid x.lawful.table) in
             let kn : Known y r count used fs bs is w ia il st e v m k ds rs' b = record { lawful = x.lawful; level = x.level; formed = formed; other = wrapping ∙ ap is_wrapping g; tells = z } in
@@ -125,16 +121,16 @@ module _ {r : Registers} {count used : ℕ} {fs bs is w ia il st e v : List ℕ}
 
 -- ---- done
 
-module _ {r : Registers} {count used : ℕ} {fs bs is w ia il st e v : List ℕ} {m k : ℕ} {cs rs a cs' rs' a' : List ℕ} {q : Verdict} (out : List ℕ)
+module _ {r : Registers} {count used : ℕ} {fs bs is w ia il st e v : List ℕ} {m k : ℕ} {cs rs a cs' rs' a' : List ℕ} {q : Result Start Refusal} (out : List ℕ)
     (j : JudgesStart q r count used (lent fs bs is w ia il st []) e v m k cs rs a cs' rs' a') where
-  pub start_stops : {n : Refusal} → q ≡ Stop n
-      → HandlesAll (P.opening (take m e) (attributes_of e v k)) r count (progress.Stop n) (lent fs bs is w ia il st out) (lent fs bs is w ia il st out) × (length a' ≡ length a)
+  pub start_stops : {n : Refusal} → q ≡ Err n
+      → HandlesAll (P.opening (take m e) (attributes_of e v k)) r count (Err n) (lent fs bs is w ia il st out) (lent fs bs is w ia il st out) × (length a' ≡ length a)
   unfolding doc_in
   start_stops {n} h =
       let z : (room : ℕ) → handled (P.opening (take m e) (attributes_of e v k)) room (doc_of r fs bs is w (ids_of ia il st count)) ≡ refuse n = rw h at j.rules in
       (stopped (z (length out)), j.area)
 
-  pub start_goes : {x : Start} → q ≡ Go x → Goes x (doc_in r count (lent fs bs is w ia il st out)) r fs bs w e v m k a' cs' rs' count used
+  pub start_goes : {x : Start} → q ≡ Ok x → Goes x (doc_in r count (lent fs bs is w ia il st out)) r fs bs w e v m k a' cs' rs' count used
   unfolding doc_in
   start_goes h = rw h at j.rules
 

@@ -38,12 +38,8 @@ use Rattle.start_names.specs.Classes.{Classified}
 use Rattle.start_references.specs.declared.reference.Reference.{Reference}
 use Rattle.start_references.specs.Reference.{given, is_long, Refers, refers_as, refers_kept}
 use Rattle.start_references.specs.declared.References.{References}
-use Rattle.start_references.specs.declared.Resolutions.{Resolutions}
-use Rattle.start_references.specs.declared.Resolutions.TheVariants.{Stop as Refused, Good as Came}
 use Rattle.start_references.specs.Values.{value-most, value_if, first_value, in_force}
 use Rattle.start_references.specs.References.{Five, references, others, five_of, five_at, five_means, fresh_by, fresh_means, references-fresh, Resolved, Resolving}
-use Rattle.start_attributes.specs.declared.roles.Judgment.{Judgment}
-use Rattle.start_attributes.specs.declared.roles.Judgment.TheVariants.{Good as Fine, Stop as Wrong}
 use Rattle.start_attributes.specs.Judgment.{said}
 use Rattle.start_attributes.specs.Reads as R
 use Rattle.start_attributes.specs.Reads.{meanings_of, Roles, reads_mean}
@@ -51,8 +47,9 @@ use Rattle.start_attributes.specs.First.{first_in, properties_some, properties_n
 use Rattle.start_attributes.specs.Short.{short_means}
 use Rattle.start_tag.specs.declared.reading.Tag.{Tag}
 use Rattle.start_tag.specs.declared.reading.Read.{Read}
-use Rattle.start_tag.specs.declared.reading.Read.TheVariants.{Stop, Wrapper, Good}
+use Rattle.start_tag.specs.declared.reading.Read.TheVariants.{Wrapper, Element}
 use Rattle.start_tag.specs.Made.{tag_at_place, is_unknown, iri_of, Known, known_space, unknown_space, short_if, short_by, refers_short, Finished}
+use Rattle.std.specs.Prelude.{Result, Ok, Err}
 
 -- what is asked: e and w are the decoded event and its words, v the work store, bs the bindings, of which n are in scope
 pub record Asks (e w : List ℕ) (m c k : ℕ) (v bs : List ℕ) (n : ℕ) (cs rs area : List ℕ) : Type 0 where
@@ -89,13 +86,13 @@ pub record Tells (t : Tag) (e w : List ℕ) (m k : ℕ) (v cs rs area : List ℕ
   pub kind : Refers t.kind area 4096 (good is.type)
   pub short : t.short ≡ is_short is
 
-abbrev pub Cases : Read → List ℕ → List ℕ → ℕ → ℕ → List ℕ → List ℕ → List ℕ → List ℕ → Doc → Type 0
-Cases (Stop n) e w m k v cs rs area d = read_tag (take m e) (attributes_of e w k) d ≡ refuse n
-Cases Wrapper e w m k v cs rs area d = Unit
-Cases (Good t) e w m k v cs rs area d = Tells t e w m k v cs rs area d
+abbrev pub Cases : Result Read Refusal → List ℕ → List ℕ → ℕ → ℕ → List ℕ → List ℕ → List ℕ → List ℕ → Doc → Type 0
+Cases (Err n) e w m k v cs rs area d = read_tag (take m e) (attributes_of e w k) d ≡ refuse n
+Cases (Ok Wrapper) e w m k v cs rs area d = Unit
+Cases (Ok (Element t)) e w m k v cs rs area d = Tells t e w m k v cs rs area d
 
 -- what `read_tag` does, in any valid state that the registers, frames, bindings and work store belong to, and beside a valid table of rdf:IDs
-pub record Reads (r : Registers) (fs bs v : List ℕ) (count : ℕ) (at len store e w : List ℕ) (m k : ℕ) (cs rs₀ area rs after : List ℕ) (t : Read) : Type 0 where
+pub record Reads (r : Registers) (fs bs v : List ℕ) (count : ℕ) (at len store e w : List ℕ) (m k : ℕ) (cs rs₀ area rs after : List ℕ) (t : Result Read Refusal) : Type 0 where
   pub places : length rs ≡ length rs₀
   pub same : length after ≡ length area
   pub cases : (is : List ℕ) (used : ℕ) → Valid r fs bs is v → ValidIds count used at len store
@@ -303,7 +300,7 @@ module _ (r : Registers) (fs bs v : List ℕ) (count : ℕ) (at len store : List
   named : answered (found_bytes e v f) (back_of c (take m e)) ≡ expand_element (scope e w k v bs r.counts.bindings) (take m e)
   named = element_means e v (scope e w k v bs r.counts.bindings) a.name (rw whole at z)
 
-  pub unknown_name : is_unknown f ≡ true → Reads r fs bs v count at len store e w m k cs rs₀ area rs₀ area (Stop NoNamespace)
+  pub unknown_name : is_unknown f ≡ true → Reads r fs bs v count at len store e w m k cs rs₀ area rs₀ area (Err NoNamespace)
   unknown_name u =
       record {
         places = refl;
@@ -321,7 +318,7 @@ module _ (r : Registers) (fs bs v : List ℕ) (count : ℕ) (at len store : List
     unfolding answered
     expanded = sym named ∙ ap (λ (o : Option Bytes). answered o (back_of c (take m e))) known.is
 
-    pub wrong_attribute : {rs : List ℕ} {j : Judgment} {n : Refusal} → R.Reads e w v cs k rs₀ rs j → j ≡ Wrong n → Reads r fs bs v count at len store e w m k cs rs₀ area rs area (Stop n)
+    pub wrong_attribute : {rs : List ℕ} {j : Result Unit Refusal} {n : Refusal} → R.Reads e w v cs k rs₀ rs j → j ≡ Err n → Reads r fs bs v count at len store e w m k cs rs₀ area rs area (Err n)
     wrong_attribute {n = n} o h =
         record {
           places = o.same;
@@ -330,10 +327,10 @@ module _ (r : Registers) (fs bs v : List ℕ) (count : ℕ) (at len store : List
               let ids = ids_of at len store count in
               let s = scope_is ids x in
               stop_attributes (take m e) (attributes_of e w k) (doc_of r fs bs is v ids) {i = known.space ++ back_of c (take m e)} (rw s expanded)
-              (rw s (reads_mean a.classified a.splits o ∙ ap (λ (q : Judgment). said q (meanings_of e w v cs k)) h));
+              (rw s (reads_mean a.classified a.splits o ∙ ap (λ (q : Result Unit Refusal). said q (meanings_of e w v cs k)) h));
         }
 
-    module _ {rs : List ℕ} {j : Judgment} (o : R.Reads e w v cs k rs₀ rs j) (g : j ≡ Fine) where
+    module _ {rs : List ℕ} {j : Result Unit Refusal} (o : R.Reads e w v cs k rs₀ rs j) (g : j ≡ Ok tt) where
       roles_are : Roles e w v cs rs k
       roles_are = o.roles g
 
@@ -342,7 +339,7 @@ module _ (r : Registers) (fs bs v : List ℕ) (count : ℕ) (at len store : List
       allowed =
           first_tag (meanings_of e w v cs k)
           (always_good AllFair (each_fair (scope e w k v bs r.counts.bindings) (attributes_of e w k))
-          (reads_mean a.classified a.splits o ∙ ap (λ (q : Judgment). said q (meanings_of e w v cs k)) g))
+          (reads_mean a.classified a.splits o ∙ ap (λ (q : Result Unit Refusal). said q (meanings_of e w v cs k)) g))
 
       -- what the code resolves is what `read_tag` does
       same_references : {is : List ℕ} {used : ℕ} (x : Valid r fs bs is v) → ValidIds count used at len store
@@ -362,7 +359,7 @@ module _ (r : Registers) (fs bs v : List ℕ) (count : ℕ) (at len store : List
             let ids = ids_of at len store count in
             let s = scope_is ids x in
             apart (take m e) (attributes_of e w k) (doc_of r fs bs is v ids) {i = known.space ++ back_of c (take m e)} (rw s expanded)
-            {ms = meanings_of e w v cs k} (rw s (reads_mean a.classified a.splits o ∙ ap (λ (q : Judgment). said q (meanings_of e w v cs k)) g))
+            {ms = meanings_of e w v cs k} (rw s (reads_mean a.classified a.splits o ∙ ap (λ (q : Result Unit Refusal). said q (meanings_of e w v cs k)) g))
             ∙ ap (◌>>= λ p. good (tag_from (take m e) (attributes_of e w k) (doc_of r fs bs is v (ids_of at len store count)) (known.space ++ back_of c (take m e)) (meanings_of e w v cs k) p))
             (same_references x y)
 
@@ -377,8 +374,8 @@ module _ (r : Registers) (fs bs v : List ℕ) (count : ℕ) (at len store : List
         unfolding ◌>>=◌
         resolved_good h = resolved_apart ∙ rw h
 
-      module _ {b : List ℕ} {q : Resolutions} (res : Resolving (references (in_force e w v k rs (base_in r fs)) (fresh_by count at len store) (five_at e w k rs)) area b q) where
-        pub wrong_reference : {n : Refusal} → q ≡ Refused n → Reads r fs bs v count at len store e w m k cs rs₀ area rs b (Stop n)
+      module _ {b : List ℕ} {q : Result References Refusal} (res : Resolving (references (in_force e w v k rs (base_in r fs)) (fresh_by count at len store) (five_at e w k rs)) area b q) where
+        pub wrong_reference : {n : Refusal} → q ≡ Err n → Reads r fs bs v count at len store e w m k cs rs₀ area rs b (Err n)
         wrong_reference h =
             record {
               places = o.same;
@@ -386,7 +383,7 @@ module _ (r : Registers) (fs bs v : List ℕ) (count : ℕ) (at len store : List
               cases = λ is used x y. resolved-refused x y (rw h at res.cases);
             }
 
-        module _ {refs : References} {after : List ℕ} {t : Tag} (came : q ≡ Came refs) (fin : Finished f name c e w k v cs rs refs b after t) where
+        module _ {refs : References} {after : List ℕ} {t : Tag} (came : q ≡ Ok refs) (fin : Finished f name c e w k v cs rs refs b after t) where
           reached : Resolved refs b (references (in_force e w v k rs (base_in r fs)) (fresh_by count at len store) (five_at e w k rs))
           reached = rw came at res.cases
 
@@ -437,5 +434,5 @@ module _ (r : Registers) (fs bs v : List ℕ) (count : ℕ) (at len store : List
               moved : (p : ℕ) (i : Option Bytes) {u n : Reference} → u ≡ n → Refers n b p (good i) → p + 1024 ≤ 5120 → Refers u after p (good i)
               moved p i {u} {n} z s l = rw z (refers_kept p (good i) n s fin.before l fin.same)
 
-          pub tag_read : Reads r fs bs v count at len store e w m k cs rs₀ area rs after (Good t)
+          pub tag_read : Reads r fs bs v count at len store e w m k cs rs₀ area rs after (Ok (Element t))
           tag_read = record { places = o.same; same = fin.same ∙ res.same; cases = λ is used x y. tells x y }

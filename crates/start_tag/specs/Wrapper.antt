@@ -59,12 +59,11 @@ use Rattle.start_plan.specs.Does.{wrapper_element, wrapper_element_lem, wrapper-
 use Rattle.start_plan.specs.Goes.{told, lines_by, behind_by, Goes}
 use Rattle.start_form.specs.Order.{opens_wrapper}
 use Rattle.start_form.specs.Form.{Formed}
-use Rattle.start_tag.specs.declared.judging.Verdict.{Verdict}
-use Rattle.start_tag.specs.declared.judging.Verdict.TheVariants.{Stop, Go}
 use Rattle.start_tag.specs.Made.{is_unknown, unknown_space}
 use Rattle.start_tag.specs.Limits.{left_over}
 use Rattle.start_tag.specs.Packets.{and-false}
 use Rattle.start_tag.specs.Judges.{Rules}
+use Rattle.std.specs.Prelude.{Result, Ok, Err}
 
 -- ---- is it the wrapper's?
 
@@ -172,15 +171,23 @@ module _ (e v : List ℕ) (m c k : ℕ) (w bs : List ℕ) {r : Registers} {f : F
 unfoldable pub known_at : List ℕ → ℕ → Bool
 known_at cs j = not (eqb (kind_of (class_at cs j)) 1)
 
--- the test of `has_unknown`: c is the class that was loaded, m its kind
-module _ (cs : List ℕ) (j : ℕ) {c : Class} {m : ℕ} (p : c ≡ class_at cs j) (q : m ≡ kind_of c) where
-  pub unknown_here : m ≡ 1 → known_at cs j ≡ false
-  unfolding known_at
-  unknown_here h = rw (← p, ← q, eq-eqb m 1 h)
+any_but : (c : Class) → (c ≡ Unknown → ⊥) → not (eqb (kind_of c) 1) ≡ true
+any_but Declaration h = refl
+any_but Unknown h = absurd (h refl)
+any_but Unprefixed h = refl
+any_but Xml h = refl
+any_but (Own a n) h = refl
+any_but (Held a n) h = refl
 
-  pub known_here : (m ≡ 1 → ⊥) → known_at cs j ≡ true
+-- the test of `has_unknown`: c is the class that was loaded
+module _ (cs : List ℕ) (j : ℕ) {c : Class} (p : c ≡ class_at cs j) where
+  pub unknown_here : c ≡ Unknown → known_at cs j ≡ false
   unfolding known_at
-  known_here h = rw (← p, ← q, ne_eqb m 1 h)
+  unknown_here h = rw (← p, h)
+
+  pub known_here : (c ≡ Unknown → ⊥) → known_at cs j ≡ true
+  unfolding known_at
+  known_here h = rw (← p) (any_but c h)
 
 -- what a class tells of an attribute
 module _ (e w : List ℕ) (bs : List Binding) (a : Attribute) {p : Bytes} where
@@ -243,7 +250,7 @@ pub record Wrapping (r : Registers) (count used : ℕ) (fs bs is w ia il st e v 
   pub wraps : starts_wrapper r.mode.xmp (take m e) (attributes_of e v k) (elements_of r fs bs is w) ≡ true
 
 -- what `judge_wrapper` answers, whatever roles and area there are
-pub record JudgesWrapper (q : Verdict) (r : Registers) (e v : List ℕ) (m k : ℕ) (w cs : List ℕ) : Type 0 where
+pub record JudgesWrapper (q : Result Start Refusal) (r : Registers) (e v : List ℕ) (m k : ℕ) (w cs : List ℕ) : Type 0 where
   pub cases : (count used : ℕ) (fs bs is ia il st rs b : List ℕ) → Wrapping r count used fs bs is w ia il st e v m k cs → Rules q r count used fs bs is w ia il st e v m k cs rs b
 
 -- by what the code tests
@@ -367,18 +374,18 @@ module _ {r : Registers} {count used : ℕ} {fs bs is w ia il st e v : List ℕ}
 
 -- the returns of `judge_wrapper`
 module _ {r : Registers} {e v : List ℕ} {m k : ℕ} {w cs : List ℕ} where
-  pub unknown_prefix : every (known_at cs) (places 0 k) ≡ false → JudgesWrapper (Stop NoNamespace) r e v m k w cs
+  pub unknown_prefix : every (known_at cs) (places 0 k) ≡ false → JudgesWrapper (Err NoNamespace) r e v m k w cs
   unfolding ◌>>◌ require◌or◌
   unknown_prefix p = record { cases = λ count used fs bs is ia il st rs b x. stops x (opens x (tested x ∙ rw p)) }
 
   module _ (p : every (known_at cs) (places 0 k) ≡ true) where
-    pub long-name : every (short_at e v w cs) (places 0 k) ≡ false → JudgesWrapper (Stop OverLimit) r e v m k w cs
+    pub long-name : every (short_at e v w cs) (places 0 k) ≡ false → JudgesWrapper (Err OverLimit) r e v m k w cs
     unfolding ◌>>◌ require◌or◌
     long-name u = record { cases = λ count used fs bs is ia il st rs b x. stops x (opens x (tested x ∙ rw (p, u))) }
 
     module _ (u : every (short_at e v w cs) (places 0 k) ≡ true) {f : Bool} (q : f ≡ leb (r.store.top - r.store.noted + wrapper_bytes e v m k) most_held_bytes) where
-      pub wrapper_full : f ≡ false → JudgesWrapper (Stop OverLimit) r e v m k w cs
+      pub wrapper_full : f ≡ false → JudgesWrapper (Err OverLimit) r e v m k w cs
       wrapper_full h = record { cases = λ count used fs bs is ia il st rs b x. held_over x p u rs b (sym q ∙ h) }
 
-      pub wrapper_judged : {y : Start} → f ≡ true → y ≡ wrapper_start r.counts.labels → JudgesWrapper (Go y) r e v m k w cs
+      pub wrapper_judged : {y : Start} → f ≡ true → y ≡ wrapper_start r.counts.labels → JudgesWrapper (Ok y) r e v m k w cs
       wrapper_judged h z = record { cases = λ count used fs bs is ia il st rs b x. rw z (wrapper_goes x p u rs b (sym q ∙ h)) }

@@ -15,20 +15,12 @@ ghost use Rattle.start_tag.specs.Places.{JudgesRoot, opens_at, is_wrapped};
 use crate::reading::Tag;
 use event::Place;
 use spec::Refusal;
-use start_attributes::roles::Judgment;
-use start_element::{Parts, Source};
+use start_element::{Parts, Pending, Source};
 use start_plan::{Given, Plan, Start};
 use start_references::reference::{Area, Reference};
 use start_rules::ParseType;
 use state::Registers;
 use state_words::{Frame, Kind};
-
-// A start tag is refused, or carried out so.
-#[derive(Clone, Copy)]
-pub enum Verdict {
-    Stop(Refusal),
-    Go(Start),
-}
 
 // What a start tag opens.
 #[derive(Clone, Copy)]
@@ -51,33 +43,29 @@ pub fn judge_tag(
     m: usize,
     k: usize,
     area: &mut [u8],
-) -> Verdict
+) -> Result<Start, Refusal>
     requires { Ready scratch.now spans.now k area.old }
     ensures { Judges result t r count used frames.now work.now scratch.now spans.now m k area.old area.new }
 {
-    match draft(t, r, frames, work, scratch, spans, k, area) {
-        Verdict::Stop(why) => Verdict::Stop(why),
-        Verdict::Go(x) => {
-            let plan = x.plan;
-            let parts = plan.parts;
-            let id = x.id;
-            if !fits(
-                parts,
-                id,
-                state_stack::nodes::minus(r.store.top, r.store.noted),
-                count,
-                used,
-                scratch,
-                spans,
-                m,
-                k,
-                area,
-            ) {
-                return Verdict::Stop(Refusal::OverLimit);
-            }
-            Verdict::Go(x)
-        }
+    let start = draft(t, r, frames, work, scratch, spans, k, area)?;
+    let plan = start.plan;
+    let parts = plan.parts;
+    let id = start.id;
+    if !fits(
+        parts,
+        id,
+        r.store.top.saturating_sub(r.store.noted),
+        count,
+        used,
+        scratch,
+        spans,
+        m,
+        k,
+        area,
+    ) {
+        return Err(Refusal::OverLimit);
     }
+    Ok(start)
 }
 
 // By what it stands in.
@@ -90,7 +78,7 @@ fn draft(
     spans: &[u32],
     k: usize,
     area: &mut [u8],
-) -> Verdict
+) -> Result<Start, Refusal>
     requires { Ready scratch.now spans.now k area.old }
     ensures { Drafts result t r frames.now work.now scratch.now spans.now k area.old area.new }
 {
@@ -154,20 +142,20 @@ fn judge_root(
     spans: &[u32],
     k: usize,
     area: &[u8],
-) -> Verdict
+) -> Result<Start, Refusal>
     requires { Gives t spans.now k g
         × Keeps kept t r frames.now work.now scratch.now spans.now k area.now }
     ensures { JudgesRoot result t r wrapped frames.now work.now scratch.now spans.now k area.now }
 {
     if !kept {
-        return Verdict::Stop(Refusal::ProfileBroken);
+        return Err(Refusal::ProfileBroken);
     }
     if !t.short {
-        return Verdict::Stop(Refusal::OverLimit);
+        return Err(Refusal::OverLimit);
     }
     let p = start_plan::root(g, crate::packets::rdf_part(r.mode), r.counts.labels);
     let x = start_by(p, t, wrapped, true, Source::Missing);
-    Verdict::Go(x)
+    Ok(x)
 }
 
 // A node element. Its label is made in the area.
@@ -183,7 +171,7 @@ fn judge_node(
     spans: &[u32],
     k: usize,
     area: &mut [u8],
-) -> Verdict
+) -> Result<Start, Refusal>
     requires { Ready scratch.now spans.now k area.old × Gives t spans.now k g
         × Keeps kept t r frames.now work.now scratch.now spans.now k area.old }
     ensures { JudgesNode result t r wrapped frames.now work.now scratch.now spans.now k area.old area.new }
@@ -194,36 +182,32 @@ fn judge_node(
     let name = iri_text(iri, area);
     let reserved = start_rules::is_reserved_node(name);
     if reserved {
-        return Verdict::Stop(Refusal::Reserved);
+        return Err(Refusal::Reserved);
     }
     if !kept {
-        return Verdict::Stop(Refusal::ProfileBroken);
+        return Err(Refusal::ProfileBroken);
     }
     let described = start_rules::is_description(name);
     let part = crate::packets::node_part(r.mode, name);
     let named = !is_missing(id);
     let told = !is_missing(about);
-    match start_rules::judge_node(reserved, named, t.node < k, told, r.counts.labels) {
-        Judgment::Stop(why) => Verdict::Stop(why),
-        Judgment::Good => {
-            if !t.short {
-                return Verdict::Stop(Refusal::OverLimit);
-            }
-            let x = make_node(
-                t,
-                g,
-                part,
-                !described,
-                wrapped,
-                r.counts.labels,
-                scratch,
-                spans,
-                k,
-                area,
-            );
-            Verdict::Go(x)
-        }
+    start_rules::judge_node(reserved, named, t.node < k, told, r.counts.labels)?;
+    if !t.short {
+        return Err(Refusal::OverLimit);
     }
+    let start = make_node(
+        t,
+        g,
+        part,
+        !described,
+        wrapped,
+        r.counts.labels,
+        scratch,
+        spans,
+        k,
+        area,
+    );
+    Ok(start)
 }
 
 // A property element in the node on top. The number of an rdf:li and the label that it takes are made in the area.
@@ -238,7 +222,7 @@ fn judge_property(
     spans: &[u32],
     k: usize,
     area: &mut [u8],
-) -> Verdict
+) -> Result<Start, Refusal>
     requires { Ready scratch.now spans.now k area.old × Gives t spans.now k g
         × Keeps kept t r frames.now work.now scratch.now spans.now k area.old }
     ensures { JudgesProperty result t r frames.now work.now scratch.now spans.now k area.old area.new }
@@ -251,10 +235,10 @@ fn judge_property(
     let name = iri_text(iri, area);
     let reserved = start_rules::is_reserved_property(name);
     if reserved {
-        return Verdict::Stop(Refusal::Reserved);
+        return Err(Refusal::Reserved);
     }
     if !kept {
-        return Verdict::Stop(Refusal::ProfileBroken);
+        return Err(Refusal::ProfileBroken);
     }
     let li = start_rules::is_li(name);
     let parse = start_rules::parse_type_of(
@@ -262,7 +246,7 @@ fn judge_property(
         start_names::value_of(scratch, spans, t.parse),
     );
     let resource = !is_missing(object);
-    match start_rules::judge_property(
+    start_rules::judge_property(
         reserved,
         li,
         numbers,
@@ -271,29 +255,25 @@ fn judge_property(
         t.node < k,
         t.properties,
         r.counts.labels,
-    ) {
-        Judgment::Stop(why) => Verdict::Stop(why),
-        Judgment::Good => {
-            if !t.short {
-                return Verdict::Stop(Refusal::OverLimit);
-            }
-            let takes = start_rules::takes_label(parse, resource, t.node < k, t.properties);
-            let x = make_property(
-                t,
-                g,
-                parse,
-                takes,
-                li,
-                numbers,
-                r.counts.labels,
-                scratch,
-                spans,
-                k,
-                area,
-            );
-            Verdict::Go(x)
-        }
+    )?;
+    if !t.short {
+        return Err(Refusal::OverLimit);
     }
+    let takes = start_rules::takes_label(parse, resource, t.node < k, t.properties);
+    let start = make_property(
+        t,
+        g,
+        parse,
+        takes,
+        li,
+        numbers,
+        r.counts.labels,
+        scratch,
+        spans,
+        k,
+        area,
+    );
+    Ok(start)
 }
 
 // A property element that is good.
@@ -376,7 +356,7 @@ fn label_if(takes: bool, labels: u64, area: &mut [u8]) -> u64
 fn make_node(
     t: Tag,
     g: Given,
-    part: u32,
+    part: Pending,
     named: bool,
     wrapped: bool,
     labels: u64,

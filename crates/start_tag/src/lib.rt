@@ -13,11 +13,11 @@ mod packets;
 pub mod reading;
 mod wrapper;
 
-use crate::judging::Verdict;
 use crate::reading::Read;
-use event::Progress;
-use start_form::Form;
+use event::Advance;
+use spec::Refusal;
 use start_names::Class;
+use start_plan::Start;
 use state::Registers;
 use state_ids::IdTable;
 
@@ -41,22 +41,19 @@ pub fn start_outside(
     area: &mut [u8],
     classes: &mut [usize; Class::TABLE],
     out: &mut [u8],
-) -> Progress
+) -> Result<Advance, Refusal>
     requires { Asks r count used (lent frames.old bindings.old inners.now work.old places.old sizes.old ids.old out.old) scratch.now spans.now m c k area.old × (r.flags.closed ≡ false) }
     ensures { HandlesAll (opening (take m scratch.now) (attributes_of scratch.now spans.now k)) r count result (lent frames.old bindings.old inners.now work.old places.old sizes.old ids.old out.old) (lent frames.new bindings.new inners.now work.new places.new sizes.new ids.new out.new) × (length area.new ≡ length area.old) }
 {
     let mut roles = [0u8; Class::MOST];
-    let verdict = judge_start(
+    let start = judge_start(
         r, count, used, frames, bindings, inners, work, places, sizes, ids, scratch, spans, m, c,
         k, classes, &mut roles, area,
-    );
-    match verdict {
-        Verdict::Stop(why) => Progress::Stop(why),
-        Verdict::Go(x) => start_commit::act(
-            x, r, count, used, frames, bindings, inners, work, places, sizes, ids, scratch, spans,
-            m, k, area, classes, &roles, out,
-        ),
-    }
+    )?;
+    start_commit::act(
+        start, r, count, used, frames, bindings, inners, work, places, sizes, ids, scratch, spans,
+        m, k, area, classes, &roles, out,
+    )
 }
 
 // 6 and the counts; 8 to 14 as the tag is read; 14, 15, 18 and the limits.
@@ -79,24 +76,20 @@ fn judge_start<'a>(
     classes: &mut [usize],
     roles: &mut [u8],
     area: &mut [u8],
-) -> Verdict
+) -> Result<Start, Refusal>
     requires { Asks r count used (lent frames.now bindings.now inners.now work.now places.now sizes.now ids.now []) scratch.now spans.now m c k area.old × Roomy classes.old roles.old }
     ensures { JudgesStart result r count used (lent frames.now bindings.now inners.now work.now places.now sizes.now ids.now []) scratch.now spans.now m k classes.old roles.old area.old classes.new roles.new area.new }
 {
-    let form = start_form::check_form(
+    start_form::check_form(
         r, frames, bindings, inners, work, scratch, spans, m, c, k, classes,
-    );
-    if let Form::Stop(why) = form {
-        return Verdict::Stop(why);
-    }
+    )?;
     let read = crate::reading::read_tag(
         r, frames, bindings, work, count, places, sizes, ids, scratch, spans, m, c, k, classes,
         roles, area,
-    );
+    )?;
     match read {
-        Read::Stop(why) => Verdict::Stop(why),
         Read::Wrapper => crate::wrapper::judge_wrapper(r, scratch, spans, m, k, work, classes),
-        Read::Good(t) => judging::judge_tag(
+        Read::Element(t) => judging::judge_tag(
             t, r, count, used, frames, work, scratch, spans, m, k, area,
         ),
     }

@@ -5,6 +5,7 @@ ghost use Rattle.start_tag.specs.Packets.{Keeps, rdf_part, node_part, none_out_b
 use crate::reading::Tag;
 use copy::words::wide;
 use spec::Mode;
+use start_element::Pending;
 use start_references::reference::{Area, Reference};
 use state::Registers;
 use state_words::{Frame, Kind};
@@ -44,27 +45,27 @@ pub fn keeps(
 }
 
 // What a new rdf:RDF is in a packet: the rdf:about of its children is awaited.
-pub fn rdf_part(mode: Mode) -> u32
+pub fn rdf_part(mode: Mode) -> Pending
     ensures { result ≡ rdf_part mode.xmp }
 {
     if mode.xmp {
-        Frame::AWAITED
+        Pending::Awaited
     } else {
-        Frame::ORDINARY
+        Pending::Absent
     }
 }
 
 // What a new node element is in a packet: the first rdf:li of an rdf:Alt is awaited.
-pub fn node_part(mode: Mode, name: &[u8]) -> u32
+pub fn node_part(mode: Mode, name: &[u8]) -> Pending
     ensures { result ≡ node_part mode.xmp name.now }
 {
     if !mode.xmp {
-        return Frame::ORDINARY;
+        return Pending::Absent;
     }
     if !start_rules::is_alt(name) {
-        return Frame::ORDINARY;
+        return Pending::Absent;
     }
-    Frame::AWAITED
+    Pending::Awaited
 }
 
 // Has it rdf:ID, rdf:nodeID, rdf:datatype or an rdf:parseType but Resource?
@@ -115,9 +116,8 @@ fn awaits_rdf(depth: usize, frames: &[u32]) -> bool
         return true;
     }
     let f = Frame::load(frames, depth - 1);
-    let kind = f.kind;
     let has = f.has;
-    state_stack::same_kind(kind, Kind::Wrapper) & (has[Frame::COUNT] == 0)
+    (f.kind == Kind::Wrapper) & (has[Frame::COUNT] == 0)
 }
 
 // By that element's kind. The wrapper has its rdf:RDF.
@@ -174,7 +174,7 @@ fn same_about(f: Frame, work: &[u8], about: Reference, area: &[u8]) -> bool
                 return true;
             }
             let from = wide(at[Frame::TAIL]);
-            let size = state_stack::nodes::minus(wide(at[Frame::END]), from);
+            let size = wide(at[Frame::END]).saturating_sub(from);
             copy::equal(
                 copy::piece(area, Area::ABOUT, n),
                 copy::piece(work, from, size),

@@ -16,10 +16,10 @@ ghost use Rattle.start_tag.specs.Reading.{ReadsTag};
 
 use resolve::Resolved;
 use spec::Refusal;
-use start_attributes::roles::{Judgment, Role};
-use start_names::{Found, XML};
+use start_attributes::roles::Role;
+use start_names::{Class, Found, XML};
+use start_references::References;
 use start_references::reference::{Area, Reference};
-use start_references::{References, Resolutions};
 use state::Registers;
 use state::language::Own;
 use state_ids::IdTable;
@@ -47,12 +47,11 @@ pub struct Tag {
     pub short: bool,
 }
 
-// A tag is refused, opens the wrapper of a packet, whose attributes are ignored, or says this.
+// A tag opens the wrapper of a packet, whose attributes are ignored, or says this.
 #[derive(Clone, Copy)]
 pub enum Read {
-    Stop(Refusal),
     Wrapper,
-    Good(Tag),
+    Element(Tag),
 }
 
 // A tag whose name is the first m bytes of the scratch, with its colon at c, and that has k attributes, which are classified.
@@ -73,7 +72,7 @@ pub fn read_tag<'a>(
     classes: &[usize],
     roles: &mut [u8],
     area: &mut [u8],
-) -> Read
+) -> Result<Read, Refusal>
     requires { Asks scratch.now spans.now m c k work.now bindings.now r.counts.bindings classes.now roles.old area.old × SpansIn count starts.now sizes.now ids.now }
     ensures { ReadsTag r frames.now bindings.now work.now count starts.now sizes.now ids.now scratch.now spans.now m k classes.now roles.old area.old roles.new area.new result }
 {
@@ -89,24 +88,19 @@ pub fn read_tag<'a>(
         r.counts.bindings,
     );
     if is_unknown(found) {
-        return Read::Stop(Refusal::NoNamespace);
+        return Err(Refusal::NoNamespace);
     }
     if crate::wrapper::is_wrapper(r.mode, r.counts.depth, found, name, c, scratch, work) {
-        return Read::Wrapper;
+        return Ok(Read::Wrapper);
     }
-    let judgment = start_attributes::read_attributes(scratch, spans, k, work, classes, roles);
-    if let Judgment::Stop(n) = judgment {
-        return Read::Stop(n);
-    }
-    let resolutions = start_references::resolve_references(
+    start_attributes::read_attributes(scratch, spans, k, work, classes, roles)?;
+    let references = start_references::resolve_references(
         r, frames, work, count, starts, sizes, ids, scratch, spans, k, roles, area,
+    )?;
+    let tag = tag_of(
+        found, name, c, scratch, spans, k, work, classes, roles, references, area,
     );
-    match resolutions {
-        Resolutions::Stop(n) => Read::Stop(n),
-        Resolutions::Good(references) => Read::Good(tag_of(
-            found, name, c, scratch, spans, k, work, classes, roles, references, area,
-        )),
-    }
+    Ok(Read::Element(tag))
 }
 
 fn is_unknown(found: Found) -> bool
@@ -180,7 +174,7 @@ fn make_iri<'a>(
         return Reference::Missing;
     }
     join(
-        start_names::space_of(found.class(), scratch, work, &XML),
+        start_names::space_of(Class::from(found), scratch, work, &XML),
         start_names::back_of(name, c),
         area,
     )

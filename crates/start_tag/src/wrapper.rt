@@ -9,7 +9,6 @@ ghost use Rattle.spec.specs.Limits.{most_attributes, most_held_bytes};
 ghost use Rattle.start_attributes.specs.Places.{places};
 ghost use Rattle.start_tag.specs.Wrapper.{known_at, wrapper_bytes, TellsWrapper, JudgesWrapper};
 
-use crate::judging::Verdict;
 use spec::{Mode, Refusal};
 use start_element::Source;
 use start_names::{Class, Found, XML};
@@ -49,7 +48,7 @@ fn names_wrapper<'a>(
     ensures { result ≡ same (space_by scratch.now work.now xml_name (found_class found) ++ back_of c name.now) wrapper_name }
 {
     start_names::same_joined(
-        start_names::space_of(found.class(), scratch, work, &XML),
+        start_names::space_of(Class::from(found), scratch, work, &XML),
         start_names::back_of(name, c),
         b"adobe:ns:meta/",
         b"xmpmeta",
@@ -66,21 +65,21 @@ pub fn judge_wrapper<'a>(
     k: usize,
     work: &'a [u8],
     classes: &[usize],
-) -> Verdict
+) -> Result<Start, Refusal>
     requires { (length scratch.now ≤ 65536) × (k ≤ most_attributes) }
     ensures { JudgesWrapper result r scratch.now spans.now m k work.now classes.now }
 {
     if has_unknown(classes, k) {
-        return Verdict::Stop(Refusal::NoNamespace);
+        return Err(Refusal::NoNamespace);
     }
     if !start_attributes::names_short(scratch, spans, k, work, classes) {
-        return Verdict::Stop(Refusal::OverLimit);
+        return Err(Refusal::OverLimit);
     }
     if !fits(r.store, scratch, spans, m, k) {
-        return Verdict::Stop(Refusal::OverLimit);
+        return Err(Refusal::OverLimit);
     }
     let plan = start_plan::wrapper(r.counts.labels);
-    Verdict::Go(Start {
+    Ok(Start {
         plan,
         li: false,
         id: Source::Missing,
@@ -96,7 +95,7 @@ fn fits(store: Store, scratch: &[u8], spans: &[u32], m: usize, k: usize) -> bool
     requires { (length scratch.now ≤ 65536) × (k ≤ most_attributes) }
     ensures { result ≡ leb (store.top - store.noted + wrapper_bytes scratch.now spans.now m k) most_held_bytes }
 {
-    let held = state_stack::nodes::minus(store.top, store.noted);
+    let held = store.top.saturating_sub(store.noted);
     if held > Registers::MOST_HELD {
         return false;
     }
@@ -108,13 +107,10 @@ fn fits(store: Store, scratch: &[u8], spans: &[u32], m: usize, k: usize) -> bool
 fn has_unknown(classes: &[usize], k: usize) -> bool
     ensures { result ≡ not (every (known_at classes.now) (places 0 k)) }
 {
-    let mut j = 0;
-    while j < k {
-        let class = Class::load(classes, j);
-        if class.kind() == 1 {
+    for j in 0..k {
+        if let Class::Unknown = Class::load(classes, j) {
             return true;
         }
-        j += 1;
     }
     false
 }

@@ -12,8 +12,9 @@ use Rattle.copy.specs.Copy.{part, part_short}
 use Rattle.state_words.specs.Words.{pick}
 use Rattle.state.specs.declared.language.Own as code
 use Rattle.state.specs.declared.language.Own.TheVariants.{Unsaid, Cleared, Given}
-use Rattle.state.specs.declared.language.Language as force
-use Rattle.state.specs.declared.language.Language.TheVariants.{None, Tag}
+use Rattle.state.specs.declared.Span.{Span}
+use Rattle.std.specs.declared.option.Option as std
+use Rattle.std.specs.Prelude.{Some, None}
 
 -- ---- by the bytes that are kept
 
@@ -60,11 +61,16 @@ tag_of_own (Given at n) a = part a at n
 abbrev pub own_of_code : code.Own → Bytes → Own
 own_of_code o a = own_in (mark_of o) (tag_of_own o a)
 
-unfoldable pub tag_of_language : force.Language → Bytes → Bytes
-tag_of_language None w = []
-tag_of_language (Tag at n) w = part w at n
+-- the bytes of a stretch of a store, if there is one
+unfoldable pub bytes_found : std.Option Span → Bytes → Bytes
+bytes_found None w = []
+bytes_found (Some s) w = part w s.at s.len
 
-unfoldable pub tag_in_force : code.Own → force.Language → Bytes → Bytes → Bytes
+-- what is in force is the stretch of a tag
+abbrev pub tag_of_language : std.Option Span → Bytes → Bytes
+tag_of_language = bytes_found
+
+unfoldable pub tag_in_force : code.Own → std.Option Span → Bytes → Bytes → Bytes
 tag_in_force Unsaid l w a = tag_of_language l w
 tag_in_force Cleared l w a = []
 tag_in_force (Given at n) l w a = part a at n
@@ -110,7 +116,7 @@ tag_short Cleared a = omega arith
 tag_short (Given at n) a = part_short a at n
 
 -- the language in force by what an element says, and what is around it
-pub in_force_by : (o : code.Own) (l : force.Language) (w a : Bytes) → language_of (tag_in_force o l w a) ≡ in_force (own_of_code o a) (language_of (tag_of_language l w))
+pub in_force_by : (o : code.Own) (l : std.Option Span) (w a : Bytes) → language_of (tag_in_force o l w a) ≡ in_force (own_of_code o a) (language_of (tag_of_language l w))
 unfolding tag_in_force tag_of_own own_in in_force said_as language_of
 in_force_by Unsaid l w a = refl
 in_force_by Cleared l w a = refl

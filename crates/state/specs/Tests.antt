@@ -1,16 +1,23 @@
 -- The tests of validity, as the code makes them: each loop goes from the last element to the first, and what is left to test is what was to test.
-use Rattle.std.specs.Prelude.{ℕ, zero, suc, ◌+◌, ◌-◌, ◌*◌, ◌<◌, ◌≤◌, ◌≡◌, refl, Bool, true, false, ◌&&◌, not, List, eqb, leb, length, get_or}
+use Rattle.std.specs.Prelude.{ℕ, zero, suc, ◌+◌, ◌-◌, ◌*◌, ◌<◌, ◌≤◌, ◌≡◌, refl, Bool, true, false, ◌&&◌, List, eqb, leb, ltb, length, get_or}
 use Rattle.std.proofs.Math.Path.{sym}
-use Rattle.std.proofs.Common.{ap, ◌∙◌}
+use Rattle.std.proofs.Common.{ap, ◌∙◌, add-one}
+use Rattle.std.proofs.Math.Bool.{and-false}
 use native.Mathlib.Omega.{arith}
-use borrow.Author.Tests.{eqb-true, leb-true, eq-eqb, ne_eqb, le-leb, lt-leb, not-true, not-false}
+use borrow.Author.Tests.{eqb-true, leb-true, eq-eqb, ne_eqb, le-leb, lt-leb, ltb-true, ltb-false}
 use Rattle.spec.proofs.Booleans.{and_left, and_right}
-use Rattle.spec.specs.Limits.{most_name_bytes, most_labels, most_open_elements, most_bindings, work_store_bytes}
+use Rattle.spec.specs.Limits.{most_open_elements, most_bindings, work_store_bytes}
 use Rattle.copy.specs.Copy.{get_d_part}
 use Rattle.state_words.specs.Parts.{NAME, BINDINGS, BASE, END, FRAME, TABLE}
+use denote.Enum.Bare.{sameb}
+use Rattle.std.specs.Prelude.{MatchBool}
+use Rattle.std.specs.List.Sorted.{IsNonDecreasing}
+use Rattle.state_words.specs.contracts.Kind.{the_type}
+use Rattle.state_words.specs.declared.Kind.{Kind}
+use Rattle.state_words.specs.declared.Kind.TheVariants.{Rdf, NodeElt, PropertyElt, ParseTypeCollectionPropertyElt, ParseTypeLiteralPropertyElt, ParseTypeOtherPropertyElt, Wrapper}
 use Rattle.state_words.specs.declared.Frame.{Frame}
 use Rattle.state_words.specs.declared.Row.{Row}
-use Rattle.state_words.specs.Words.{pick, frame_at, row_at, load_frame, load_row, load_frame_lem, load_row_lem}
+use Rattle.state_words.specs.Words.{frame_at, row_at, load_frame, load_row, load_frame_lem, load_row_lem}
 use Rattle.state.specs.declared.Registers.{Registers}
 use Rattle.state.specs.Meaning.{at, first, child_size, child_from}
 use Rattle.state.specs.Valid.{noted_of, noted_in, noted_ok, rises, is_node, node_below, is_wrapper, is_root_in, chained, children_ok, kind_ok, stands, parts_ok, element_ok, frames_ok, ceiling, inners_ok, counts_ok, lengths_ok, valid_state, element_sound, rising}
@@ -26,29 +33,25 @@ positive (suc n) z = omega arith
 
 -- ---- places that go up
 
-pub record Rose (l : List ℕ) (k : ℕ) : Type 0 where
-  pub upto : k ≤ 8
-  pub rest : rises l END ≡ rises l k
-
-pub rose_begins : {l : List ℕ} → Rose l 8
-rose_begins = record { upto = omega arith; rest = refl }
-
-module _ {l : List ℕ} {k : ℕ} (r : Rose l k) (h : 0 < k) where
-  step : suc (k - 1) ≡ k
-  step = omega arith
-
-  pub rose_stop : get_or l k 0 < get_or l (k - 1) 0 → false ≡ rises l END
-  unfolding rises
-  rose_stop b = sym (r.rest ∙ (before (rises l) k h ∙ rw (step, lt-leb (get_or l (k - 1) 0) (get_or l k 0) b)))
-
-  pub rose_more : get_or l (k - 1) 0 ≤ get_or l k 0 → Rose l (k - 1)
-  unfolding rises
-  rose_more b =
-      record { upto = omega (arith, r.upto); rest = r.rest ∙ (before (rises l) k h ∙ rw (step, le-leb (get_or l (k - 1) 0) (get_or l k 0) b)) }
-
-pub rose_done : {l : List ℕ} {k : ℕ} → Rose l k → k ≤ 0 → true ≡ rises l END
+rises_all : (l : List ℕ) (n : ℕ) → ((k : ℕ) → k < n → get_or l k 0 ≤ get_or l (suc k) 0) → true ≡ rises l n
 unfolding rises
-rose_done {l} {k} r h = let e : k ≡ 0 = omega arith in sym (r.rest ∙ rw e)
+rises_all l zero h = refl
+rises_all l (suc n) h = rw (le-leb (get_or l n 0) (get_or l (suc n) 0) (h n (omega arith))) (rises_all l n (λ k b. h k (omega arith)))
+
+rises_not : (l : List ℕ) (n k : ℕ) → k < n → get_or l (suc k) 0 < get_or l k 0 → false ≡ rises l n
+unfolding rises
+rises_not l zero k b h = absurd (omega arith)
+rises_not l (suc n) k b h = go (ltb k n) refl (λ m. rises_not l n k m h)
+  where
+    go : (t : Bool) → ltb k n ≡ t → (k < n → false ≡ rises l n) → false ≡ rises l (suc n)
+    go true e below = rw (← below (ltb-true k n e), and-false)
+    go false e below = let q : k ≡ n = omega (arith, ltb-false k n e) in rw (lt-leb (get_or l n 0) (get_or l (suc n) 0) (rw q at h))
+
+-- by what `is_sorted` answers
+pub rises_sorted : (l : List ℕ) → length l ≡ 9 → (r : Bool) → MatchBool r (IsNonDecreasing l) ((k : ℕ) × (k + 1 < length l) × ((d : ℕ) → get_or l (k + 1) d < get_or l k d))
+    → r ≡ rises l END
+rises_sorted l n true h = rises_all l END (λ k b. h k (suc k) 0 (omega arith) (omega arith))
+rises_sorted l n false h = rises_not l END h.0 (omega (arith, h.1)) (rw add-one at (h.2 0))
 
 -- ---- bindings
 
@@ -108,49 +111,6 @@ module _ {w : List ℕ} {from n to i e : ℕ} (c : ChildWalk w from n to i e) wh
   unfolding children_ok
   child_done h = let z : i ≡ 0 = omega arith in sym (c.rest ∙ rw z)
 
--- ---- counts and lengths
-
-module _ (r : Registers) where
-  pub too_deep : 64 < r.counts.depth + r.counts.inner → false ≡ counts_ok r
-  unfolding counts_ok most_open_elements
-  too_deep h = rw (lt-leb (r.counts.depth + r.counts.inner) 64 h)
-
-  module _ (d : r.counts.depth + r.counts.inner ≤ 64) where
-    pub too_many : 128 < r.counts.bindings → false ≡ counts_ok r
-    unfolding counts_ok most_open_elements most_bindings
-    too_many h = rw (le-leb (r.counts.depth + r.counts.inner) 64 d, lt-leb r.counts.bindings 128 h)
-
-    module _ (b : r.counts.bindings ≤ 128) where
-      pub too_high : r.store.low < r.store.top → false ≡ counts_ok r
-      unfolding counts_ok most_open_elements most_bindings
-      too_high h = rw (le-leb (r.counts.depth + r.counts.inner) 64 d, le-leb r.counts.bindings 128 b, lt-leb r.store.top r.store.low h)
-
-      module _ (t : r.store.top ≤ r.store.low) where
-        pub no_base : pick r.flags.based true (eqb r.store.base 0) ≡ false → false ≡ counts_ok r
-        unfolding counts_ok most_open_elements most_bindings
-        no_base e = rw (le-leb (r.counts.depth + r.counts.inner) 64 d, le-leb r.counts.bindings 128 b, le-leb r.store.top r.store.low t, e)
-
-        pub labels_decide : pick r.flags.based true (eqb r.store.base 0) ≡ true → leb r.counts.labels 99_999_999 ≡ counts_ok r
-        unfolding counts_ok most_open_elements most_bindings most_labels
-        labels_decide e = rw (le-leb (r.counts.depth + r.counts.inner) 64 d, le-leb r.counts.bindings 128 b, le-leb r.store.top r.store.low t, e)
-
-module _ (fs bs is w : List ℕ) where
-  pub other_frames : (length fs ≡ TABLE → ⊥) → false ≡ lengths_ok fs bs is w
-  unfolding lengths_ok most_open_elements
-  other_frames h = rw (ne_eqb (length fs) TABLE h)
-
-  pub other_bindings : length fs ≡ TABLE → (length bs ≡ 384 → ⊥) → false ≡ lengths_ok fs bs is w
-  unfolding lengths_ok most_open_elements most_bindings
-  other_bindings a h = rw (eq-eqb (length fs) TABLE a, ne_eqb (length bs) 384 h)
-
-  pub other_inners : length fs ≡ TABLE → length bs ≡ 384 → (length is ≡ 192 → ⊥) → false ≡ lengths_ok fs bs is w
-  unfolding lengths_ok most_open_elements most_bindings
-  other_inners a b h = rw (eq-eqb (length fs) TABLE a, eq-eqb (length bs) 384 b, ne_eqb (length is) 192 h)
-
-  pub store_decides : length fs ≡ TABLE → length bs ≡ 384 → length is ≡ 192 → eqb (length w) 65_536 ≡ lengths_ok fs bs is w
-  unfolding lengths_ok most_open_elements most_bindings work_store_bytes
-  store_decides a b c = rw (eq-eqb (length fs) TABLE a, eq-eqb (length bs) 384 b, eq-eqb (length is) 192 c)
-
 -- ---- what is noted
 
 -- what the first i elements have noted is summed up
@@ -175,15 +135,6 @@ note_more {fs} {n} {noted} {i} k h {f} e {more} m l =
 pub note_done : {fs : List ℕ} {n noted i : ℕ} → NoteWalk fs n noted i → n ≤ i → noted ≡ noted_in fs n
 note_done {fs} {n} {noted} {i} k h = let e : i ≡ n = omega (arith, k.upto) in rw e at k.sum
 
-module _ (r : Registers) (fs : List ℕ) where
-  pub too_much_noted : 1_024 < r.store.noted → false ≡ noted_ok r fs
-  unfolding noted_ok most_name_bytes
-  too_much_noted h = rw (lt-leb r.store.noted 1_024 h)
-
-  pub sum_decides : r.store.noted ≤ 1_024 → eqb r.store.noted (noted_in fs r.counts.depth) ≡ noted_ok r fs
-  unfolding noted_ok most_name_bytes
-  sum_decides h = rw (le-leb r.store.noted 1_024 h)
-
 -- ---- the element around, and where an inner element ends
 
 pub ceiling_first : (is : List ℕ) (i : ℕ) → i ≡ 0 → 65_536 ≡ ceiling is i
@@ -195,6 +146,26 @@ unfolding ceiling
 ceiling-other is i {r} z h e =
     let p : 0 < i = omega (arith, positive i z) in
     sym (before (ceiling is) i p ∙ ap (λ (x : Row). x.at) (sym (e ∙ load_row_lem is (i - 1) (omega arith))))
+
+pub node_kind : (k : Kind) → sameb the_type k NodeElt ≡ is_node k
+unfolding is_node
+node_kind Rdf = refl
+node_kind NodeElt = refl
+node_kind PropertyElt = refl
+node_kind ParseTypeCollectionPropertyElt = refl
+node_kind ParseTypeLiteralPropertyElt = refl
+node_kind ParseTypeOtherPropertyElt = refl
+node_kind Wrapper = refl
+
+pub wrapper_kind : (k : Kind) → sameb the_type k Wrapper ≡ is_wrapper k
+unfolding is_wrapper
+wrapper_kind Rdf = refl
+wrapper_kind NodeElt = refl
+wrapper_kind PropertyElt = refl
+wrapper_kind ParseTypeCollectionPropertyElt = refl
+wrapper_kind ParseTypeLiteralPropertyElt = refl
+wrapper_kind ParseTypeOtherPropertyElt = refl
+wrapper_kind Wrapper = refl
 
 pub no_node : (fs : List ℕ) (n : ℕ) → n ≡ 0 → false ≡ node_below fs n
 unfolding node_below
@@ -215,14 +186,6 @@ unfolding is_root_in
 in_wrapper_lem fs n {f} z h e =
     let p : 0 < n = positive n z in
     sym (before (is_root_in fs) n p ∙ ap (λ (x : Frame). is_wrapper x.kind) (sym (e ∙ load_frame_lem fs (n - 1) (omega arith))))
-
--- ---- what a test that was made says of the definition that it equals
-
-pub yes : {a b : Bool} → a ≡ b → not a ≡ false → b ≡ true
-yes {a} e h = sym e ∙ not-false a h
-
-pub no : {a b : Bool} → a ≡ b → not a ≡ true → b ≡ false
-no {a} e h = sym e ∙ not-true a h
 
 -- ---- one element, test by test
 

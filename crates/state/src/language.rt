@@ -1,21 +1,17 @@
-// The language of an element: what it says of it, and what is in force in it. A tag is kept by its bytes, in lower case; xml:lang="" is
-// kept as a tag that has none.
+// The language of an element: what it says of it, and what is in force in it, which is none or a tag in the work store. A tag is kept by its
+// bytes, in lower case; xml:lang="" is kept as a tag that has none.
 ghost use Rattle.std.specs.Prelude.{◌≡◌};
-ghost use Rattle.state.specs.Language.{mark_of, is_said, tag_of_own, tag_of_language, tag_in_force};
+ghost use Rattle.state.specs.Language.{mark_of, is_said, tag_of_own, tag_in_force};
+
+use crate::Span;
 
 // What an element says: nothing, that no language is in force in it, or this tag, in what was made of its start tag: start and length.
+// Three answers: an Option of an Option would say less.
 #[derive(Clone, Copy)]
 pub enum Own {
     Unsaid,
     Cleared,
     Given(usize, usize),
-}
-
-// What is in force: none, or this tag, in the work store.
-#[derive(Clone, Copy)]
-pub enum Language {
-    None,
-    Tag(usize, usize),
 }
 
 impl Own {
@@ -42,6 +38,7 @@ impl Own {
     }
 
     // The bytes of its tag.
+    #[tactic(auto, unfolding(crate::specs::Language::tag_of_own))]
     pub fn tag<'a>(self, area: &'a [u8]) -> &'a [u8]
         ensures { result.now ≡ tag_of_own self area.now }
     {
@@ -53,24 +50,13 @@ impl Own {
     }
 }
 
-impl Language {
-    // The bytes of its tag, no byte where there is none.
-    pub fn tag<'a>(self, work: &'a [u8]) -> &'a [u8]
-        ensures { result.now ≡ tag_of_language self work.now }
-    {
-        match self {
-            Language::None => &work[0..0],
-            Language::Tag(at, n) => copy::piece(work, at, n),
-        }
-    }
-}
-
 // The tag in force in an element that says this, with that language around it.
-pub fn tag_in_force<'a>(own: Own, around: Language, work: &'a [u8], area: &'a [u8]) -> &'a [u8]
+#[tactic(auto, unfolding(crate::specs::Language::tag_in_force))]
+pub fn tag_in_force<'a>(own: Own, around: Option<Span>, work: &'a [u8], area: &'a [u8]) -> &'a [u8]
     ensures { result.now ≡ tag_in_force own around work.now area.now }
 {
     match own {
-        Own::Unsaid => around.tag(work),
+        Own::Unsaid => crate::bytes_found(around, work),
         Own::Cleared => &area[0..0],
         Own::Given(at, n) => copy::piece(area, at, n),
     }

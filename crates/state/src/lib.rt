@@ -6,8 +6,9 @@ ghost use Rattle.std.specs.Prelude.{◌≡◌, ◌+◌, ◌-◌, ◌*◌, ◌≤
 ghost use Rattle.state_words.specs.Parts.{TAIL, END, FRAME};
 ghost use Rattle.state_words.specs.Words.{pick};
 ghost use Rattle.state.specs.Meaning.{at, child_size};
-ghost use Rattle.state.specs.Valid.{noted_of, noted_in, noted_ok, rises, empty_or, parts_ok, chained, children_ok, kind_ok, is_node, node_below, is_wrapper, is_root_in, stands, element_ok, frames_ok, ceiling, inners_ok, counts_ok, lengths_ok, valid_state};
+ghost use Rattle.state.specs.Valid.{noted_of, noted_in, noted_ok, rises, empty_or, parts_ok, chained, children_ok, kind_ok, node_below, is_root_in, stands, element_ok, frames_ok, ceiling, inners_ok, counts_ok, lengths_ok, valid_state};
 ghost use Rattle.state.specs.Live.{started_with};
+ghost use Rattle.state.specs.Language.{bytes_found};
 
 pub mod language;
 
@@ -52,6 +53,24 @@ pub struct Counts {
     pub outer: usize,
     pub bindings: usize,
     pub labels: u64,
+}
+
+// A stretch of a store: where it starts, and how many bytes it has.
+#[derive(Clone, Copy)]
+pub struct Span {
+    pub at: usize,
+    pub len: usize,
+}
+
+// The bytes of a stretch; no byte where there is none.
+#[tactic(auto, unfolding(crate::specs::Language::bytes_found))]
+pub fn bytes_found<'a>(found: Option<Span>, store: &'a [u8]) -> &'a [u8]
+    ensures { result.now ≡ bytes_found found store.now }
+{
+    match found {
+        Some(span) => copy::piece(store, span.at, span.len),
+        None => &store[0..0],
+    }
 }
 
 impl Registers {
@@ -153,21 +172,17 @@ pub fn valid(r: Registers, frames: &[u32], bindings: &[u32], inners: &[u32], wor
     )
 }
 
+#[tactic(auto, unfolding(crate::specs::Valid::lengths_ok, spec::specs::Limits::most_open_elements, spec::specs::Limits::most_bindings, spec::specs::Limits::work_store_bytes))]
 fn lengths_ok(frames: &[u32], bindings: &[u32], inners: &[u32], work: &[u8]) -> bool
     ensures { result ≡ lengths_ok frames.now bindings.now inners.now work.now }
 {
-    if frames.len() != Frame::TABLE {
-        return false;
-    }
-    if bindings.len() != Row::BINDINGS {
-        return false;
-    }
-    if inners.len() != Row::INNERS {
-        return false;
-    }
-    work.len() == Registers::STORE
+    frames.len() == Frame::TABLE
+        && bindings.len() == Row::BINDINGS
+        && inners.len() == Row::INNERS
+        && work.len() == Registers::STORE
 }
 
+#[tactic(auto, unfolding(crate::specs::Valid::counts_ok, spec::specs::Limits::most_open_elements, spec::specs::Limits::most_bindings, spec::specs::Limits::most_labels))]
 fn counts_ok(r: Registers) -> bool
     ensures { result ≡ counts_ok r }
 {
@@ -193,10 +208,11 @@ fn counts_ok(r: Registers) -> bool
 fn based_ok(based: bool, base: usize) -> bool
     ensures { result ≡ pick based true (eqb base 0) }
 {
-    if based { true } else { base == 0 }
+    based || base == 0
 }
 
 // Are the bytes counted that are noted, and are they few?
+#[tactic(auto, unfolding(crate::specs::Valid::noted_ok, spec::specs::Limits::most_name_bytes))]
 fn noted_ok(r: Registers, frames: &[u32]) -> bool
     requires { (r.counts.depth ≤ 64) × (r.counts.depth * FRAME ≤ length frames.now) }
     ensures { result ≡ noted_ok r frames.now }
@@ -213,27 +229,20 @@ fn noted_in(frames: &[u32], n: usize) -> usize
     ensures { result ≡ noted_in frames.now n }
 {
     let mut noted = 0;
-    let mut i = 0;
-    while i < n {
+    for i in 0..n {
         noted += noted_of(Frame::load(frames, i));
-        i += 1;
     }
     noted
 }
 
 // The bytes that an element has noted: the tail of rdf:RDF.
+#[tactic(auto, unfolding(crate::specs::Valid::noted_by))]
 pub fn noted_of(f: Frame) -> usize
     ensures { (result ≡ noted_of f) × (result < 4294967296) }
 {
-    let kind = f.kind;
-    match kind {
+    match f.kind {
         Kind::Rdf => tail_size(f),
-        Kind::NodeElt => 0,
-        Kind::PropertyElt => 0,
-        Kind::ParseTypeCollectionPropertyElt => 0,
-        Kind::ParseTypeLiteralPropertyElt => 0,
-        Kind::ParseTypeOtherPropertyElt => 0,
-        Kind::Wrapper => 0,
+        _ => 0,
     }
 }
 
@@ -241,10 +250,7 @@ fn tail_size(f: Frame) -> usize
     ensures { (result ≡ at f END - at f TAIL) × (result < 4294967296) }
 {
     let at = f.at;
-    if at[Frame::END] < at[Frame::TAIL] {
-        return 0;
-    }
-    wide(at[Frame::END] - at[Frame::TAIL])
+    wide(at[Frame::END].saturating_sub(at[Frame::TAIL]))
 }
 
 // Do the elements inside Literal content lie end to end, from `low` to the store's end?
@@ -259,11 +265,9 @@ fn inners_ok(
     requires { (inner * 3 ≤ length inners.now) × (bound * 3 ≤ length bindings.now) }
     ensures { result ≡ inners_ok inners.now bindings.now outer inner low bound }
 {
-    let mut i = inner;
     let mut l = low;
     let mut b = bound;
-    while i > 0 {
-        i -= 1;
+    for i in (0..inner).rev() {
         let row = Row::load(inners, i);
         let up = ceiling(inners, i);
         let first = wide(row.more);
@@ -311,11 +315,9 @@ fn frames_ok(
     requires { (depth * FRAME ≤ length frames.now) × (outer * 3 ≤ length bindings.now) × (top ≤ length work.now) }
     ensures { result ≡ frames_ok frames.now bindings.now work.now base depth top outer }
 {
-    let mut i = depth;
     let mut t = top;
     let mut b = outer;
-    while i > 0 {
-        i -= 1;
+    for i in (0..depth).rev() {
         if !element_ok(frames, bindings, work, i, t, b) {
             return false;
         }
@@ -372,23 +374,18 @@ fn element_ok(frames: &[u32], bindings: &[u32], work: &[u8], n: usize, top: usiz
 fn rises(at: [u32; Frame::PLACES]) -> bool
     ensures { result ≡ rises at END }
 {
-    let mut k: usize = 8;
-    while k > 0 {
-        if at[k] < at[k - 1] {
-            return false;
-        }
-        k -= 1;
-    }
-    true
+    at.is_sorted()
 }
 
 // A part that is missing is empty.
+#[tactic(auto, unfolding(crate::specs::Valid::empty_or))]
 fn empty_or(h: u32, a: u32, b: u32) -> bool
     ensures { result ≡ empty_or h a b }
 {
-    if h == 0 { a == b } else { true }
+    h != 0 || a == b
 }
 
+#[tactic(auto, unfolding(crate::specs::Valid::parts_ok))]
 fn parts_ok(f: Frame) -> bool
     ensures { result ≡ parts_ok f }
 {
@@ -406,10 +403,8 @@ fn chained(bindings: &[u32], b: usize, n: usize, from: usize, to: usize) -> bool
     requires { (b + n) * 3 ≤ length bindings.now }
     ensures { result ≡ chained bindings.now b n from to }
 {
-    let mut i = n;
     let mut t = to;
-    while i > 0 {
-        i -= 1;
+    for i in (0..n).rev() {
         let row = Row::load(bindings, b + i);
         let at = wide(row.at);
         if at + wide(row.name) + wide(row.more) != t {
@@ -425,10 +420,8 @@ fn children_ok(work: &[u8], from: usize, n: usize, to: usize) -> bool
     requires { (to ≤ length work.now) × (from < 4294967296) }
     ensures { result ≡ children_ok work.now from n to }
 {
-    let mut i = n;
     let mut e = to;
-    while i > 0 {
-        i -= 1;
+    for _left in (0..n).rev() {
         if e < from + 4 {
             return false;
         }
@@ -442,6 +435,7 @@ fn children_ok(work: &[u8], from: usize, n: usize, to: usize) -> bool
 }
 
 // What its kind does not have is empty.
+#[tactic(auto, unfolding(crate::specs::Valid::kind_ok, spec::specs::Limits::most_labels))]
 fn kind_ok(f: Frame, work: &[u8]) -> bool
     requires { at f END ≤ length work.now }
     ensures { result ≡ kind_ok f.kind f work.now }
@@ -475,20 +469,6 @@ fn kind_ok(f: Frame, work: &[u8]) -> bool
     }
 }
 
-fn is_node(kind: Kind) -> bool
-    ensures { result ≡ is_node kind }
-{
-    match kind {
-        Kind::Rdf => false,
-        Kind::NodeElt => true,
-        Kind::PropertyElt => false,
-        Kind::ParseTypeCollectionPropertyElt => false,
-        Kind::ParseTypeLiteralPropertyElt => false,
-        Kind::ParseTypeOtherPropertyElt => false,
-        Kind::Wrapper => false,
-    }
-}
-
 // Is the element around element `n` a node?
 fn node_below(frames: &[u32], n: usize) -> bool
     requires { n * FRAME ≤ length frames.now }
@@ -498,22 +478,7 @@ fn node_below(frames: &[u32], n: usize) -> bool
         return false;
     }
     let f = Frame::load(frames, n - 1);
-    let kind = f.kind;
-    is_node(kind)
-}
-
-fn is_wrapper(kind: Kind) -> bool
-    ensures { result ≡ is_wrapper kind }
-{
-    match kind {
-        Kind::Rdf => false,
-        Kind::NodeElt => false,
-        Kind::PropertyElt => false,
-        Kind::ParseTypeCollectionPropertyElt => false,
-        Kind::ParseTypeLiteralPropertyElt => false,
-        Kind::ParseTypeOtherPropertyElt => false,
-        Kind::Wrapper => true,
-    }
+    f.kind == Kind::NodeElt
 }
 
 // Is element `n` the root, or is the element around it the wrapper?
@@ -525,11 +490,11 @@ fn is_root_in(frames: &[u32], n: usize) -> bool
         return true;
     }
     let f = Frame::load(frames, n - 1);
-    let kind = f.kind;
-    is_wrapper(kind)
+    f.kind == Kind::Wrapper
 }
 
 // A property stands in a node, rdf:RDF as the root or in the wrapper, and the wrapper as the root.
+#[tactic(auto, unfolding(crate::specs::Valid::stands))]
 fn stands(kind: Kind, frames: &[u32], n: usize) -> bool
     requires { n * FRAME ≤ length frames.now }
     ensures { result ≡ stands kind frames.now n }
@@ -537,10 +502,10 @@ fn stands(kind: Kind, frames: &[u32], n: usize) -> bool
     match kind {
         Kind::Rdf => is_root_in(frames, n),
         Kind::NodeElt => true,
-        Kind::PropertyElt => node_below(frames, n),
-        Kind::ParseTypeCollectionPropertyElt => node_below(frames, n),
-        Kind::ParseTypeLiteralPropertyElt => node_below(frames, n),
-        Kind::ParseTypeOtherPropertyElt => node_below(frames, n),
+        Kind::PropertyElt
+        | Kind::ParseTypeCollectionPropertyElt
+        | Kind::ParseTypeLiteralPropertyElt
+        | Kind::ParseTypeOtherPropertyElt => node_below(frames, n),
         Kind::Wrapper => n == 0,
     }
 }

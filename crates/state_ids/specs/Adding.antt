@@ -1,6 +1,6 @@
 -- A fresh table, and a table with one more ID.
 use Prim.Native.Nat.{ℕ, zero, suc, ◌+◌, ◌<◌, ◌≤◌}
-use Rattle.std.specs.Prelude.{◌≡◌, Bool, true, false, ◌&&◌, leb, get_or, take, set, replicate}
+use Rattle.std.specs.Prelude.{◌≡◌, Option, Some, None, is_some, Bool, true, false, ◌&&◌, leb, get_or, take, set, replicate}
 use Rattle.std.proofs.Math.Path.{refl, ap}
 use Rattle.std.proofs.Common.{sym, ◌∙◌, add-one, arith, length-set, get_or-take}
 use Rattle.std.proofs.lemmas.Bool.{false≢true}
@@ -14,7 +14,7 @@ use Rattle.spec.specs.Limits.{id_store_bytes, most_ids, most_id_bytes, most_name
 use Rattle.spec.proofs.Booleans.{and_left, and_right}
 use Rattle.copy.specs.Copy.{stored_at, part, part-part, part_stored, take_before, length_stored, Put, put_false, put_true}
 use Rattle.state_ids.specs.declared.IdTable.{IdTable}
-use Rattle.state_ids.specs.declared.Added.{Added}
+use Rattle.state_ids.specs.declared.Filled.{Filled}
 use Rattle.state_ids.specs.Ids.{ids_of, room_for, end_to_end, ValidIds, last-ends, others_linked}
 
 -- What `new` makes: no place in use, and each empty.
@@ -24,46 +24,47 @@ pub record Fresh (t : IdTable) : Type 0 where
   pub places : t.at ≡ replicate most_ids 0
   pub sizes : t.len ≡ replicate most_ids 0
 
--- What a call left behind, in its answer and in the lent arrays and store: these numbers, these lists.
-pub record Left (a : Added) (at' len' store' : List ℕ) (count used : ℕ) (at len store : List ℕ) : Type 0 where
-  pub number : a.count ≡ count
-  pub bytes : a.used ≡ used
+-- What the lent arrays and the store are behind a call: these lists.
+pub record Left (at' len' store' : List ℕ) (at len store : List ℕ) : Type 0 where
   pub places : at' ≡ at
   pub sizes : len' ≡ len
   pub stored : store' ≡ store
 
 -- What `add` does on any arguments. It enters the ID where the limits leave room and the store is long enough, as that of a valid table is:
 -- its span in the next place, its bytes behind those in use. Else nothing changes.
-pub record Adds (count used : ℕ) (at len store id : List ℕ) (a : Added) (at' len' store' : List ℕ) : Type 0 where
-  pub answer : a.ok ≡ (room_for count used (length id) && leb (used + length id) (length store))
-  pub entered : a.ok ≡ true → Left a at' len' store' (count + 1) (used + length id) (set at count used) (set len count (length id)) (stored_at store used id)
-  pub kept : a.ok ≡ false → Left a at' len' store' count used at len store
+pub record Adds (count used : ℕ) (at len store id : List ℕ) (a : Option Filled) (at' len' store' : List ℕ) : Type 0 where
+  pub answer : is_some a ≡ (room_for count used (length id) && leb (used + length id) (length store))
+  pub filled : (f : Filled) → a ≡ Some f → f ≡ record { count = count + 1; used = used + length id }
+  pub entered : is_some a ≡ true → Left at' len' store' (set at count used) (set len count (length id)) (stored_at store used id)
+  pub kept : is_some a ≡ false → Left at' len' store' at len store
 
 -- ---- the answers of `add`: no room, no store, entered
 
 module _ {count used : ℕ} {at len store id : List ℕ} where
   not_entered : {store' : List ℕ} → (room_for count used (length id) && leb (used + length id) (length store)) ≡ false → store' ≡ store
-      → Adds count used at len store id (record { ok = false; count = count; used = used }) at len store'
+      → Adds count used at len store id None at len store'
   not_entered h e =
       record {
         answer = sym h;
+        filled = λ f q. cc;
         entered = λ y. absurd (false≢true y);
-        kept = λ _. record { number = refl; bytes = refl; places = refl; sizes = refl; stored = e };
+        kept = λ _. record { places = refl; sizes = refl; stored = e };
       }
 
-  pub no_room : room_for count used (length id) ≡ false → Adds count used at len store id (record { ok = false; count = count; used = used }) at len store
+  pub no_room : room_for count used (length id) ≡ false → Adds count used at len store id None at len store
   no_room h = not_entered (rw h) refl
 
   pub not_put : {store' : List ℕ} {r : Bool} → room_for count used (length id) ≡ true → Put store used id store' r → r ≡ false
-      → Adds count used at len store id (record { ok = false; count = count; used = used }) at len store'
+      → Adds count used at len store id None at len store'
   not_put h p n = not_entered (rw h (sym p.answer ∙ n)) (put_false p n)
 
   pub put_there : {store' : List ℕ} {r : Bool} → room_for count used (length id) ≡ true → Put store used id store' r → r ≡ true
-      → Adds count used at len store id (record { ok = true; count = count + 1; used = used + length id }) (set at count used) (set len count (length id)) store'
+      → Adds count used at len store id (Some (record { count = count + 1; used = used + length id })) (set at count used) (set len count (length id)) store'
   put_there h p y =
       record {
         answer = sym (rw h (sym p.answer ∙ y));
-        entered = λ _. record { number = refl; bytes = refl; places = refl; sizes = refl; stored = (put_true p y).eq };
+        filled = λ f q. cc;
+        entered = λ _. record { places = refl; sizes = refl; stored = (put_true p y).eq };
         kept = λ n. absurd (false≢true (sym n));
       }
 
@@ -154,37 +155,43 @@ room_in_store : {count used n : ℕ} {at len store : List ℕ} → ValidIds coun
 unfolding id_store_bytes most_id_bytes
 room_in_store v r = omega (arith, v.whole, r.bytes)
 
-module _ {count used : ℕ} {at len store id : List ℕ} {a : Added} {at' len' store' : List ℕ}
+module _ {count used : ℕ} {at len store id : List ℕ} {a : Option Filled} {at' len' store' : List ℕ}
     (v : ValidIds count used at len store) (d : Adds count used at len store id a at' len' store') where
   -- a valid table's store is long enough: the limits decide
-  pub add_answers : a.ok ≡ room_for count used (length id)
+  pub add_answers : is_some a ≡ room_for count used (length id)
   add_answers = d.answer ∙ go (room_for count used (length id)) refl
     where
       go : (r : Bool) → room_for count used (length id) ≡ r → (r && leb (used + length id) (length store)) ≡ r
       go true e = le-leb _ _ (room_in_store v (has_room e))
       go false e = refl
 
-  -- the table behind it is valid
-  pub add_valid : a.ok ≡ true → ValidIds a.count a.used at' len' store'
-  add_valid y =
-      let r : Room count used (length id) = has_room (sym add_answers ∙ y) in
-      let l : used + length id ≤ length store = room_in_store v r in
-      let b = d.entered y in
-      let linked : end_to_end (set at count used) (set len count (length id)) (suc count) (used + length id) ≡ true =
-      next_linked at len store id count used v.linked (omega (arith, v.places, r.few)) (omega (arith, v.sizes, r.few)) r.short in
-      record {
-        places = ap length b.places ∙ (length-set at count used ∙ v.places);
-        sizes = ap length b.sizes ∙ (length-set len count (length id) ∙ v.sizes);
-        whole = ap length b.stored ∙ (length_stored store used id l ∙ v.whole);
-        few = omega (arith, b.number, r.few);
-        within = omega (arith, b.bytes, r.bytes);
-        linked = rw (b.number, b.bytes, b.places, b.sizes, add-one count) linked;
-      }
+  module _ (f : Filled) (y : a ≡ Some f) where
+    there : is_some a ≡ true
+    there = rw y
 
-  -- and means the ID, and then those from before
-  pub add_means : a.ok ≡ true → ids_of at' len' store' a.count ≡ id ∷ ids_of at len store count
-  add_means y =
-      let r : Room count used (length id) = has_room (sym add_answers ∙ y) in
-      let b = d.entered y in
-      rw (b.number, b.places, b.sizes, b.stored, add-one count)
-      (next_ids at len store id count used v.linked (omega (arith, v.places, r.few)) (omega (arith, v.sizes, r.few)) (room_in_store v r))
+    -- the table behind it is valid
+    pub add_valid : ValidIds f.count f.used at' len' store'
+    add_valid =
+        let r : Room count used (length id) = has_room (sym add_answers ∙ there) in
+        let l : used + length id ≤ length store = room_in_store v r in
+        let b = d.entered there in
+        let n = d.filled f y in
+        let linked : end_to_end (set at count used) (set len count (length id)) (suc count) (used + length id) ≡ true =
+        next_linked at len store id count used v.linked (omega (arith, v.places, r.few)) (omega (arith, v.sizes, r.few)) r.short in
+        rw (n, b.places, b.sizes, b.stored)
+        (record {
+          places = length-set at count used ∙ v.places;
+          sizes = length-set len count (length id) ∙ v.sizes;
+          whole = length_stored store used id l ∙ v.whole;
+          few = omega (arith, r.few);
+          within = r.bytes;
+          linked = rw (add-one count) linked;
+        })
+
+    -- and means the ID, and then those from before
+    pub add_means : ids_of at' len' store' f.count ≡ id ∷ ids_of at len store count
+    add_means =
+        let r : Room count used (length id) = has_room (sym add_answers ∙ there) in
+        let b = d.entered there in
+        rw (d.filled f y, b.places, b.sizes, b.stored, add-one count)
+        (next_ids at len store id count used v.linked (omega (arith, v.places, r.few)) (omega (arith, v.sizes, r.few)) (room_in_store v r))

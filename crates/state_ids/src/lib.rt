@@ -20,10 +20,9 @@ pub struct IdTable {
     pub len: [u32; IdTable::MOST],
 }
 
-// What `add` answers: whether the ID was entered, and the table's two numbers behind it.
+// How far a table is filled: the places in use, and the bytes of their IDs.
 #[derive(Clone, Copy)]
-pub struct Added {
-    pub ok: bool,
+pub struct Filled {
     pub count: usize,
     pub used: usize,
 }
@@ -66,10 +65,8 @@ pub fn valid(
     if IdTable::BYTES < used {
         return false;
     }
-    let mut i = count;
     let mut end = used;
-    while 0 < i {
-        i -= 1;
+    for i in (0..count).rev() {
         let start = wide(at[i]);
         let size = wide(len[i]);
         if Resolved::MOST_BYTES < size {
@@ -97,9 +94,7 @@ pub fn find(
     if IdTable::MOST < count {
         return false;
     }
-    let mut i = count;
-    while 0 < i {
-        i -= 1;
+    for i in (0..count).rev() {
         let start = wide(at[i]);
         let size = wide(len[i]);
         if is_at(store, start, size, id) {
@@ -125,7 +120,7 @@ pub fn room(count: usize, used: usize, n: usize) -> bool
     n <= IdTable::BYTES - used
 }
 
-// Enters an ID as the newest. Where there is no room, nothing changes.
+// Enters an ID as the newest, and says how far the table is filled then. Where there is no room, nothing changes.
 pub fn add(
     count: usize,
     used: usize,
@@ -133,31 +128,22 @@ pub fn add(
     len: &mut [u32; IdTable::MOST],
     store: &mut [u8],
     id: &[u8],
-) -> Added
+) -> Option<Filled>
     ensures { Adds count used at.old len.old store.old id.now result at.new len.new store.new }
 {
     let n = id.len();
     if !room(count, used, n) {
-        return Added {
-            ok: false,
-            count,
-            used,
-        };
+        return None;
     }
     if !copy::put(store, used, id) {
-        return Added {
-            ok: false,
-            count,
-            used,
-        };
+        return None;
     }
     at[count] = used as u32;
     len[count] = n as u32;
-    Added {
-        ok: true,
+    Some(Filled {
         count: count + 1,
         used: used + n,
-    }
+    })
 }
 
 // Are the `n` bytes of the store from `from` on this ID?

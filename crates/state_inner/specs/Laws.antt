@@ -7,6 +7,8 @@ use Rattle.std.proofs.Math.Bool.{true, false}
 use Rattle.std.proofs.Math.Option.{Option, none, some}
 use native.Mathlib.Omega.{arith}
 use borrow.Author.Tests.{eqb-true, eqb-false, leb-true, ltb-true, eq-eqb, ne_eqb}
+use Rattle.std.specs.Option.{option_or}
+use Rattle.std.specs.Bool.{then_some}
 use Rattle.spec.specs.Limits as L
 use Rattle.spec.proofs.Booleans.{and_left, and_right}
 use Rattle.spec.specs.Bytes.{Bytes, or_else}
@@ -25,26 +27,28 @@ use Rattle.spec.specs.Limits.{work_store_bytes}
 use Rattle.state.specs.Held.{room}
 use Rattle.state.specs.Held as Held
 use Rattle.spec.specs.XmlLang.{unsaid, in_force}
-use Rattle.state.specs.Language.{said_as, own_in, language_of, tag_of_language, in_force_said}
-use Rattle.state.specs.declared.language.Language.TheVariants.{None, Tag}
-use Rattle.state_stack.specs.declared.Changed.{Changed}
-use Rattle.state_stack.specs.declared.Found.{Found}
+use Rattle.state.specs.Language.{said_as, own_in, language_of, bytes_found, tag_of_language, in_force_said}
+use Rattle.state.specs.declared.Span.{Span}
+use Rattle.std.specs.declared.option.Option as std
+use Rattle.std.specs.Prelude.{Some, None, is_some, unwrap_or}
 use Rattle.state_stack.specs.Change.{Holds, flat, inside-opened, inside-closed, inside_element}
 use Rattle.state_stack.specs.Laws.{Bound, by}
 use Rattle.state_inner.specs.Calls.{Opens, may_open, Closes, ceiling_in, stretch, name_in, innermost_in, base_in, tag_found, language_in, held_in, held_is}
 
 -- the bytes that were found
-unfoldable pub found : Found → List ℕ → Option Bytes
-found f w = pick f.there (some (part w f.at f.len)) none
+unfoldable pub found : std.Option Span → List ℕ → Option Bytes
+found None w = none
+found (Some s) w = some (part w s.at s.len)
 
 -- ---- reads
 
-tag-found : (w : List ℕ) (f : Found) → tag_of_language (tag_found f) w ≡ part w f.at f.len
-unfolding tag_found tag_of_language part
-tag-found w f = go (eqb f.len 0) refl
+tag-found : (w : List ℕ) (f : std.Option Span) → tag_of_language (tag_found f) w ≡ bytes_found f w
+unfolding tag_found bytes_found part
+tag-found w None = refl
+tag-found w (Some s) = go (eqb s.len 0) refl
   where
-    go : (t : Bool) → eqb f.len 0 ≡ t → tag_of_language (pick t None (Tag f.at f.len)) w ≡ take f.len (drop f.at w)
-    go true e = rw (eqb-true f.len 0 e)
+    go : (t : Bool) → eqb s.len 0 ≡ t → bytes_found (pick t None (Some s)) w ≡ take s.len (drop s.at w)
+    go true e = rw (eqb-true s.len 0 e)
     go false e = refl
 
 module _ (fs bs w : List ℕ) where
@@ -57,20 +61,20 @@ module _ (fs bs w : List ℕ) where
       rw (load_frame_lem fs n (omega arith)) (go (eqb (has (frame_at fs n) BASED) 0) (base_frames n (first (frame_at fs n)) start (omega arith)))
     where
       go : (t : Bool) → or_else (found (innermost_in fs BASED BASE n) w) start ≡ base_in_force start (frames_of fs bs w n (first (frame_at fs n)))
-          → or_else (found (pick t (innermost_in fs BASED BASE n) (stretch (at (frame_at fs n) BASE) (at (frame_at fs n) TAG))) w) start
+          → or_else (found (pick t (innermost_in fs BASED BASE n) (Some (stretch (at (frame_at fs n) BASE) (at (frame_at fs n) TAG)))) w) start
           ≡ or_else (pick t none (some (part w (at (frame_at fs n) BASE) (at (frame_at fs n) TAG - at (frame_at fs n) BASE)))) (base_in_force start (frames_of fs bs w n (first (frame_at fs n))))
       go true e = e
       go false e = refl
 
   tag_frames : (n b : ℕ) → n * FRAME ≤ length fs
-      → language_of (part w (innermost_in fs TAGGED TAG n).at (innermost_in fs TAGGED TAG n).len) ≡ language_in_force (frames_of fs bs w n b)
-  unfolding innermost_in language_of part in_force own_in span language_in_force frames_of element_of
+      → language_of (bytes_found (innermost_in fs TAGGED TAG n) w) ≡ language_in_force (frames_of fs bs w n b)
+  unfolding innermost_in bytes_found language_of in_force own_in span language_in_force frames_of element_of
   tag_frames zero b h = refl
   tag_frames (suc n) b h =
       rw (load_frame_lem fs n (omega arith)) (go (eqb (has (frame_at fs n) TAGGED) 0) (tag_frames n (first (frame_at fs n)) (omega arith)))
     where
-      go : (t : Bool) → language_of (part w (innermost_in fs TAGGED TAG n).at (innermost_in fs TAGGED TAG n).len) ≡ language_in_force (frames_of fs bs w n (first (frame_at fs n)))
-          → language_of (part w (pick t (innermost_in fs TAGGED TAG n) (stretch (at (frame_at fs n) TAG) (at (frame_at fs n) MAIN))).at (pick t (innermost_in fs TAGGED TAG n) (stretch (at (frame_at fs n) TAG) (at (frame_at fs n) MAIN))).len)
+      go : (t : Bool) → language_of (bytes_found (innermost_in fs TAGGED TAG n) w) ≡ language_in_force (frames_of fs bs w n (first (frame_at fs n)))
+          → language_of (bytes_found (pick t (innermost_in fs TAGGED TAG n) (Some (stretch (at (frame_at fs n) TAG) (at (frame_at fs n) MAIN)))) w)
           ≡ in_force (pick t unsaid (said_as (part w (at (frame_at fs n) TAG) (at (frame_at fs n) MAIN - at (frame_at fs n) TAG)))) (language_in_force (frames_of fs bs w n (first (frame_at fs n))))
       go true e = e
       go false e = sym (in_force_said (part w (at (frame_at fs n) TAG) (at (frame_at fs n) MAIN - at (frame_at fs n) TAG)) _)
@@ -86,14 +90,15 @@ unfolding language_in_force inners_of inner_of in_force
 tag_inners is bs w zero b es = refl
 tag_inners is bs w (suc n) b es = tag_inners is bs w n (row_at is n).more es
 
-or_start : (r : Registers) (w : List ℕ) (t : Bool) (a l : ℕ) → found (pick t (record { there = t; at = a; len = l }) (record { there = r.flags.based; at = 0; len = r.store.base })) w
-    ≡ or_else (found (record { there = t; at = a; len = l }) w) (start_of r w)
-unfolding found or_else start_of
-or_start r w true a l = refl
-or_start r w false a l = refl
+started : (t : Bool) (w : List ℕ) (n : ℕ) → found (then_some t (record { at = 0; len = n })) w ≡ pick t (some (part w 0 n)) none
+unfolding found
+started true w n = refl
+started false w n = refl
 
-chosen : (r : Registers) (w : List ℕ) (f : Found) → found (pick f.there f (record { there = r.flags.based; at = 0; len = r.store.base })) w ≡ or_else (found f w) (start_of r w)
-chosen r w f = or_start r w f.there f.at f.len
+chosen : (r : Registers) (w : List ℕ) (f : std.Option Span) → found (option_or f (then_some r.flags.based (record { at = 0; len = r.store.base }))) w ≡ or_else (found f w) (start_of r w)
+unfolding found or_else start_of
+chosen r w None = started r.flags.based w r.store.base
+chosen r w (Some s) = refl
 
 module _ {r : Registers} {fs bs is w : List ℕ} (x : Valid r fs bs is w) where
   tables : r.counts.depth * FRAME ≤ length fs
@@ -185,9 +190,9 @@ pub record Written (r : Registers) (bs w cs v : List ℕ) (a n b : ℕ) (name : 
   pub named : part v a n ≡ name
   pub bindings : Bound cs v r.counts.bindings (b - r.counts.bindings) (a + n) r.store.low bound
 
-pub open_holds : {r : Registers} {fs bs is w js cs v : List ℕ} {a n b : ℕ} {c : Changed} {name : Bytes} {bound : List Binding}
-    → Valid r fs bs is w → Opens r is a n b c js → c.ok ≡ true → Written r bs w cs v a n b name bound
-    → Holds c.registers fs cs js v r.mode (start_of r w) (record { name = name; bindings = bound; own_base = none; own_tag = unsaid; kind = xml_element; part = ordinary } ∷ elements_of r fs bs is w) r.flags.rooted r.counts.labels
+pub open_holds : {r : Registers} {fs bs is w js cs v : List ℕ} {a n b : ℕ} {c : std.Option Registers} {name : Bytes} {bound : List Binding}
+    → Valid r fs bs is w → Opens r is a n b c js → is_some c ≡ true → Written r bs w cs v a n b name bound
+    → Holds (unwrap_or c r) fs cs js v r.mode (start_of r w) (record { name = name; bindings = bound; own_base = none; own_tag = unsaid; kind = xml_element; part = ordinary } ∷ elements_of r fs bs is w) r.flags.rooted r.counts.labels
 unfolding inner_of
 open_holds {r} {fs} {bs} {is} {w} {js} {cs} {v} {a} {n} {b} {c} {name} {bound} x p y q =
     let m : may_open r is a n ≡ true = sym p.answer ∙ y in
@@ -209,8 +214,8 @@ unfolding L.all ceiling_in ceiling work_store_bytes
 ceiling-same is zero h = refl
 ceiling-same is (suc n) h = rw (ne_eqb (suc n) 0 (λ e. omega arith), suc_pred n, load_row_lem is n (omega arith))
 
-pub close-holds : {r : Registers} {fs bs is w : List ℕ} {c : Changed} → Valid r fs bs is w → Closes r is c → c.ok ≡ true
-    → Holds c.registers fs bs is w r.mode (start_of r w) (inners_of is bs w (r.counts.inner - 1) (row_at is (r.counts.inner - 1)).more ++ frames_of fs bs w r.counts.depth r.counts.outer) r.flags.rooted r.counts.labels
+pub close-holds : {r : Registers} {fs bs is w : List ℕ} {c : std.Option Registers} → Valid r fs bs is w → Closes r is c → is_some c ≡ true
+    → Holds (unwrap_or c r) fs bs is w r.mode (start_of r w) (inners_of is bs w (r.counts.inner - 1) (row_at is (r.counts.inner - 1)).more ++ frames_of fs bs w r.counts.depth r.counts.outer) r.flags.rooted r.counts.labels
 close-holds {r} {fs} {bs} {is} {w} {c} x p y =
     let d : 0 < r.counts.inner = ltb-true 0 r.counts.inner (sym p.answer ∙ y) in
     let room : (r.counts.inner - 1) * 3 + 3 ≤ length is = omega (arith, x.inner_words, x.deep) in

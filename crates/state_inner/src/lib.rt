@@ -4,12 +4,10 @@
 ghost use Rattle.std.specs.Prelude.{◌≡◌, ◌+◌, ◌-◌, ◌*◌, ◌≤◌, ◌<◌, true, leb};
 ghost use Rattle.spec.specs.Limits.{most_held_bytes};
 ghost use Rattle.state_stack.specs.Change.{inside_to};
-ghost use Rattle.state_inner.specs.Calls.{Opens, Closes, ceiling_in, name_in, innermost_in, base_in, language_in, held_in};
+ghost use Rattle.state_inner.specs.Calls.{Opens, Closes, ceiling_in, name_in, innermost_in, stretch, base_in, language_in, held_in};
 
 use copy::words::wide;
-use state::language::Language;
-use state::{Counts, Registers, Store};
-use state_stack::{Changed, Found};
+use state::{Counts, Registers, Span, Store};
 use state_words::{Frame, Row};
 
 // One more element inside, whose name and bindings stand in the work store from `at` up to `low`, with bindings up to `bound`.
@@ -19,27 +17,23 @@ pub fn open_inside(
     at: usize,
     name: usize,
     bound: usize,
-) -> Changed
+) -> Option<Registers>
     ensures { Opens r inners.old at name bound result inners.new }
 {
-    let no = Changed {
-        ok: false,
-        registers: r,
-    };
     if r.counts.depth > Frame::MOST {
-        return no;
+        return None;
     }
     if r.counts.inner >= Frame::MOST - r.counts.depth {
-        return no;
+        return None;
     }
     if at > Registers::STORE {
-        return no;
+        return None;
     }
     if name > Registers::STORE {
-        return no;
+        return None;
     }
     if r.counts.bindings > Row::MOST_BINDINGS {
-        return no;
+        return None;
     }
     let row = Row {
         at: at as u32,
@@ -47,80 +41,63 @@ pub fn open_inside(
         more: r.counts.bindings as u32,
     };
     if !Row::store(inners, r.counts.inner, row) {
-        return no;
+        return None;
     }
-    Changed {
-        ok: true,
-        registers: inside(r, r.counts.inner + 1, at, bound),
-    }
+    Some(inside(r, r.counts.inner + 1, at, bound))
 }
 
 // One less.
-pub fn close_inside(r: Registers, inners: &[u32]) -> Changed
+pub fn close_inside(r: Registers, inners: &[u32]) -> Option<Registers>
     ensures { Closes r inners.now result }
 {
     if r.counts.inner == 0 {
-        return Changed {
-            ok: false,
-            registers: r,
-        };
+        return None;
     }
     let n = r.counts.inner - 1;
     let row = Row::load(inners, n);
-    Changed {
-        ok: true,
-        registers: inside(r, n, ceiling(inners, n), wide(row.more)),
-    }
+    Some(inside(r, n, ceiling(inners, n), wide(row.more)))
 }
 
 // The name of the innermost open element.
-pub fn name(r: Registers, frames: &[u32], inners: &[u32]) -> Found
+pub fn name(r: Registers, frames: &[u32], inners: &[u32]) -> Option<Span>
     ensures { result ≡ name_in r frames.now inners.now }
 {
     if r.counts.inner != 0 {
         let row = Row::load(inners, r.counts.inner - 1);
-        return Found {
-            there: true,
+        return Some(Span {
             at: wide(row.at),
             len: wide(row.name),
-        };
+        });
     }
     if r.counts.depth == 0 {
-        return Found {
-            there: false,
-            at: 0,
-            len: 0,
-        };
+        return None;
     }
     let f = Frame::load(frames, r.counts.depth - 1);
     let at = f.at;
-    between(wide(at[Frame::NAME]), wide(at[Frame::BINDINGS]))
+    Some(between(wide(at[Frame::NAME]), wide(at[Frame::BINDINGS])))
 }
 
 // xml:base in force, from the start base at last.
-pub fn base_in_force(r: Registers, frames: &[u32]) -> Found
+pub fn base_in_force(r: Registers, frames: &[u32]) -> Option<Span>
     ensures { result ≡ base_in r frames.now }
 {
-    let f = innermost(frames, r.counts.depth, Frame::BASED, Frame::BASE);
-    if f.there {
-        return f;
-    }
-    Found {
-        there: r.flags.based,
+    let own = innermost(frames, r.counts.depth, Frame::BASED, Frame::BASE);
+    let start = Span {
         at: 0,
         len: r.store.base,
-    }
+    };
+    own.or(r.flags.based.then_some(start))
 }
 
 // xml:lang in force: none where no element says one, or the innermost that does clears it.
-pub fn language_in_force(r: Registers, frames: &[u32]) -> Language
+pub fn language_in_force(r: Registers, frames: &[u32]) -> Option<Span>
     ensures { result ≡ language_in r frames.now }
 {
-    let said = innermost(frames, r.counts.depth, Frame::TAGGED, Frame::TAG);
+    let said = innermost(frames, r.counts.depth, Frame::TAGGED, Frame::TAG)?;
     if said.len == 0 {
-        return Language::None;
+        return None;
     }
-    Language::Tag(said.at, said.len)
+    Some(said)
 }
 
 // Held bytes: what is noted is stored, and not held.
@@ -133,7 +110,7 @@ pub fn held(r: Registers) -> usize
     if r.store.top > r.store.low {
         return Registers::STORE;
     }
-    state_stack::nodes::minus(r.store.top, r.store.noted) + (Registers::STORE - r.store.low)
+    r.store.top.saturating_sub(r.store.noted) + (Registers::STORE - r.store.low)
 }
 
 // May an event leave this much held?
@@ -144,41 +121,27 @@ pub fn holds_no_more(r: Registers) -> bool
 }
 
 // The part that starts at `place` of the innermost frame that has it.
-fn innermost(frames: &[u32], depth: usize, mark: usize, place: usize) -> Found
+fn innermost(frames: &[u32], depth: usize, mark: usize, place: usize) -> Option<Span>
     requires { (mark < 8) × (place < 8) }
     ensures { result ≡ innermost_in frames.now mark place depth }
 {
-    let mut i = depth;
-    while i > 0 {
-        i -= 1;
+    for i in (0..depth).rev() {
         let f = Frame::load(frames, i);
         let at = f.at;
         let has = f.has;
         if has[mark] != 0 {
-            return between(wide(at[place]), wide(at[place + 1]));
+            return Some(between(wide(at[place]), wide(at[place + 1])));
         }
     }
-    Found {
-        there: false,
-        at: 0,
-        len: 0,
-    }
+    None
 }
 
-fn between(a: usize, b: usize) -> Found
-    ensures { (result.there ≡ true) × (result.at ≡ a) × (result.len ≡ b - a) }
+fn between(a: usize, b: usize) -> Span
+    ensures { result ≡ stretch a b }
 {
-    if b < a {
-        return Found {
-            there: true,
-            at: a,
-            len: 0,
-        };
-    }
-    Found {
-        there: true,
+    Span {
         at: a,
-        len: b - a,
+        len: b.saturating_sub(a),
     }
 }
 

@@ -1,5 +1,5 @@
 -- What the calls answer and change, on every input.
-use Rattle.std.specs.Prelude.{ℕ, ◌+◌, ◌-◌, ◌*◌, ◌<◌, ◌≤◌, ◌≡◌, Bool, ◌&&◌, List, [], ◌∷◌, ◌++◌, eqb, ltb, set}
+use Rattle.std.specs.Prelude.{ℕ, ◌+◌, ◌-◌, ◌*◌, ◌<◌, ◌≤◌, ◌≡◌, Option, Some, None, is_some, unwrap_or, Bool, ◌&&◌, List, [], ◌∷◌, ◌++◌, eqb, ltb, set}
 use Rattle.std.proofs.Math.Path.{refl, sym}
 use Rattle.std.proofs.Common.{ap, ◌∙◌, arith}
 use Rattle.std.proofs.Math.Bool.{true, false}
@@ -7,19 +7,33 @@ use Rattle.std.proofs.lemmas.Bool.{false≢true}
 use Rattle.std.proofs.Math.Dec.{leb}
 use Rattle.std.proofs.Math.ListN.{length}
 use borrow.Author.Tests.{leb-true, leb-false, eq-eqb, ne_eqb, le-leb, lt-leb, lt-ltb, le-ltb}
+use denote.Enum.Bare.{sameb}
+use Rattle.std.specs.Prelude.{not}
 use Rattle.spec.specs.Limits as L
 use Rattle.spec.specs.Limits.{most_open_elements, work_store_bytes, most_labels}
 use Rattle.copy.specs.Copy.{stored_at, Put, then, put-fits, wrote_same}
 use Rattle.state_words.specs.Parts.{TAIL, END, PENDING, COUNT, FRAME}
+use Rattle.state_words.specs.contracts.Kind.{the_type}
 use Rattle.state_words.specs.declared.Kind.{Kind}
 use Rattle.state_words.specs.declared.Kind.TheVariants.{Rdf, NodeElt, PropertyElt, ParseTypeCollectionPropertyElt, ParseTypeLiteralPropertyElt, ParseTypeOtherPropertyElt, Wrapper}
 use Rattle.state_words.specs.declared.Frame.{Frame}
-use Rattle.state_words.specs.Words.{pick, kind_number, no_frame, load_frame, words_of, StoredFrame, StoredRow}
+use Rattle.state_words.specs.Words.{pick, kind_number, kind_eq, no_frame, load_frame, words_of, StoredFrame, StoredRow}
 use Rattle.state.specs.declared.Registers.{Registers}
 use Rattle.state.specs.Meaning.{at, has, count}
 use Rattle.state.specs.Tests.{positive}
-use Rattle.state_stack.specs.declared.Changed.{Changed}
 use Rattle.state_stack.specs.Change.{pushed_to, popped_to, topped_to}
+
+-- ---- what a change answers: the registers behind it, or none
+
+-- where it is none, what is held behind it is what was held before
+pub none_keeps : (c : Option Registers) (r : Registers) → is_some c ≡ false → unwrap_or c r ≡ r
+none_keeps None r h = refl
+none_keeps (Some q) r h = absurd (false≢true (sym h))
+
+-- where there are some, it does not matter what was held before
+pub some_stays : (c : Option Registers) (q r : Registers) → is_some c ≡ true → unwrap_or c q ≡ unwrap_or c r
+some_stays None q r h = absurd (false≢true h)
+some_stays (Some p) q r h = refl
 
 -- ---- push
 
@@ -29,11 +43,11 @@ frame_of k at' has' = record { kind = k; at = at'; has = has' }
 unfoldable pub may_push : Registers → List ℕ → Bool
 may_push r fs = eqb r.counts.inner 0 && (ltb r.counts.depth most_open_elements && leb (r.counts.depth * FRAME + FRAME) (length fs))
 
-pub record Pushes (r : Registers) (fs : List ℕ) (f : Frame) (b : ℕ) (c : Changed) (gs : List ℕ) : Type 0 where
-  pub answer : c.ok ≡ may_push r fs
+pub record Pushes (r : Registers) (fs : List ℕ) (f : Frame) (b : ℕ) (c : Option Registers) (gs : List ℕ) : Type 0 where
+  pub answer : is_some c ≡ may_push r fs
   pub wrote : may_push r fs ≡ true → gs ≡ stored_at fs (r.counts.depth * FRAME) (words_of f)
-  pub moved : may_push r fs ≡ true → c.registers ≡ pushed_to r (at f END) b
-  pub kept : may_push r fs ≡ false → (gs ≡ fs) × (c.registers ≡ r)
+  pub moved : may_push r fs ≡ true → unwrap_or c r ≡ pushed_to r (at f END) b
+  pub kept : may_push r fs ≡ false → (gs ≡ fs) × (unwrap_or c r ≡ r)
   pub same : length gs ≡ length fs
 
 -- ---- pop
@@ -41,10 +55,10 @@ pub record Pushes (r : Registers) (fs : List ℕ) (f : Frame) (b : ℕ) (c : Cha
 unfoldable pub may_pop : Registers → Bool
 may_pop r = eqb r.counts.inner 0 && ltb 0 r.counts.depth
 
-pub record Pops (r : Registers) (fs : List ℕ) (c : Changed) : Type 0 where
-  pub answer : c.ok ≡ may_pop r
-  pub moved : may_pop r ≡ true → c.registers ≡ popped_to r (load_frame fs (r.counts.depth - 1))
-  pub kept : may_pop r ≡ false → c.registers ≡ r
+pub record Pops (r : Registers) (fs : List ℕ) (c : Option Registers) : Type 0 where
+  pub answer : is_some c ≡ may_pop r
+  pub moved : may_pop r ≡ true → unwrap_or c r ≡ popped_to r (load_frame fs (r.counts.depth - 1))
+  pub kept : may_pop r ≡ false → unwrap_or c r ≡ r
 
 -- ---- bind
 
@@ -66,6 +80,17 @@ top_frame r fs = pick (eqb r.counts.depth 0) no_frame (load_frame fs (r.counts.d
 abbrev pub same_kind : Kind → Kind → Bool
 same_kind a b = eqb (kind_number a) (kind_number b)
 
+-- by `==` and by `!=`
+pub is_kind : (a b : Kind) {r t : Bool} → r ≡ sameb the_type a b → r ≡ t → same_kind a b ≡ t
+is_kind a b e h = sym (e ∙ kind_eq a b) ∙ h
+
+pub not_kind : (a b : Kind) {r t : Bool} → r ≡ not (sameb the_type a b) → r ≡ t → same_kind a b ≡ not t
+not_kind a b {r} {t} e h = go (same_kind a b) (sym h ∙ (e ∙ ap not (kind_eq a b)))
+  where
+    go : (q : Bool) → t ≡ not q → q ≡ not t
+    go true x = rw x
+    go false x = rw x
+
 -- the frame with another tail, which ends at `to`
 abbrev pub tail_to : Frame → ℕ → ℕ → Frame
 tail_to f to what = record { kind = f.kind; at = set f.at END to; has = set f.has PENDING what }
@@ -79,29 +104,29 @@ may_tail r fs w from n =
     ltb 0 r.counts.depth
     && (leb r.store.low work_store_bytes && (leb r.store.low (length w) && (leb (from + n) r.store.low && leb ((r.counts.depth - 1) * FRAME + FRAME) (length fs))))
 
-pub record Tails (r : Registers) (fs w : List ℕ) (f : Frame) (from what : ℕ) (s : List ℕ) (c : Changed) (gs v : List ℕ) : Type 0 where
-  pub answer : c.ok ≡ may_tail r fs w from (length s)
+pub record Tails (r : Registers) (fs w : List ℕ) (f : Frame) (from what : ℕ) (s : List ℕ) (c : Option Registers) (gs v : List ℕ) : Type 0 where
+  pub answer : is_some c ≡ may_tail r fs w from (length s)
   pub stored : may_tail r fs w from (length s) ≡ true → gs ≡ stored_at fs ((r.counts.depth - 1) * FRAME) (words_of (tail_to f (from + length s) what))
   pub wrote : may_tail r fs w from (length s) ≡ true → v ≡ stored_at w from s
-  pub moved : may_tail r fs w from (length s) ≡ true → c.registers ≡ topped_to r (from + length s)
-  pub kept : may_tail r fs w from (length s) ≡ false → (gs ≡ fs) × (v ≡ w) × (c.registers ≡ r)
+  pub moved : may_tail r fs w from (length s) ≡ true → unwrap_or c r ≡ topped_to r (from + length s)
+  pub kept : may_tail r fs w from (length s) ≡ false → (gs ≡ fs) × (v ≡ w) × (unwrap_or c r ≡ r)
   pub same_words : length gs ≡ length fs
   pub same_bytes : length v ≡ length w
 
 -- nothing was done
-pub record Nothing (r : Registers) (fs w : List ℕ) (c : Changed) (gs v : List ℕ) : Type 0 where
-  pub ok : c.ok ≡ false
-  pub registers : c.registers ≡ r
+pub record Nothing (r : Registers) (fs w : List ℕ) (c : Option Registers) (gs v : List ℕ) : Type 0 where
+  pub ok : is_some c ≡ false
+  pub registers : unwrap_or c r ≡ r
   pub words : gs ≡ fs
   pub bytes : v ≡ w
 
-pub record Texts (r : Registers) (fs w t : List ℕ) (c : Changed) (gs v : List ℕ) : Type 0 where
+pub record Texts (r : Registers) (fs w t : List ℕ) (c : Option Registers) (gs v : List ℕ) : Type 0 where
   pub tails : same_kind (top_frame r fs).kind PropertyElt ≡ true → Tails r fs w (top_frame r fs) (at (top_frame r fs) TAIL) 3 t c gs v
   pub kept : same_kind (top_frame r fs).kind PropertyElt ≡ false → Nothing r fs w c gs v
 
-pub record Xmls (r : Registers) (fs w t : List ℕ) (c : Changed) (gs v : List ℕ) : Type 0 where
+pub record Xmls (r : Registers) (fs w t : List ℕ) (c : Option Registers) (gs v : List ℕ) : Type 0 where
   pub tails : same_kind (top_frame r fs).kind ParseTypeLiteralPropertyElt ≡ true → Tails r fs w (top_frame r fs) (at (top_frame r fs) END) (has (top_frame r fs) PENDING) t c gs v
-  pub dropped : same_kind (top_frame r fs).kind ParseTypeOtherPropertyElt ≡ true → (c ≡ record { ok = true; registers = r }) × (gs ≡ fs) × (v ≡ w)
+  pub dropped : same_kind (top_frame r fs).kind ParseTypeOtherPropertyElt ≡ true → (c ≡ Some r) × (gs ≡ fs) × (v ≡ w)
   pub kept : same_kind (top_frame r fs).kind ParseTypeLiteralPropertyElt ≡ false → same_kind (top_frame r fs).kind ParseTypeOtherPropertyElt ≡ false → Nothing r fs w c gs v
 
 unfoldable pub may_count : Registers → List ℕ → Bool
@@ -120,25 +145,25 @@ differ : {A : Type 0} {b : Bool} → b ≡ true → b ≡ false → A
 differ p q = absurd (false≢true (sym q ∙ p))
 
 module _ {r : Registers} {fs : List ℕ} {f : Frame} {b : ℕ} where
-  push_refused : {gs : List ℕ} → may_push r fs ≡ false → gs ≡ fs → Pushes r fs f b (record { ok = false; registers = r }) gs
+  push_refused : {gs : List ℕ} → may_push r fs ≡ false → gs ≡ fs → Pushes r fs f b None gs
   push_refused n e = record { answer = sym n; wrote = λ y. differ y n; moved = λ y. differ y n; kept = λ _. (e, refl); same = ap length e }
 
-  pub push_inside : (r.counts.inner ≡ 0 → ⊥) → Pushes r fs f b (record { ok = false; registers = r }) fs
+  pub push_inside : (r.counts.inner ≡ 0 → ⊥) → Pushes r fs f b None fs
   unfolding L.all may_push
   push_inside h = push_refused (rw (ne_eqb r.counts.inner 0 h)) refl
 
-  pub push_deep : r.counts.inner ≡ 0 → 64 ≤ r.counts.depth → Pushes r fs f b (record { ok = false; registers = r }) fs
+  pub push_deep : r.counts.inner ≡ 0 → 64 ≤ r.counts.depth → Pushes r fs f b None fs
   unfolding L.all may_push
   push_deep z h = push_refused (rw (eq-eqb r.counts.inner 0 z, le-ltb r.counts.depth 64 h)) refl
 
   module _ {gs : List ℕ} {q : Bool} (z : r.counts.inner ≡ 0) (d : r.counts.depth < 64) (s : StoredFrame fs r.counts.depth f gs q) where
-    pub push_short : q ≡ false → Pushes r fs f b (record { ok = false; registers = r }) gs
+    pub push_short : q ≡ false → Pushes r fs f b None gs
     unfolding L.all may_push
     push_short n =
         let l : leb (r.counts.depth * FRAME + FRAME) (length fs) ≡ false = sym s.answer ∙ n in
         push_refused (rw (eq-eqb r.counts.inner 0 z, lt-ltb r.counts.depth 64 d, l)) (s.kept (leb-false (r.counts.depth * FRAME + FRAME) (length fs) l))
 
-    pub push_done : q ≡ true → Pushes r fs f b (record { ok = true; registers = pushed_to r (at f END) b }) gs
+    pub push_done : q ≡ true → Pushes r fs f b (Some (pushed_to r (at f END) b)) gs
     unfolding L.all may_push
     push_done y =
         let l : leb (r.counts.depth * FRAME + FRAME) (length fs) ≡ true = sym s.answer ∙ y in
@@ -152,18 +177,18 @@ module _ {r : Registers} {fs : List ℕ} {f : Frame} {b : ℕ} where
         }
 
 module _ {r : Registers} {fs : List ℕ} where
-  pop_refused : may_pop r ≡ false → Pops r fs (record { ok = false; registers = r })
+  pop_refused : may_pop r ≡ false → Pops r fs None
   pop_refused n = record { answer = sym n; moved = λ y. differ y n; kept = λ _. refl }
 
-  pub pop_inside : (r.counts.inner ≡ 0 → ⊥) → Pops r fs (record { ok = false; registers = r })
+  pub pop_inside : (r.counts.inner ≡ 0 → ⊥) → Pops r fs None
   unfolding may_pop
   pop_inside h = pop_refused (rw (ne_eqb r.counts.inner 0 h))
 
-  pub pop_empty : r.counts.inner ≡ 0 → r.counts.depth ≡ 0 → Pops r fs (record { ok = false; registers = r })
+  pub pop_empty : r.counts.inner ≡ 0 → r.counts.depth ≡ 0 → Pops r fs None
   unfolding may_pop
   pop_empty z d = pop_refused (rw (eq-eqb r.counts.inner 0 z, le-ltb 0 r.counts.depth (omega arith)))
 
-  pub pop_done : {f : Frame} → r.counts.inner ≡ 0 → (r.counts.depth ≡ 0 → ⊥) → f ≡ load_frame fs (r.counts.depth - 1) → Pops r fs (record { ok = true; registers = popped_to r f })
+  pub pop_done : {f : Frame} → r.counts.inner ≡ 0 → (r.counts.depth ≡ 0 → ⊥) → f ≡ load_frame fs (r.counts.depth - 1) → Pops r fs (Some (popped_to r f))
   unfolding may_pop
   pop_done {f} z d e =
       let m : may_pop r ≡ true = rw (eq-eqb r.counts.inner 0 z, lt-ltb 0 r.counts.depth (positive r.counts.depth d)) in
@@ -214,7 +239,7 @@ module _ (r : Registers) (fs : List ℕ) where
   top_there z = rw (ne_eqb r.counts.depth 0 z)
 
 module _ {r : Registers} {fs w : List ℕ} {f : Frame} {from what : ℕ} {s : List ℕ} where
-  tail_refused : {gs : List ℕ} → may_tail r fs w from (length s) ≡ false → gs ≡ fs → Tails r fs w f from what s (record { ok = false; registers = r }) gs w
+  tail_refused : {gs : List ℕ} → may_tail r fs w from (length s) ≡ false → gs ≡ fs → Tails r fs w f from what s None gs w
   tail_refused n e =
       record {
         answer = sym n;
@@ -226,34 +251,34 @@ module _ {r : Registers} {fs w : List ℕ} {f : Frame} {from what : ℕ} {s : Li
         same_bytes = refl;
       }
 
-  pub tail_empty : r.counts.depth ≡ 0 → Tails r fs w f from what s (record { ok = false; registers = r }) fs w
+  pub tail_empty : r.counts.depth ≡ 0 → Tails r fs w f from what s None fs w
   unfolding L.all may_tail
   tail_empty z = tail_refused (rw (le-ltb 0 r.counts.depth (omega arith))) refl
 
   module _ (d : r.counts.depth ≡ 0 → ⊥) where
-    pub tail_large : 65_536 < r.store.low → Tails r fs w f from what s (record { ok = false; registers = r }) fs w
+    pub tail_large : 65_536 < r.store.low → Tails r fs w f from what s None fs w
     unfolding L.all may_tail
     tail_large h = tail_refused (rw (lt-ltb 0 r.counts.depth (positive r.counts.depth d), lt-leb r.store.low 65_536 h)) refl
 
     module _ (l : r.store.low ≤ 65_536) where
-      pub tail_beyond : length w < r.store.low → Tails r fs w f from what s (record { ok = false; registers = r }) fs w
+      pub tail_beyond : length w < r.store.low → Tails r fs w f from what s None fs w
       unfolding L.all may_tail
       tail_beyond h = tail_refused (rw (lt-ltb 0 r.counts.depth (positive r.counts.depth d), le-leb r.store.low 65_536 l, lt-leb r.store.low (length w) h)) refl
 
       module _ (m : r.store.low ≤ length w) where
-        pub tail_full : r.store.low < from + length s → Tails r fs w f from what s (record { ok = false; registers = r }) fs w
+        pub tail_full : r.store.low < from + length s → Tails r fs w f from what s None fs w
         unfolding L.all may_tail
         tail_full h = tail_refused (rw (lt-ltb 0 r.counts.depth (positive r.counts.depth d), le-leb r.store.low 65_536 l, le-leb r.store.low (length w) m, lt-leb (from + length s) r.store.low h)) refl
 
         module _ {gs : List ℕ} {q : Bool} (k : from + length s ≤ r.store.low) (t : StoredFrame fs (r.counts.depth - 1) (tail_to f (from + length s) what) gs q) where
-          pub tail_short : q ≡ false → Tails r fs w f from what s (record { ok = false; registers = r }) gs w
+          pub tail_short : q ≡ false → Tails r fs w f from what s None gs w
           unfolding L.all may_tail
           tail_short n =
               let x : leb ((r.counts.depth - 1) * FRAME + FRAME) (length fs) ≡ false = sym t.answer ∙ n in
               tail_refused (rw (lt-ltb 0 r.counts.depth (positive r.counts.depth d), le-leb r.store.low 65_536 l, le-leb r.store.low (length w) m, le-leb (from + length s) r.store.low k, x)) (t.kept (leb-false ((r.counts.depth - 1) * FRAME + FRAME) (length fs) x))
 
           pub tail_done : {v : List ℕ} {z : Bool} {r' : Registers} → q ≡ true → Put w from s v z → r' ≡ topped_to r (from + length s)
-              → Tails r fs w f from what s (record { ok = true; registers = r' }) gs v
+              → Tails r fs w f from what s (Some r') gs v
           unfolding L.all may_tail
           tail_done y i e =
               let x : leb ((r.counts.depth - 1) * FRAME + FRAME) (length fs) ≡ true = sym t.answer ∙ y in
@@ -278,17 +303,17 @@ two_kinds ParseTypeLiteralPropertyElt p q = false≢true q
 two_kinds ParseTypeOtherPropertyElt p q = false≢true p
 two_kinds Wrapper p q = false≢true p
 
-pub nothing : {r : Registers} {fs w : List ℕ} → Nothing r fs w (record { ok = false; registers = r }) fs w
+pub nothing : {r : Registers} {fs w : List ℕ} → Nothing r fs w None fs w
 nothing = record { ok = refl; registers = refl; words = refl; bytes = refl }
 
 module _ {r : Registers} {fs w t : List ℕ} {f : Frame} (e : f ≡ top_frame r fs) where
-  pub text-other : same_kind f.kind PropertyElt ≡ false → Texts r fs w t (record { ok = false; registers = r }) fs w
+  pub text-other : same_kind f.kind PropertyElt ≡ false → Texts r fs w t None fs w
   text-other n = record { tails = λ y. differ (rw (← e) at y) n; kept = λ _. nothing }
 
-  pub text_done : {c : Changed} {gs v : List ℕ} → same_kind f.kind PropertyElt ≡ true → Tails r fs w f (at f TAIL) 3 t c gs v → Texts r fs w t c gs v
+  pub text_done : {c : Option Registers} {gs v : List ℕ} → same_kind f.kind PropertyElt ≡ true → Tails r fs w f (at f TAIL) 3 t c gs v → Texts r fs w t c gs v
   text_done y p = record { tails = λ _. rw (← e) p; kept = λ n. differ y (rw (← e) at n) }
 
-  pub xml_dropped : same_kind f.kind ParseTypeOtherPropertyElt ≡ true → Xmls r fs w t (record { ok = true; registers = r }) fs w
+  pub xml_dropped : same_kind f.kind ParseTypeOtherPropertyElt ≡ true → Xmls r fs w t (Some r) fs w
   xml_dropped y =
       record {
         tails = λ l. absurd (two_kinds f.kind (rw (← e) at l) y);
@@ -296,10 +321,10 @@ module _ {r : Registers} {fs w t : List ℕ} {f : Frame} (e : f ≡ top_frame r 
         kept = λ _ n. differ y (rw (← e) at n);
       }
 
-  pub xml_other : same_kind f.kind ParseTypeOtherPropertyElt ≡ false → same_kind f.kind ParseTypeLiteralPropertyElt ≡ false → Xmls r fs w t (record { ok = false; registers = r }) fs w
+  pub xml_other : same_kind f.kind ParseTypeOtherPropertyElt ≡ false → same_kind f.kind ParseTypeLiteralPropertyElt ≡ false → Xmls r fs w t None fs w
   xml_other n m = record { tails = λ l. differ (rw (← e) at l) m; dropped = λ y. differ (rw (← e) at y) n; kept = λ _ _. nothing }
 
-  pub xml_done : {c : Changed} {gs v : List ℕ} → same_kind f.kind ParseTypeOtherPropertyElt ≡ false → same_kind f.kind ParseTypeLiteralPropertyElt ≡ true → Tails r fs w f (at f END) (has f PENDING) t c gs v → Xmls r fs w t c gs v
+  pub xml_done : {c : Option Registers} {gs v : List ℕ} → same_kind f.kind ParseTypeOtherPropertyElt ≡ false → same_kind f.kind ParseTypeLiteralPropertyElt ≡ true → Tails r fs w f (at f END) (has f PENDING) t c gs v → Xmls r fs w t c gs v
   xml_done n y p = record { tails = λ _. rw (← e) p; dropped = λ z. differ (rw (← e) at z) n; kept = λ z _. differ y (rw (← e) at z) }
 
 module _ {r : Registers} {fs : List ℕ} {f : Frame} (e : f ≡ top_frame r fs) where

@@ -1,6 +1,6 @@
 -- What the calls do to a valid state, said of the document that it means. These are the laws to cite.
 use Prim.Native.Nat.{ℕ, suc, ◌+◌, ◌-◌, ◌*◌, ◌<◌, ◌≤◌}
-use Rattle.std.specs.Prelude.{◌≡◌, refl, Bool, false, List, [], ◌∷◌, ◌++◌, eqb, leb, ltb}
+use Rattle.std.specs.Prelude.{◌≡◌, refl, Option, is_some, unwrap_or, Bool, false, List, [], ◌∷◌, ◌++◌, eqb, leb, ltb}
 use Rattle.std.proofs.Math.Path.{sym, ap}
 use Rattle.std.proofs.Common.{◌∙◌, length-set, get_or-set_same, get_or-set_other, add-one}
 use Rattle.std.proofs.Math.Bool.{true}
@@ -34,7 +34,6 @@ use Rattle.state.specs.Meaning.{at, has, count, first, span, object_of, binding_
 use Rattle.state.specs.Valid.{noted_by, noted_of, parts_ok, chained, kind_ok, empty_or, stands, Rising, Valid, rising, rises_up}
 use Rattle.state.specs.Tests.{positive}
 use Rattle.state.specs.Stay.{chained_on, chained_kept, bindings_kept, stands_kept, below_kept}
-use Rattle.state_stack.specs.declared.Changed.{Changed}
 use Rattle.state_stack.specs.Change.{Holds, On, pushed, popped, top_frame_lem}
 use Rattle.state_stack.specs.Calls.{Pushes, may_push, Pops, may_pop, Binds, may_bind, top_frame, same_kind, tail_to, counted, Tails, may_tail, Texts, Xmls, CountsLi, may_count}
 use Rattle.state_stack.specs.Top.{Alike, alike_property, quiet, node_quiet, property_quiet, literal_quiet, retailed, as_it_was, topped_change, topped-same, topped_flat}
@@ -150,9 +149,9 @@ may_push_lem r fs m =
       room = leb-true _ _ (and_right (ltb r.counts.depth 64) _ m1);
     }
 
-pub push_holds : {r : Registers} {fs bs is w gs cs v : List ℕ} {f : Frame} {b : ℕ} {c : Changed} {bound : List Binding}
-    → Valid r fs bs is w → Pushes r fs f b c gs → c.ok ≡ true → New r fs bs w cs v f b bound
-    → Holds c.registers gs cs is v r.mode (start_of r w) (element_of f bound v (subject_below fs w r.counts.depth) ∷ elements_of r fs bs is w) true r.counts.labels
+pub push_holds : {r : Registers} {fs bs is w gs cs v : List ℕ} {f : Frame} {b : ℕ} {c : Option Registers} {bound : List Binding}
+    → Valid r fs bs is w → Pushes r fs f b c gs → is_some c ≡ true → New r fs bs w cs v f b bound
+    → Holds (unwrap_or c r) gs cs is v r.mode (start_of r w) (element_of f bound v (subject_below fs w r.counts.depth) ∷ elements_of r fs bs is w) true r.counts.labels
 push_holds {r} {fs} {bs} {is} {w} {gs} {cs} {v} {f} {b} {c} {bound} x p y n =
     let m : may_push r fs ≡ true = sym p.answer ∙ y in
     let t = may_push_lem r fs m in
@@ -201,8 +200,8 @@ topmost {r} {fs} {bs} {is} {w} x h =
     let room : (r.counts.depth - 1) * FRAME + FRAME ≤ length fs = omega (arith, x.frame_words, x.deep) in
     record { depth = omega arith; frame = rw (ne_eqb r.counts.depth 0 (λ e. omega arith)) (load_frame_lem fs (r.counts.depth - 1) room); room = room }
 
-pub pop_holds : {r : Registers} {fs bs is w : List ℕ} {c : Changed} → Valid r fs bs is w → Pops r fs c → c.ok ≡ true
-    → Holds c.registers fs bs is w r.mode (start_of r w) (frames_of fs bs w (r.counts.depth - 1) (first (frame_at fs (r.counts.depth - 1)))) r.flags.rooted r.counts.labels
+pub pop_holds : {r : Registers} {fs bs is w : List ℕ} {c : Option Registers} → Valid r fs bs is w → Pops r fs c → is_some c ≡ true
+    → Holds (unwrap_or c r) fs bs is w r.mode (start_of r w) (frames_of fs bs w (r.counts.depth - 1) (first (frame_at fs (r.counts.depth - 1)))) r.flags.rooted r.counts.labels
 pop_holds {r} {fs} {bs} {is} {w} {c} x p y =
     let m : may_pop r ≡ true = sym p.answer ∙ y in
     let k = may_pop_lem r m in
@@ -277,14 +276,14 @@ pub record Fresh (f : Frame) : Type 0 where
   pub places : length f.at ≡ PLACES
   pub marks : length f.has ≡ MARKS
 
-module _ {r : Registers} {fs bs is w s gs v : List ℕ} {from what : ℕ} {c : Changed} (x : Valid r fs bs is w) (h : Value → Value) where
+module _ {r : Registers} {fs bs is w s gs v : List ℕ} {from what : ℕ} {c : Option Registers} (x : Valid r fs bs is w) (h : Value → Value) where
   -- a new tail of the frame on top changes the value of the innermost element outside Literal content
-  pub tail_holds : Tails r fs w (top_frame r fs) from what s c gs v → c.ok ≡ true → at (top_frame r fs) TAIL ≤ from → (q : Kind) → (top_frame r fs).kind ≡ q
+  pub tail_holds : Tails r fs w (top_frame r fs) from what s c gs v → is_some c ≡ true → at (top_frame r fs) TAIL ≤ from → (q : Kind) → (top_frame r fs).kind ≡ q
       → (Fresh (top_frame r fs) → Wrote w v from (from + length s) s → kind_ok q (top_frame r fs) w ≡ true → kind_ok q (tail_to (top_frame r fs) (from + length s) what) v ≡ true)
       → (Fresh (top_frame r fs) → Wrote w v from (from + length s) s → (u : Subject)
       → what_of q (tail_to (top_frame r fs) (from + length s) what) v u ≡ on_value h (what_of q (top_frame r fs) w u))
       → ((f g : Frame) (u : List ℕ) → part_of q g v ≡ part_of q f u) → ((f : Frame) → noted_by q f ≡ 0)
-      → Holds c.registers gs bs is v r.mode (start_of r w) (change_value h (elements_of r fs bs is w)) r.flags.rooted r.counts.labels
+      → Holds (unwrap_or c r) gs bs is v r.mode (start_of r w) (change_value h (elements_of r fs bs is w)) r.flags.rooted r.counts.labels
   tail_holds p y l q z ok eq plain none =
       let m : may_tail r fs w from (length s) ≡ true = sym p.answer ∙ y in
       let t = may_tail_lem r fs w from (length s) m in
@@ -382,8 +381,8 @@ module _ (f : Frame) (w t v : List ℕ) (n : Fresh f) (wr : Wrote w v (at f TAIL
         wrote_part wr,
       )
 
-pub text-holds : {r : Registers} {fs bs is w t gs v : List ℕ} {c : Changed} → Valid r fs bs is w → Texts r fs w t c gs v → c.ok ≡ true
-    → Holds c.registers gs bs is v r.mode (start_of r w) (change_value (takes_text t) (elements_of r fs bs is w)) r.flags.rooted r.counts.labels
+pub text-holds : {r : Registers} {fs bs is w t gs v : List ℕ} {c : Option Registers} → Valid r fs bs is w → Texts r fs w t c gs v → is_some c ≡ true
+    → Holds (unwrap_or c r) gs bs is v r.mode (start_of r w) (change_value (takes_text t) (elements_of r fs bs is w)) r.flags.rooted r.counts.labels
 unfolding part_of
 text-holds {r} {fs} {bs} {is} {w} {t} {gs} {v} {c} x p y =
     by (same_kind (top_frame r fs).kind PropertyElt)
@@ -436,8 +435,8 @@ top_deep r fs h =
     (λ e. absurd (h (rw e)))
     (λ e. positive r.counts.depth (eqb-false r.counts.depth 0 e))
 
-pub xml_holds : {r : Registers} {fs bs is w t gs v : List ℕ} {c : Changed} → Valid r fs bs is w → Xmls r fs w t c gs v → c.ok ≡ true
-    → Holds c.registers gs bs is v r.mode (start_of r w) (change_value (takes_xml t) (elements_of r fs bs is w)) r.flags.rooted r.counts.labels
+pub xml_holds : {r : Registers} {fs bs is w t gs v : List ℕ} {c : Option Registers} → Valid r fs bs is w → Xmls r fs w t c gs v → is_some c ≡ true
+    → Holds (unwrap_or c r) gs bs is v r.mode (start_of r w) (change_value (takes_xml t) (elements_of r fs bs is w)) r.flags.rooted r.counts.labels
 unfolding part_of
 xml_holds {r} {fs} {bs} {is} {w} {t} {gs} {v} {c} x p y =
     by (same_kind (top_frame r fs).kind ParseTypeLiteralPropertyElt)
@@ -462,7 +461,7 @@ xml_holds {r} {fs} {bs} {is} {w} {t} {gs} {v} {c} x p y =
         rw k.frame u.tail
 
     dropped : same_kind (top_frame r fs).kind ParseTypeOtherPropertyElt ≡ true
-        → Holds c.registers gs bs is v r.mode (start_of r w) (change_value (takes_xml t) (elements_of r fs bs is w)) r.flags.rooted r.counts.labels
+        → Holds (unwrap_or c r) gs bs is v r.mode (start_of r w) (change_value (takes_xml t) (elements_of r fs bs is w)) r.flags.rooted r.counts.labels
     dropped o =
         let k = topmost x (top_deep r fs (λ i. false≢true (ap (λ (g : Kind). same_kind g ParseTypeOtherPropertyElt) (sym i) ∙ o))) in
         let n : ℕ = r.counts.depth - 1 in

@@ -1,6 +1,6 @@
 -- What a node that closes does to a valid state, said of the document that it means.
 use Prim.Native.Nat.{ℕ, suc, ◌+◌, ◌-◌, ◌*◌, ◌≤◌}
-use Rattle.std.specs.Prelude.{◌≡◌, Bool, not, List, [], ◌∷◌, ◌++◌, eqb, get_or}
+use Rattle.std.specs.Prelude.{◌≡◌, Option, is_some, unwrap_or, Bool, not, List, [], ◌∷◌, ◌++◌, eqb, get_or}
 use Rattle.std.proofs.Math.Path.{refl, sym, ap}
 use Rattle.std.proofs.Common.{◌∙◌, add-one, add-zero, length-set, get_or-set_same, get_or-set_other}
 use Rattle.std.proofs.Math.Bool.{true, false, false≢true}
@@ -23,9 +23,8 @@ use Rattle.state.specs.declared.Registers.{Registers}
 use Rattle.state.specs.Meaning.{at, has, count, first, span, node_of, object_of, child_size, child_from, child_of, children_of, subject_of, what_of, part_of, element_of, subject_below, frames_of, inners_of, start_of, elements_of}
 use Rattle.state.specs.Valid.{noted_of, empty_or, children_ok, kind_ok, Rising, Valid, rising}
 use Rattle.state.specs.Stay.{children_on, children_ok_kept, children_kept, collected, collected_ok}
-use Rattle.state_stack.specs.declared.Changed.{Changed}
 use Rattle.state_stack.specs.Change.{Holds, popped_to, popped, top_frame_lem, top_element}
-use Rattle.state_stack.specs.Calls.{top_frame, same_kind, may_pop}
+use Rattle.state_stack.specs.Calls.{some_stays, top_frame, same_kind, may_pop}
 use Rattle.state_stack.specs.Top.{Alike, alike_property, quiet, property_quiet, collection_quiet, retailed, as_it_was, topped_change, topped-same}
 use Rattle.state_stack.specs.Laws.{Fresh, by, is_property_lem, is_node_lem, may_pop_lem, top_deep, topmost, tail_alike, tail_end, tail_what, length_at, length_has, stored_frame, front_of_lem, back_of_lem}
 use Rattle.state_stack.specs.declared.nodes.Child.{Child}
@@ -196,13 +195,13 @@ collection_ordinary : {k : Kind} → k ≡ ParseTypeCollectionPropertyElt → (f
 unfolding part_of
 collection_ordinary e f g w v = rw e
 
-module _ {r : Registers} {fs bs is w gs v : List ℕ} {n : Frame} {c : Changed} (x : Valid r fs bs is w) (flat : r.counts.inner ≡ 0) (t : TakesNode r fs w n c gs v) (y : c.ok ≡ true) where
+module _ {r : Registers} {fs bs is w gs v : List ℕ} {n : Frame} {c : Option Registers} (x : Valid r fs bs is w) (flat : r.counts.inner ≡ 0) (t : TakesNode r fs w n c gs v) (y : is_some c ≡ true) where
   -- a frame stored on top, with bytes moved down
   stored_holds : (m : ℕ) (d : r.counts.depth ≡ suc m) {g : Frame} {to end : ℕ} {s : List ℕ} → Alike (frame_at fs m) g → m * FRAME + FRAME ≤ length fs → Taken r fs w g to end s c gs v → at g END ≡ end
       → at (frame_at fs m) TAIL ≤ to → at (frame_at fs m) TAIL ≤ end → end ≤ r.store.low → kind_ok (frame_at fs m).kind g v ≡ true
       → ((u : Subject) → what_of (frame_at fs m).kind g v u ≡ on_value (takes_node (subject_of n w)) (what_of (frame_at fs m).kind (frame_at fs m) w u))
       → part_of (frame_at fs m).kind g v ≡ part_of (frame_at fs m).kind (frame_at fs m) w → noted_of g ≡ noted_of (frame_at fs m)
-      → Holds c.registers gs bs is v r.mode (start_of r w) (change_value (takes_node (subject_of n w)) (elements_of r fs bs is w)) r.flags.rooted r.counts.labels
+      → Holds (unwrap_or c r) gs bs is v r.mode (start_of r w) (change_value (takes_node (subject_of n w)) (elements_of r fs bs is w)) r.flags.rooted r.counts.labels
   stored_holds m d {g} {to} {end} {s} al room k e l l' b kd wt pt nt =
       let st : StoredFrame fs m g gs true =
       stored_frame m room al.places al.marks (k.stored ∙ ap (λ (i : ℕ). stored_at fs (i * FRAME) (words_of g)) (omega (arith, d))) in
@@ -210,7 +209,7 @@ module _ {r : Registers} {fs bs is w gs v : List ℕ} {n : Frame} {c : Changed} 
       rw (k.moved, ← e, ← topped_change x m d (takes_node (subject_of n w))) res
 
   object-holds : same_kind (top_frame r fs).kind PropertyElt ≡ true
-      → Holds c.registers gs bs is v r.mode (start_of r w) (change_value (takes_node (subject_of n w)) (elements_of r fs bs is w)) r.flags.rooted r.counts.labels
+      → Holds (unwrap_or c r) gs bs is v r.mode (start_of r w) (change_value (takes_node (subject_of n w)) (elements_of r fs bs is w)) r.flags.rooted r.counts.labels
   object-holds o =
       let k = topmost x (top_deep r fs (λ i. false≢true (ap (λ (g : Kind). same_kind g PropertyElt) (sym i) ∙ o))) in
       let m : ℕ = r.counts.depth - 1 in
@@ -238,7 +237,7 @@ module _ {r : Registers} {fs bs is w gs v : List ℕ} {n : Frame} {c : Changed} 
       (λ h. absurd (false≢true (sym (ob.kept h).ok ∙ y)))
 
   child-holds : same_kind (top_frame r fs).kind PropertyElt ≡ false → same_kind (top_frame r fs).kind ParseTypeCollectionPropertyElt ≡ true
-      → Holds c.registers gs bs is v r.mode (start_of r w) (change_value (takes_node (subject_of n w)) (elements_of r fs bs is w)) r.flags.rooted r.counts.labels
+      → Holds (unwrap_or c r) gs bs is v r.mode (start_of r w) (change_value (takes_node (subject_of n w)) (elements_of r fs bs is w)) r.flags.rooted r.counts.labels
   unfolding L.all may_child
   child-holds p o =
       let k = topmost x (top_deep r fs (λ i. false≢true (ap (λ (g : Kind). same_kind g ParseTypeCollectionPropertyElt) (sym i) ∙ o))) in
@@ -268,7 +267,7 @@ module _ {r : Registers} {fs bs is w gs v : List ℕ} {n : Frame} {c : Changed} 
       (λ h. absurd (false≢true (sym (ch.kept h).ok ∙ y)))
 
   none_holds : same_kind (top_frame r fs).kind PropertyElt ≡ false → same_kind (top_frame r fs).kind ParseTypeCollectionPropertyElt ≡ false
-      → Holds c.registers gs bs is v r.mode (start_of r w) (change_value (takes_node (subject_of n w)) (elements_of r fs bs is w)) r.flags.rooted r.counts.labels
+      → Holds (unwrap_or c r) gs bs is v r.mode (start_of r w) (change_value (takes_node (subject_of n w)) (elements_of r fs bs is w)) r.flags.rooted r.counts.labels
   unfolding change_value
   none_holds p o =
       let q = t.none p o in
@@ -283,7 +282,7 @@ module _ {r : Registers} {fs bs is w gs v : List ℕ} {n : Frame} {c : Changed} 
       (node_stays (frame_at fs m).kind (frame_at fs m) w (subject_of n w) (subject_below fs w m) (rw k.frame at p) (rw k.frame at o))) in
       rw (q.0, q.1, q.2, same) (record { valid = x; chosen = refl; base = refl; elements = refl; root = refl; count = refl })
 
-  taken-holds : Holds c.registers gs bs is v r.mode (start_of r w) (change_value (takes_node (subject_of n w)) (elements_of r fs bs is w)) r.flags.rooted r.counts.labels
+  taken-holds : Holds (unwrap_or c r) gs bs is v r.mode (start_of r w) (change_value (takes_node (subject_of n w)) (elements_of r fs bs is w)) r.flags.rooted r.counts.labels
   taken-holds =
       by (same_kind (top_frame r fs).kind PropertyElt)
       object-holds
@@ -327,8 +326,8 @@ flat_top : (r : Registers) (fs bs is w : List ℕ) → r.counts.inner ≡ 0 → 
 unfolding elements_of inners_of
 flat_top r fs bs is w z = rw z
 
-pub close-holds : {r : Registers} {fs bs is w gs v : List ℕ} {c : Changed} → Valid r fs bs is w → ClosesNode r fs w c gs v → c.ok ≡ true
-    → Holds c.registers gs bs is v r.mode (start_of r w) (closed_node (elements_of r fs bs is w)) r.flags.rooted r.counts.labels
+pub close-holds : {r : Registers} {fs bs is w gs v : List ℕ} {c : Option Registers} → Valid r fs bs is w → ClosesNode r fs w c gs v → is_some c ≡ true
+    → Holds (unwrap_or c r) gs bs is v r.mode (start_of r w) (closed_node (elements_of r fs bs is w)) r.flags.rooted r.counts.labels
 close-holds {r} {fs} {bs} {is} {w} {gs} {v} {c} x p y =
     let m : may_close r fs w ≡ true = sym p.answer ∙ y in
     let ca = closable r fs w m in
@@ -343,7 +342,7 @@ close-holds {r} {fs} {bs} {is} {w} {gs} {v} {c} x p y =
     let res = taken-holds h.valid k.0 t y in
     let es : closed_node (elements_of r fs bs is w) ≡ change_value (takes_node (subject_of n w)) (frames_of fs bs w i (first n)) =
     ap closed_node (flat_top r fs bs is w k.0 ∙ top_element x i tm.depth) ∙ closed_top n w (subject_below fs w i) _ (frames_of fs bs w i (first n)) kind in
-    rw (es, ← h.elements, ← h.base) res
+    rw (es, ← h.elements, ← h.base, some_stays c r (popped_to r n) y) res
 
 -- ---- a child that is read
 

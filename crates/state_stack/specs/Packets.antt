@@ -2,8 +2,9 @@
 use Prim.Native.Nat.{ℕ, zero, suc, ◌+◌, ◌-◌, ◌*◌, ◌<◌, ◌≤◌}
 use Rattle.std.proofs.Math.Path.{◌≡◌, refl, sym, ap}
 use Rattle.std.proofs.Common.{◌∙◌, arith, length-set, get_or-set_same}
-use Rattle.std.specs.Prelude.{Bool, ◌&&◌, List, [], ◌∷◌, eqb, ltb, set}
+use Rattle.std.specs.Prelude.{is_some, unwrap_or, Bool, ◌&&◌, List, [], ◌∷◌, eqb, ltb, set}
 use Rattle.std.proofs.Math.Bool.{true, false, false≢true}
+use Rattle.std.specs.declared.option.Option as std
 use Rattle.std.proofs.Math.Option.{Option, none, some}
 use Rattle.std.proofs.Math.Dec.{leb}
 use Rattle.std.proofs.Math.ListN.{length}
@@ -29,7 +30,6 @@ use Rattle.state.specs.Valid.{noted_by, noted_of, noted_in, kind_ok, node_below,
 use Rattle.state.specs.Tests.{positive}
 use Rattle.state.specs.Stay.{span_kept}
 use Rattle.state.specs.Held as Held
-use Rattle.state_stack.specs.declared.Changed.{Changed}
 use Rattle.state_stack.specs.Change.{Holds, noting_to, top_frame_lem, under, top_element}
 use Rattle.state_stack.specs.Calls.{top_frame, same_kind, tail_to, may_tail, Tails, CountsLi}
 use Rattle.state_stack.specs.Top.{Alike, topped, renoted, retailed, topped_flat}
@@ -341,9 +341,9 @@ module _ {r : Registers} {fs bs is w gs : List ℕ} {c : Bool} (x : Valid r fs b
 
 -- the tail of frame f holds text a, which is noted
 pub record NotesTail (r : Registers) (fs w : List ℕ) (f : Frame) (a : List ℕ) (q : Registers) (gs v : List ℕ) : Type 0 where
-  pub changed : Changed
+  pub changed : std.Option Registers
   pub tails : Tails r fs w f (at f TAIL) 2 a changed gs v
-  pub done : changed.ok ≡ true → q ≡ noting_to r (at f TAIL + length a) (length a)
+  pub done : is_some changed ≡ true → q ≡ noting_to r (at f TAIL + length a) (length a)
 
 pub record NotesAbout (r : Registers) (fs w a : List ℕ) (q : Registers) (gs v : List ℕ) : Type 0 where
   pub flags : q.flags ≡ r.flags
@@ -354,13 +354,13 @@ pub record NotesAbout (r : Registers) (fs w a : List ℕ) (q : Registers) (gs v 
   pub same_bytes : length v ≡ length w
 
 -- its registers
-noted_tail : {r q : Registers} {fs w : List ℕ} {f : Frame} {from what : ℕ} {a : List ℕ} {c : Changed} {gs v : List ℕ} {n : ℕ} → Tails r fs w f from what a c gs v
-    → q ≡ noting_to c.registers c.registers.store.top n → c.ok ≡ true → q ≡ noting_to r (from + length a) n
+noted_tail : {r q : Registers} {fs w : List ℕ} {f : Frame} {from what : ℕ} {a : List ℕ} {c : std.Option Registers} {gs v : List ℕ} {n : ℕ} → Tails r fs w f from what a c gs v
+    → q ≡ noting_to (unwrap_or c r) (unwrap_or c r).store.top n → is_some c ≡ true → q ≡ noting_to r (from + length a) n
 noted_tail {n = n} t e y = e ∙ ap (λ (g : Registers). noting_to g g.store.top n) (t.moved (sym t.answer ∙ y))
 
 -- a tail leaves flags and counts
-tail_others : {r : Registers} {fs w : List ℕ} {f : Frame} {from what : ℕ} {a : List ℕ} {c : Changed} {gs v : List ℕ} → Tails r fs w f from what a c gs v
-    → (c.registers.flags ≡ r.flags) × (c.registers.counts ≡ r.counts)
+tail_others : {r : Registers} {fs w : List ℕ} {f : Frame} {from what : ℕ} {a : List ℕ} {c : std.Option Registers} {gs v : List ℕ} → Tails r fs w f from what a c gs v
+    → ((unwrap_or c r).flags ≡ r.flags) × ((unwrap_or c r).counts ≡ r.counts)
 tail_others {r} {fs} {w} {f} {from} {what} {a} t =
     by (may_tail r fs w from (length a))
     (λ y. let e = t.moved y in (ap (λ (g : Registers). g.flags) e, ap (λ (g : Registers). g.counts) e))
@@ -378,8 +378,8 @@ module _ {r : Registers} {fs w a : List ℕ} {f : Frame} (e : f ≡ top_frame r 
   unfolding awaits
   rdf-noted y n = about_not (rw (y, ne_eqb (has f PART) 1 n))
 
-  pub about-noted : {c : Changed} {g : Registers} {gs v : List ℕ} → same_kind f.kind Rdf ≡ true → has f PART ≡ 1
-      → Tails r fs w f (at f TAIL) 2 a c gs v → g ≡ noting_to c.registers c.registers.store.top (length a) → NotesAbout r fs w a g gs v
+  pub about-noted : {c : std.Option Registers} {g : Registers} {gs v : List ℕ} → same_kind f.kind Rdf ≡ true → has f PART ≡ 1
+      → Tails r fs w f (at f TAIL) 2 a c gs v → g ≡ noting_to (unwrap_or c r) (unwrap_or c r).store.top (length a) → NotesAbout r fs w a g gs v
   unfolding awaits
   about-noted {c} y q t d =
       let n : awaits Rdf f ≡ true = rw (y, eq-eqb (has f PART) 1 q) in

@@ -1,24 +1,23 @@
 -- What the calls answer and change.
-use Rattle.std.specs.Prelude.{ℕ, ◌+◌, ◌-◌, ◌*◌, ◌/◌, ◌%◌, ◌<◌, ◌≤◌, ◌≡◌, ◌&&◌, not, List, [], ◌∷◌, ◌++◌, eqb, leb, ltb, length, get_or, set, drop}
+use Rattle.std.specs.Prelude.{Option, Some, None, is_some, unwrap_or, ℕ, ◌+◌, ◌-◌, ◌*◌, ◌/◌, ◌%◌, ◌<◌, ◌≤◌, ◌≡◌, ◌&&◌, not, List, [], ◌∷◌, ◌++◌, eqb, leb, ltb, length, get_or, set}
 use Rattle.std.proofs.Math.Path.{refl, sym}
-use Rattle.std.proofs.Common.{ap, ◌∙◌, arith, get_or-drop}
+use Rattle.std.proofs.Common.{append_assoc, ◌∙◌, arith}
 use Rattle.std.proofs.Math.Bool.{Bool, true, false}
 use Rattle.std.proofs.lemmas.Bool.{false≢true}
-use Rattle.std.proofs.lemmas.List.Edits.{drop-paste}
 use borrow.Author.Tests.{leb-true, ltb-true, eq-eqb, ne_eqb, lt-ltb, le-ltb, lt-leb, le-leb}
+use Rattle.std.specs.List.{copy_within}
 use Rattle.spec.specs.Limits as L
 use Rattle.spec.specs.Limits.{work_store_bytes}
 use Rattle.spec.proofs.Booleans.{and_left, and_right}
-use Rattle.copy.specs.Copy.{part, stored_at, Put, Copied, copied-begins, copied_more, copied_done, length_part, get_d_part, put-fits, wrote_same, Wrote, then}
+use Rattle.copy.specs.Copy.{part, stored_at, Put, length_part, put-fits, wrote_same, Wrote, then}
 use Rattle.state_words.specs.Parts.{MAIN, ID, TAIL, END, BLANK, PENDING, COUNT, FRAME}
 use Rattle.state_words.specs.declared.Kind.TheVariants.{NodeElt, PropertyElt, ParseTypeCollectionPropertyElt}
 use Rattle.state_words.specs.declared.Frame.{Frame}
 use Rattle.state_words.specs.Words.{pick, words_of, load_frame, StoredFrame}
 use Rattle.state.specs.declared.Registers.{Registers}
 use Rattle.state.specs.Meaning.{at, has, count}
-use Rattle.state_stack.specs.declared.Changed.{Changed}
 use Rattle.state_stack.specs.Change.{topped_to, popped_to}
-use Rattle.state_stack.specs.Calls.{top_frame, same_kind, tail_to, Pops, may_pop}
+use Rattle.state_stack.specs.Calls.{none_keeps, top_frame, same_kind, tail_to, Pops, may_pop}
 use Rattle.state_stack.specs.declared.nodes.Child.{Child}
 
 unfoldable pub may_take : Registers → ℕ → ℕ → ℕ → ℕ → ℕ → Bool
@@ -45,20 +44,20 @@ abbrev pub mark_of : ℕ → ℕ → List ℕ
 mark_of len blank = len % 256 ∷ len / 256 ∷ blank_byte blank ∷ 0 ∷ []
 
 -- nothing was done
-pub record Kept (r : Registers) (fs w : List ℕ) (c : Changed) (gs v : List ℕ) : Type 0 where
-  pub ok : c.ok ≡ false
-  pub registers : c.registers ≡ r
+pub record Kept (r : Registers) (fs w : List ℕ) (c : Option Registers) (gs v : List ℕ) : Type 0 where
+  pub ok : is_some c ≡ false
+  pub registers : unwrap_or c r ≡ r
   pub words : gs ≡ fs
   pub bytes : v ≡ w
 
 -- frame g is stored on top, s moved down to `to`, and what is held ends at `end`
-pub record Taken (r : Registers) (fs w : List ℕ) (g : Frame) (to end : ℕ) (s : List ℕ) (c : Changed) (gs v : List ℕ) : Type 0 where
-  pub ok : c.ok ≡ true
+pub record Taken (r : Registers) (fs w : List ℕ) (g : Frame) (to end : ℕ) (s : List ℕ) (c : Option Registers) (gs v : List ℕ) : Type 0 where
+  pub ok : is_some c ≡ true
   pub stored : gs ≡ stored_at fs ((r.counts.depth - 1) * FRAME) (words_of g)
   pub wrote : Wrote w v to end s
-  pub moved : c.registers ≡ topped_to r end
+  pub moved : unwrap_or c r ≡ topped_to r end
 
-pub record TakesObject (r : Registers) (fs w : List ℕ) (f n : Frame) (c : Changed) (gs v : List ℕ) : Type 0 where
+pub record TakesObject (r : Registers) (fs w : List ℕ) (f n : Frame) (c : Option Registers) (gs v : List ℕ) : Type 0 where
   pub takes : may_take r (length fs) (at n MAIN) (at f TAIL) (main_size n) (at f TAIL + main_size n) ≡ true
       → Taken r fs w (object_frame f n) (at f TAIL) (at f TAIL + main_size n) (part w (at n MAIN) (main_size n)) c gs v
   pub kept : may_take r (length fs) (at n MAIN) (at f TAIL) (main_size n) (at f TAIL + main_size n) ≡ false → Kept r fs w c gs v
@@ -67,7 +66,7 @@ pub record TakesObject (r : Registers) (fs w : List ℕ) (f n : Frame) (c : Chan
 unfoldable pub may_child : Registers → ℕ → Frame → Frame → Bool
 may_child r words f n = may_take r words (at n MAIN) (at f END) (main_size n) (at f END + main_size n + 4) && ltb (count f) work_store_bytes
 
-pub record TakesChild (r : Registers) (fs w : List ℕ) (f n : Frame) (c : Changed) (gs v : List ℕ) : Type 0 where
+pub record TakesChild (r : Registers) (fs w : List ℕ) (f n : Frame) (c : Option Registers) (gs v : List ℕ) : Type 0 where
   pub takes : may_child r (length fs) f n ≡ true
       → Taken r fs w (child_frame f n) (at f END) (at f END + main_size n + 4) (part w (at n MAIN) (main_size n) ++ mark_of (main_size n) (has n BLANK)) c gs v
   pub kept : may_child r (length fs) f n ≡ false → Kept r fs w c gs v
@@ -78,13 +77,13 @@ may_take_node r words f n =
     pick (same_kind f.kind PropertyElt) (may_take r words (at n MAIN) (at f TAIL) (main_size n) (at f TAIL + main_size n))
     (pick (same_kind f.kind ParseTypeCollectionPropertyElt) (may_child r words f n) true)
 
-pub record TakesNode (r : Registers) (fs w : List ℕ) (n : Frame) (c : Changed) (gs v : List ℕ) : Type 0 where
-  pub answer : c.ok ≡ may_take_node r (length fs) (top_frame r fs) n
+pub record TakesNode (r : Registers) (fs w : List ℕ) (n : Frame) (c : Option Registers) (gs v : List ℕ) : Type 0 where
+  pub answer : is_some c ≡ may_take_node r (length fs) (top_frame r fs) n
   pub object : same_kind (top_frame r fs).kind PropertyElt ≡ true → TakesObject r fs w (top_frame r fs) n c gs v
   pub child : same_kind (top_frame r fs).kind PropertyElt ≡ false → same_kind (top_frame r fs).kind ParseTypeCollectionPropertyElt ≡ true → TakesChild r fs w (top_frame r fs) n c gs v
   pub none : same_kind (top_frame r fs).kind PropertyElt ≡ false → same_kind (top_frame r fs).kind ParseTypeCollectionPropertyElt ≡ false
-      → (c.registers ≡ r) × (gs ≡ fs) × (v ≡ w)
-  pub kept : c.ok ≡ false → Kept r fs w c gs v
+      → (unwrap_or c r ≡ r) × (gs ≡ fs) × (v ≡ w)
+  pub kept : is_some c ≡ false → Kept r fs w c gs v
 
 -- without the node on top
 abbrev pub without : Registers → List ℕ → Registers
@@ -96,8 +95,8 @@ may_close r fs w =
     && (same_kind (top_frame r fs).kind NodeElt
     && (may_pop r && may_take_node (without r fs) (length fs) (top_frame (without r fs) fs) (top_frame r fs)))
 
-pub record ClosesNode (r : Registers) (fs w : List ℕ) (c : Changed) (gs v : List ℕ) : Type 0 where
-  pub answer : c.ok ≡ may_close r fs w
+pub record ClosesNode (r : Registers) (fs w : List ℕ) (c : Option Registers) (gs v : List ℕ) : Type 0 where
+  pub answer : is_some c ≡ may_close r fs w
   pub takes : may_close r fs w ≡ true → TakesNode (without r fs) fs w (top_frame r fs) c gs v
   pub kept : may_close r fs w ≡ false → Kept r fs w c gs v
 
@@ -108,38 +107,11 @@ child_in w e =
     (record { at = e - 4 - (get_or w (e - 4) 0 + 256 * get_or w (e - 3) 0); len = get_or w (e - 4) 0 + 256 * get_or w (e - 3) 0; blank = not (eqb (get_or w (e - 2) 0) 0) })
     (record { at = 0; len = 0; blank = false })
 
--- ---- the loop of `shift`
+-- ---- bytes that move down
 
-pub record Shifted (w : List ℕ) (from to n : ℕ) (e : List ℕ) (i : ℕ) : Type 0 where
-  pub down : to ≤ from
-  pub fits : from + n ≤ length w
-  pub copied : Copied w to (part w from n) e i
-
-pub shifted_begins : {w : List ℕ} {from to n : ℕ} → to ≤ from → from + n ≤ length w → Shifted w from to n w 0
-shifted_begins {w} {from} {to} {n} d f = record { down = d; fits = f; copied = copied-begins (omega (arith, length_part w from n f)) }
-
-pub shifted_upto : {w : List ℕ} {from to n : ℕ} {e : List ℕ} {i : ℕ} → Shifted w from to n e i → (i ≤ n) × (length e ≡ length w)
-shifted_upto {w} {from} {to} {n} h = (omega (arith, h.copied.upto, length_part w from n h.fits), h.copied.same)
-
-module _ {w : List ℕ} {from to n : ℕ} {e : List ℕ} {i : ℕ} (h : Shifted w from to n e i) (b : i < n) where
-  same_there : get_or e (from + i) 0 ≡ get_or (part w from n) i 0
-  same_there =
-      let l = length_part w from n h.fits in
-      let d = h.down in
-      let f = h.fits in
-      let q : from + i ≡ to + i + (from - to) = omega arith in
-      let r : drop (to + i) e ≡ drop (to + i) w = rw h.copied.eq (drop-paste w to (part w from n) i (omega arith) (omega arith)) in
-      rw (get_d_part w from n i b, q) (sym (get_or-drop (to + i) e (from - to) 0) ∙ (ap (λ (x : List ℕ). get_or x (from - to) 0) r ∙ get_or-drop (to + i) w (from - to) 0))
-
-  pub shifted_more : Shifted w from to n (set e (to + i) (get_or e (from + i) 0)) (i + 1)
-  shifted_more =
-      let l = length_part w from n h.fits in
-      record { down = h.down; fits = h.fits; copied = rw same_there (copied_more h.copied (omega arith)) }
-
-pub shifted_done : {w : List ℕ} {from to n : ℕ} {e : List ℕ} {i : ℕ} → Shifted w from to n e i → n ≤ i → e ≡ stored_at w to (part w from n)
-shifted_done {w} {from} {to} {n} {e} {i} h b =
-    let l = length_part w from n h.fits in
-    (copied_done h.copied (omega arith)).wrote h.copied.fits
+pub moved_down : (w : List ℕ) (from n to : ℕ) → from + n ≤ length w → copy_within w from (from + n) to ≡ stored_at w to (part w from n)
+unfolding stored_at part
+moved_down w from n to h = let e : from + n - from ≡ n = omega arith in rw (e, length_part w from n h, append_assoc)
 
 -- ---- how the calls come to their answers
 
@@ -176,16 +148,16 @@ by false f g = g refl
 differ : {A : Type 0} {b : Bool} → b ≡ true → b ≡ false → A
 differ p q = absurd (false≢true (sym q ∙ p))
 
-pub kept_whole : {r : Registers} {fs w : List ℕ} → Kept r fs w (record { ok = false; registers = r }) fs w
+pub kept_whole : {r : Registers} {fs w : List ℕ} → Kept r fs w None fs w
 kept_whole = record { ok = refl; registers = refl; words = refl; bytes = refl }
 
 module _ {r : Registers} {fs w : List ℕ} {f n : Frame} where
-  pub object-refused : may_take r (length fs) (at n MAIN) (at f TAIL) (main_size n) (at f TAIL + main_size n) ≡ false → TakesObject r fs w f n (record { ok = false; registers = r }) fs w
+  pub object-refused : may_take r (length fs) (at n MAIN) (at f TAIL) (main_size n) (at f TAIL + main_size n) ≡ false → TakesObject r fs w f n None fs w
   object-refused h = record { takes = λ y. differ y h; kept = λ _. kept_whole }
 
   pub object_done : {gs v : List ℕ} {q : Bool} {r' : Registers} → length w ≡ 65_536 → may_take r (length fs) (at n MAIN) (at f TAIL) (main_size n) (at f TAIL + main_size n) ≡ true
       → StoredFrame fs (r.counts.depth - 1) (object_frame f n) gs q → v ≡ stored_at w (at f TAIL) (part w (at n MAIN) (main_size n)) → r' ≡ topped_to r (at f TAIL + main_size n)
-      → TakesObject r fs w f n (record { ok = true; registers = r' }) gs v
+      → TakesObject r fs w f n (Some r') gs v
   object_done {gs} {v} {q} l m s e k =
       let t = movable r (length fs) (at n MAIN) (at f TAIL) (main_size n) (at f TAIL + main_size n) m in
       let d = t.down in
@@ -196,22 +168,22 @@ module _ {r : Registers} {fs w : List ℕ} {f n : Frame} where
         kept = λ h. differ m h;
       }
 
-  child-refused : may_child r (length fs) f n ≡ false → TakesChild r fs w f n (record { ok = false; registers = r }) fs w
+  child-refused : may_child r (length fs) f n ≡ false → TakesChild r fs w f n None fs w
   child-refused h = record { takes = λ y. differ y h; kept = λ _. kept_whole }
 
-  pub child_no_room : may_take r (length fs) (at n MAIN) (at f END) (main_size n) (at f END + main_size n + 4) ≡ false → TakesChild r fs w f n (record { ok = false; registers = r }) fs w
+  pub child_no_room : may_take r (length fs) (at n MAIN) (at f END) (main_size n) (at f END + main_size n + 4) ≡ false → TakesChild r fs w f n None fs w
   unfolding L.all may_child
   child_no_room h = child-refused (rw h)
 
   module _ (m : may_take r (length fs) (at n MAIN) (at f END) (main_size n) (at f END + main_size n + 4) ≡ true) where
-    pub child_too_many : 65_536 ≤ count f → TakesChild r fs w f n (record { ok = false; registers = r }) fs w
+    pub child_too_many : 65_536 ≤ count f → TakesChild r fs w f n None fs w
     unfolding L.all may_child
     child_too_many h = child-refused (rw (m, le-ltb (count f) 65_536 h))
 
     pub child_done : {gs u v : List ℕ} {q y : Bool} {r' : Registers} → length w ≡ 65_536 → count f < 65_536
         → StoredFrame fs (r.counts.depth - 1) (child_frame f n) gs q → u ≡ stored_at w (at f END) (part w (at n MAIN) (main_size n))
         → Put u (at f END + main_size n) (mark_of (main_size n) (has n BLANK)) v y → r' ≡ topped_to r (at f END + main_size n + 4)
-        → TakesChild r fs w f n (record { ok = true; registers = r' }) gs v
+        → TakesChild r fs w f n (Some r') gs v
     unfolding L.all may_child
     child_done {gs} {u} {v} {q} l c s e p k =
         let t = movable r (length fs) (at n MAIN) (at f END) (main_size n) (at f END + main_size n + 4) m in
@@ -232,31 +204,31 @@ module _ {r : Registers} {fs w : List ℕ} {f n : Frame} where
 -- ---- the same of the code's own numbers
 
 module _ {r : Registers} {fs w : List ℕ} {f n : Frame} {from to len : ℕ} (a : from ≡ at n MAIN) (l : len ≡ main_size n) where
-  pub object_none : to ≡ at f TAIL → may_take r (length fs) from to len (to + len) ≡ false → TakesObject r fs w f n (record { ok = false; registers = r }) fs w
+  pub object_none : to ≡ at f TAIL → may_take r (length fs) from to len (to + len) ≡ false → TakesObject r fs w f n None fs w
   object_none b h = object-refused (rw (a, b, l) at h)
 
   pub object-made : {gs v : List ℕ} {q : Bool} {r' : Registers} {word : ℕ} → to ≡ at f TAIL → word ≡ object_word (has n BLANK) → length w ≡ 65_536 → may_take r (length fs) from to len (to + len) ≡ true
       → StoredFrame fs (r.counts.depth - 1) (record { kind = f.kind; at = set f.at END (to + len); has = set f.has PENDING word }) gs q
-      → v ≡ stored_at w to (part w from len) → r' ≡ topped_to r (to + len) → TakesObject r fs w f n (record { ok = true; registers = r' }) gs v
+      → v ≡ stored_at w to (part w from len) → r' ≡ topped_to r (to + len) → TakesObject r fs w f n (Some r') gs v
   object-made b o z m s e k = object_done z (rw (a, b, l) at m) (rw (b, l, o) at s) (rw (a, b, l) at e) (rw (b, l) at k)
 
-  pub child_none : to ≡ at f END → may_take r (length fs) from to len (to + len + 4) ≡ false → TakesChild r fs w f n (record { ok = false; registers = r }) fs w
+  pub child_none : to ≡ at f END → may_take r (length fs) from to len (to + len + 4) ≡ false → TakesChild r fs w f n None fs w
   child_none b h = child_no_room (rw (a, b, l) at h)
 
-  pub child-many : to ≡ at f END → may_take r (length fs) from to len (to + len + 4) ≡ true → 65_536 ≤ count f → TakesChild r fs w f n (record { ok = false; registers = r }) fs w
+  pub child-many : to ≡ at f END → may_take r (length fs) from to len (to + len + 4) ≡ true → 65_536 ≤ count f → TakesChild r fs w f n None fs w
   child-many b m h = child_too_many (rw (a, b, l) at m) h
 
   pub child-made : {gs u v : List ℕ} {q y : Bool} {r' : Registers} {word : ℕ} → to ≡ at f END → word ≡ blank_byte (has n BLANK) → length w ≡ 65_536 → may_take r (length fs) from to len (to + len + 4) ≡ true
       → count f < 65_536
       → StoredFrame fs (r.counts.depth - 1) (record { kind = f.kind; at = set f.at END (to + len + 4); has = set f.has COUNT (count f + 1) }) gs q
       → u ≡ stored_at w to (part w from len) → Put u (to + len) (len % 256 ∷ len / 256 ∷ word ∷ 0 ∷ []) v y → r' ≡ topped_to r (to + len + 4)
-      → TakesChild r fs w f n (record { ok = true; registers = r' }) gs v
+      → TakesChild r fs w f n (Some r') gs v
   child-made b o z m c s e p k = child_done (rw (a, b, l) at m) z c (rw (b, l) at s) (rw (a, b, l) at e) (rw (b, l, o) at p) (rw (b, l) at k)
 
 -- ---- a node that closes
 
 module _ {r : Registers} {fs w : List ℕ} {n f : Frame} (e : f ≡ top_frame r fs) where
-  pub took_object : {c : Changed} {gs v : List ℕ} → same_kind f.kind PropertyElt ≡ true → TakesObject r fs w f n c gs v → TakesNode r fs w n c gs v
+  pub took_object : {c : Option Registers} {gs v : List ℕ} → same_kind f.kind PropertyElt ≡ true → TakesObject r fs w f n c gs v → TakesNode r fs w n c gs v
   unfolding L.all may_take_node
   took_object {c} {gs} {v} y t =
       let m : Bool = may_take r (length fs) (at n MAIN) (at f TAIL) (main_size n) (at f TAIL + main_size n) in
@@ -270,7 +242,7 @@ module _ {r : Registers} {fs w : List ℕ} {n f : Frame} (e : f ≡ top_frame r 
       }
 
   module _ (o : same_kind f.kind PropertyElt ≡ false) where
-    pub took_child : {c : Changed} {gs v : List ℕ} → same_kind f.kind ParseTypeCollectionPropertyElt ≡ true → TakesChild r fs w f n c gs v → TakesNode r fs w n c gs v
+    pub took_child : {c : Option Registers} {gs v : List ℕ} → same_kind f.kind ParseTypeCollectionPropertyElt ≡ true → TakesChild r fs w f n c gs v → TakesNode r fs w n c gs v
     unfolding L.all may_take_node
     took_child {c} {gs} {v} y t =
         let a : may_take_node r (length fs) (top_frame r fs) n ≡ may_child r (length fs) f n = rw (← e, o, y) in
@@ -282,7 +254,7 @@ module _ {r : Registers} {fs w : List ℕ} {n f : Frame} (e : f ≡ top_frame r 
           kept = λ h. by (may_child r (length fs) f n) (λ g. differ (t.takes g).ok h) (λ g. t.kept g);
         }
 
-    pub took_none : same_kind f.kind ParseTypeCollectionPropertyElt ≡ false → TakesNode r fs w n (record { ok = true; registers = r }) fs w
+    pub took_none : same_kind f.kind ParseTypeCollectionPropertyElt ≡ false → TakesNode r fs w n (Some r) fs w
     unfolding L.all may_take_node
     took_none y =
         record {
@@ -294,40 +266,37 @@ module _ {r : Registers} {fs w : List ℕ} {n f : Frame} (e : f ≡ top_frame r 
         }
 
 module _ {r : Registers} {fs w : List ℕ} where
-  close-refused : {gs v : List ℕ} → may_close r fs w ≡ false → gs ≡ fs → v ≡ w → ClosesNode r fs w (record { ok = false; registers = r }) gs v
+  close-refused : {gs v : List ℕ} → may_close r fs w ≡ false → gs ≡ fs → v ≡ w → ClosesNode r fs w None gs v
   close-refused h p q = record { answer = sym h; takes = λ y. differ y h; kept = λ _. record { ok = refl; registers = refl; words = p; bytes = q } }
 
-  pub close_store : (length w ≡ 65_536 → ⊥) → ClosesNode r fs w (record { ok = false; registers = r }) fs w
+  pub close_store : (length w ≡ 65_536 → ⊥) → ClosesNode r fs w None fs w
   unfolding L.all may_close
   close_store h = close-refused (rw (ne_eqb (length w) 65_536 h)) refl refl
 
   module _ (l : length w ≡ 65_536) {n : Frame} (e : n ≡ top_frame r fs) where
-    pub close_other : same_kind n.kind NodeElt ≡ false → ClosesNode r fs w (record { ok = false; registers = r }) fs w
+    pub close_other : same_kind n.kind NodeElt ≡ false → ClosesNode r fs w None fs w
     unfolding L.all may_close
     close_other h = close-refused (rw (eq-eqb (length w) 65_536 l, ← e, h)) refl refl
 
-    module _ (k : same_kind n.kind NodeElt ≡ true) {p : Changed} (o : Pops r fs p) where
-      pub close_none : p.ok ≡ false → ClosesNode r fs w (record { ok = false; registers = r }) fs w
+    module _ (k : same_kind n.kind NodeElt ≡ true) where
+      pub close_none : Pops r fs None → ClosesNode r fs w None fs w
       unfolding L.all may_close
-      close_none h = close-refused (rw (eq-eqb (length w) 65_536 l, ← e, k, sym o.answer ∙ h)) refl refl
+      close_none o = close-refused (rw (eq-eqb (length w) 65_536 l, ← e, k, ← o.answer)) refl refl
 
-      module _ (y : p.ok ≡ true) {t : Changed} {gs v : List ℕ} (x : TakesNode p.registers fs w n t gs v) where
-        pop_is : may_pop r ≡ true
-        pop_is = sym o.answer ∙ y
-
-        pub close_full : t.ok ≡ false → ClosesNode r fs w (record { ok = false; registers = r }) gs v
-        unfolding L.all may_close
-        close_full h =
-            let z : may_take_node (without r fs) (length fs) (top_frame (without r fs) fs) n ≡ false = rw (← o.moved pop_is) (sym x.answer ∙ h) in
-            let q = x.kept h in
-            close-refused (rw (eq-eqb (length w) 65_536 l, ← e, k, pop_is, z)) q.words q.bytes
-
-        pub close_done : t.ok ≡ true → ClosesNode r fs w t gs v
-        unfolding L.all may_close
-        close_done h =
-            let z : may_take_node (without r fs) (length fs) (top_frame (without r fs) fs) n ≡ true = rw (← o.moved pop_is) (sym x.answer ∙ h) in
-            let m : may_close r fs w ≡ true = rw (eq-eqb (length w) 65_536 l, ← e, k, pop_is, z) in
-            record { answer = h ∙ sym m; takes = λ _. rw (← e, ← o.moved pop_is) x; kept = λ f. differ m f }
+      pub close_done : {q : Registers} {t : Option Registers} {gs v : List ℕ} → Pops r fs (Some q) → TakesNode q fs w n t gs v → ClosesNode r fs w t gs v
+      unfolding L.all may_close
+      close_done {q} {t} o x =
+          let y : may_pop r ≡ true = sym o.answer in
+          let a : may_close r fs w ≡ is_some t = rw (eq-eqb (length w) 65_536 l, ← e, k, y, ← o.moved y) (sym x.answer) in
+          record {
+            answer = sym a;
+            takes = λ _. rw (← e, ← o.moved y) x;
+            kept =
+                λ n.
+                let z : is_some t ≡ false = sym a ∙ n in
+                let m = x.kept z in
+                record { ok = z; registers = none_keeps t r z; words = m.words; bytes = m.bytes };
+          }
 
 -- ---- the child that ends at a place
 

@@ -1,10 +1,10 @@
-// The open elements of a document as a stack: what an event may do at its top. Every call answers on every input; what it did to a
-// valid state is said by the laws of specs/.
+// The open elements of a document as a stack: what an event may do at its top. Every call answers on every input: the registers behind
+// the change, or none where it cannot be made, and then nothing changed. What it did to a valid state is said by the laws of specs/.
 #![tactic(auto)]
 
 ghost use Rattle.std.specs.Prelude.{◌≡◌, ◌+◌, ◌-◌, ◌*◌, ◌≤◌, ◌<◌, length};
 ghost use Rattle.state_stack.specs.Change.{topped_to, labelled_to};
-ghost use Rattle.state_stack.specs.Calls.{frame_of, Pushes, Pops, Binds, top_frame, same_kind, Texts, Xmls, CountsLi, Tails};
+ghost use Rattle.state_stack.specs.Calls.{frame_of, Pushes, Pops, Binds, top_frame, Texts, Xmls, CountsLi, Tails};
 
 pub mod nodes;
 pub mod packets;
@@ -13,21 +13,6 @@ use copy::words::wide;
 use label::BlankNodeIdGenerator;
 use state::{Counts, Flags, Registers, Store};
 use state_words::{Frame, Kind, Row};
-
-// What a change answers. Where it cannot be made `ok` is false, and nothing changed.
-#[derive(Clone, Copy)]
-pub struct Changed {
-    pub ok: bool,
-    pub registers: Registers,
-}
-
-// Bytes of the work store, if they are there.
-#[derive(Clone, Copy)]
-pub struct Found {
-    pub there: bool,
-    pub at: usize,
-    pub len: usize,
-}
 
 // ---- elements outside Literal content
 
@@ -39,27 +24,21 @@ pub fn push(
     at: [u32; Frame::PLACES],
     has: [u32; Frame::MARKS],
     bound: usize,
-) -> Changed
+) -> Option<Registers>
     ensures { Pushes r frames.old (frame_of kind at has) bound result frames.new }
 {
     push_frame(r, frames, Frame { kind, at, has }, bound)
 }
 
 // One less; its bytes and bindings may be used again.
-pub fn pop(r: Registers, frames: &[u32]) -> Changed
+pub fn pop(r: Registers, frames: &[u32]) -> Option<Registers>
     ensures { Pops r frames.now result }
 {
     if r.counts.inner != 0 {
-        return Changed {
-            ok: false,
-            registers: r,
-        };
+        return None;
     }
     if r.counts.depth == 0 {
-        return Changed {
-            ok: false,
-            registers: r,
-        };
+        return None;
     }
     let f = Frame::load(frames, r.counts.depth - 1);
     let at = f.at;
@@ -71,7 +50,7 @@ pub fn pop(r: Registers, frames: &[u32]) -> Changed
         base: r.store.base,
         top,
         low: r.store.low,
-        noted: nodes::minus(r.store.noted, state::noted_of(f)),
+        noted: r.store.noted.saturating_sub(state::noted_of(f)),
     };
     let counts = Counts {
         depth,
@@ -80,10 +59,7 @@ pub fn pop(r: Registers, frames: &[u32]) -> Changed
         bindings: first,
         labels: r.counts.labels,
     };
-    Changed {
-        ok: true,
-        registers: Registers::of(r.mode, r.flags, store, counts),
-    }
+    Some(Registers::of(r.mode, r.flags, store, counts))
 }
 
 // A binding as row `n`, its prefix and namespace from `at` on.
@@ -134,40 +110,29 @@ pub fn top(r: Registers, frames: &[u32]) -> Frame
 }
 
 // The text of the default property on top, in place of the object so far.
-pub fn set_text(r: Registers, frames: &mut [u32], work: &mut [u8], text: &[u8]) -> Changed
+pub fn set_text(r: Registers, frames: &mut [u32], work: &mut [u8], text: &[u8]) -> Option<Registers>
     ensures { Texts r frames.old work.old text.now result frames.new work.new }
 {
     let f = top(r, frames);
     let at = f.at;
-    let kind = f.kind;
-    if !same_kind(kind, Kind::PropertyElt) {
-        return Changed {
-            ok: false,
-            registers: r,
-        };
+    if f.kind != Kind::PropertyElt {
+        return None;
     }
-    write_tail(r, frames, work, f, wide(at[Frame::TAIL]), 3, text)
+    write_tail(r, frames, work, f, wide(at[Frame::TAIL]), Frame::TEXT, text)
 }
 
 // More XML text of the Literal property on top; any other parseType keeps none.
-pub fn add_xml(r: Registers, frames: &mut [u32], work: &mut [u8], text: &[u8]) -> Changed
+pub fn add_xml(r: Registers, frames: &mut [u32], work: &mut [u8], text: &[u8]) -> Option<Registers>
     ensures { Xmls r frames.old work.old text.now result frames.new work.new }
 {
     let f = top(r, frames);
     let at = f.at;
     let has = f.has;
-    let kind = f.kind;
-    if same_kind(kind, Kind::ParseTypeOtherPropertyElt) {
-        return Changed {
-            ok: true,
-            registers: r,
-        };
+    if f.kind == Kind::ParseTypeOtherPropertyElt {
+        return Some(r);
     }
-    if !same_kind(kind, Kind::ParseTypeLiteralPropertyElt) {
-        return Changed {
-            ok: false,
-            registers: r,
-        };
+    if f.kind != Kind::ParseTypeLiteralPropertyElt {
+        return None;
     }
     write_tail(
         r,
@@ -188,7 +153,7 @@ pub fn count_li(r: Registers, frames: &mut [u32]) -> bool
     let at = f.at;
     let mut has = f.has;
     let kind = f.kind;
-    if !same_kind(kind, Kind::NodeElt) {
+    if kind != Kind::NodeElt {
         return false;
     }
     if r.counts.depth == 0 {
@@ -203,27 +168,18 @@ pub fn count_li(r: Registers, frames: &mut [u32]) -> bool
 }
 
 // The frame of a new element, on top of the others.
-fn push_frame(r: Registers, frames: &mut [u32], f: Frame, bound: usize) -> Changed
+fn push_frame(r: Registers, frames: &mut [u32], f: Frame, bound: usize) -> Option<Registers>
     ensures { Pushes r frames.old f bound result frames.new }
 {
     let at = f.at;
     if r.counts.inner != 0 {
-        return Changed {
-            ok: false,
-            registers: r,
-        };
+        return None;
     }
     if r.counts.depth >= Frame::MOST {
-        return Changed {
-            ok: false,
-            registers: r,
-        };
+        return None;
     }
     if !Frame::store(frames, r.counts.depth, f) {
-        return Changed {
-            ok: false,
-            registers: r,
-        };
+        return None;
     }
     let top = wide(at[Frame::END]);
     let depth = r.counts.depth + 1;
@@ -245,10 +201,7 @@ fn push_frame(r: Registers, frames: &mut [u32], f: Frame, bound: usize) -> Chang
         bindings: bound,
         labels: r.counts.labels,
     };
-    Changed {
-        ok: true,
-        registers: Registers::of(r.mode, flags, store, counts),
-    }
+    Some(Registers::of(r.mode, flags, store, counts))
 }
 
 // `s` into the work store from `from` on, as the tail of frame `f`, which is the one on top.
@@ -260,28 +213,24 @@ fn write_tail(
     from: usize,
     what: u32,
     s: &[u8],
-) -> Changed
+) -> Option<Registers>
     ensures { Tails r frames.old work.old f from what s.now result frames.new work.new }
 {
-    let no = Changed {
-        ok: false,
-        registers: r,
-    };
     let low = r.store.low;
     if r.counts.depth == 0 {
-        return no;
+        return None;
     }
     if low > Registers::STORE {
-        return no;
+        return None;
     }
     if work.len() < low {
-        return no;
+        return None;
     }
     if low < from {
-        return no;
+        return None;
     }
     if low - from < s.len() {
-        return no;
+        return None;
     }
     let to = from + s.len();
     let mut at = f.at;
@@ -290,13 +239,10 @@ fn write_tail(
     at[Frame::END] = to as u32;
     has[Frame::PENDING] = what;
     if !Frame::store(frames, r.counts.depth - 1, Frame { kind, at, has }) {
-        return no;
+        return None;
     }
     copy::put(work, from, s);
-    Changed {
-        ok: true,
-        registers: with_top(r, to),
-    }
+    Some(with_top(r, to))
 }
 
 pub fn with_top(r: Registers, top: usize) -> Registers
@@ -322,10 +268,4 @@ pub fn with_labels(r: Registers, labels: u64) -> Registers
         labels,
     };
     Registers::of(r.mode, r.flags, r.store, counts)
-}
-
-pub fn same_kind(a: Kind, b: Kind) -> bool
-    ensures { result ≡ same_kind a b }
-{
-    a.word() == b.word()
 }

@@ -1,10 +1,8 @@
 // A node that closes is the object, or the next child, of the property around it: its bytes move down in the work store.
 ghost use Rattle.std.specs.Prelude.{◌≡◌, ◌+◌, ◌-◌, ◌*◌, ◌≤◌, ◌<◌, length};
 ghost use Rattle.spec.specs.Limits.{work_store_bytes};
-ghost use Rattle.copy.specs.Copy.{part, stored_at};
 ghost use Rattle.state_stack.specs.Take.{may_take, object_word, blank_byte, TakesObject, TakesChild, TakesNode, ClosesNode, child_in};
 
-use crate::Changed;
 use copy::words::{byte, wide};
 use state::Registers;
 use state_words::{Frame, Kind};
@@ -21,34 +19,21 @@ pub struct Child {
 }
 
 // The node on top closes: the default property around it has it as its object, the Collection as its next child.
-pub fn close_node(r: Registers, frames: &mut [u32], work: &mut [u8]) -> Changed
+pub fn close_node(r: Registers, frames: &mut [u32], work: &mut [u8]) -> Option<Registers>
     ensures { ClosesNode r frames.old work.old result frames.new work.new }
 {
-    let no = Changed {
-        ok: false,
-        registers: r,
-    };
     if work.len() != Registers::STORE {
-        return no;
+        return None;
     }
     let n = crate::top(r, frames);
-    let kind = n.kind;
-    if !crate::same_kind(kind, Kind::NodeElt) {
-        return no;
+    if n.kind != Kind::NodeElt {
+        return None;
     }
-    let p = crate::pop(r, frames);
-    if !p.ok {
-        return no;
-    }
-    let q = p.registers;
-    let t = take_node(q, frames, work, n);
-    if !t.ok {
-        return no;
-    }
-    t
+    let q = crate::pop(r, frames)?;
+    take_node(q, frames, work, n)
 }
 
-// The child that ends at `e`; the one before it ends where it starts.
+// The child that ends at `e`; the one before it ends where it starts. No Option where none does: `child_in` says so.
 pub fn child_at(work: &[u8], e: usize) -> Child
     ensures { result ≡ child_in work.now e }
 {
@@ -68,33 +53,35 @@ pub fn child_at(work: &[u8], e: usize) -> Child
     }
     let len = byte(work[e - 4]) + 256 * byte(work[e - 3]);
     Child {
-        at: minus(e - 4, len),
+        at: (e - 4).saturating_sub(len),
         len,
         blank: work[e - 2] != 0,
     }
 }
 
 // By the element around it, which is now on top.
-fn take_node(r: Registers, frames: &mut [u32], work: &mut [u8], n: Frame) -> Changed
+fn take_node(r: Registers, frames: &mut [u32], work: &mut [u8], n: Frame) -> Option<Registers>
     requires { length work.old ≡ work_store_bytes }
     ensures { TakesNode r frames.old work.old n result frames.new work.new }
 {
     let f = crate::top(r, frames);
-    let kind = f.kind;
-    if crate::same_kind(kind, Kind::PropertyElt) {
+    if f.kind == Kind::PropertyElt {
         return take_object(r, frames, work, f, n);
     }
-    if crate::same_kind(kind, Kind::ParseTypeCollectionPropertyElt) {
+    if f.kind == Kind::ParseTypeCollectionPropertyElt {
         return take_child(r, frames, work, f, n);
     }
-    Changed {
-        ok: true,
-        registers: r,
-    }
+    Some(r)
 }
 
 // The main part of `n` as the object of `f`.
-fn take_object(r: Registers, frames: &mut [u32], work: &mut [u8], f: Frame, n: Frame) -> Changed
+fn take_object(
+    r: Registers,
+    frames: &mut [u32],
+    work: &mut [u8],
+    f: Frame,
+    n: Frame,
+) -> Option<Registers>
     requires { length work.old ≡ work_store_bytes }
     ensures { TakesObject r frames.old work.old f n result frames.new work.new }
 {
@@ -104,26 +91,26 @@ fn take_object(r: Registers, frames: &mut [u32], work: &mut [u8], f: Frame, n: F
     let main = n.at;
     let marks = n.has;
     let from = wide(main[4]);
-    let len = minus(wide(main[5]), from);
+    let len = wide(main[5]).saturating_sub(from);
     let to = wide(at[Frame::TAIL]);
     if !may_take(r, frames.len(), from, to, len, to + len) {
-        return Changed {
-            ok: false,
-            registers: r,
-        };
+        return None;
     }
     at[Frame::END] = (to + len) as u32;
     has[Frame::PENDING] = object_word(marks[Frame::BLANK]);
     Frame::store(frames, r.counts.depth - 1, Frame { kind, at, has });
-    shift(work, from, to, len);
-    Changed {
-        ok: true,
-        registers: crate::with_top(r, to + len),
-    }
+    work.copy_within(from..from + len, to);
+    Some(crate::with_top(r, to + len))
 }
 
 // The main part of `n` as the next child of `f`, and behind it its length and whether it is a blank node.
-fn take_child(r: Registers, frames: &mut [u32], work: &mut [u8], f: Frame, n: Frame) -> Changed
+fn take_child(
+    r: Registers,
+    frames: &mut [u32],
+    work: &mut [u8],
+    f: Frame,
+    n: Frame,
+) -> Option<Registers>
     requires { length work.old ≡ work_store_bytes }
     ensures { TakesChild r frames.old work.old f n result frames.new work.new }
 {
@@ -133,25 +120,19 @@ fn take_child(r: Registers, frames: &mut [u32], work: &mut [u8], f: Frame, n: Fr
     let main = n.at;
     let marks = n.has;
     let from = wide(main[4]);
-    let len = minus(wide(main[5]), from);
+    let len = wide(main[5]).saturating_sub(from);
     let to = wide(at[Frame::END]);
     let count = has[Frame::COUNT];
     if !may_take(r, frames.len(), from, to, len, to + len + 4) {
-        return Changed {
-            ok: false,
-            registers: r,
-        };
+        return None;
     }
     if count >= MOST_CHILDREN {
-        return Changed {
-            ok: false,
-            registers: r,
-        };
+        return None;
     }
     at[Frame::END] = (to + len + 4) as u32;
     has[Frame::COUNT] = count + 1;
     Frame::store(frames, r.counts.depth - 1, Frame { kind, at, has });
-    shift(work, from, to, len);
+    work.copy_within(from..from + len, to);
     let mark = [
         (len % 256) as u8,
         (len / 256) as u8,
@@ -159,13 +140,11 @@ fn take_child(r: Registers, frames: &mut [u32], work: &mut [u8], f: Frame, n: Fr
         0,
     ];
     copy::put(work, to + len, &mark);
-    Changed {
-        ok: true,
-        registers: crate::with_top(r, to + len + 4),
-    }
+    Some(crate::with_top(r, to + len + 4))
 }
 
 // Is there room to move `len` bytes from `from` down to `to`, so that what is held ends at `end`?
+#[tactic(auto, unfolding(crate::specs::Take::may_take, spec::specs::Limits::work_store_bytes))]
 fn may_take(r: Registers, words: usize, from: usize, to: usize, len: usize, end: usize) -> bool
     requires { (from < 4294967296) × (len < 4294967296) }
     ensures { result ≡ may_take r words from to len end }
@@ -179,34 +158,21 @@ fn may_take(r: Registers, words: usize, from: usize, to: usize, len: usize, end:
     a & (b & (c & (d & (e & f))))
 }
 
-// `n` bytes down to a lower place.
-fn shift(work: &mut [u8], from: usize, to: usize, n: usize)
-    requires { (to ≤ from) × (from + n ≤ length work.old) }
-    ensures { work.new ≡ stored_at work.old to (part work.old from n) }
-{
-    let mut i = 0;
-    while i < n {
-        work[to + i] = work[from + i];
-        i += 1;
-    }
-}
-
 // A named node, or a blank one, as an object and as the mark of a child.
+#[tactic(auto, unfolding(crate::specs::Take::object_word))]
 fn object_word(blank: u32) -> u32
     ensures { result ≡ object_word blank }
 {
-    if blank == 0 { 1 } else { 2 }
+    if blank == 0 {
+        Frame::NAMED_NODE
+    } else {
+        Frame::BLANK_NODE
+    }
 }
 
+#[tactic(auto, unfolding(crate::specs::Take::blank_byte))]
 fn blank_byte(blank: u32) -> u8
     ensures { result ≡ blank_byte blank }
 {
     if blank == 0 { 0 } else { 1 }
-}
-
-// What is left, or 0.
-pub fn minus(a: usize, b: usize) -> usize
-    ensures { result ≡ a - b }
-{
-    if a < b { 0 } else { a - b }
 }

@@ -12,8 +12,7 @@ pub fn count_rdf(r: Registers, frames: &mut [u32])
     ensures { HasRdf r frames.old frames.new }
 {
     let f = crate::top(r, frames);
-    let kind = f.kind;
-    if !crate::same_kind(kind, Kind::Wrapper) {
+    if f.kind != Kind::Wrapper {
         return;
     }
     mark(r, frames, f, Frame::COUNT, 1);
@@ -25,8 +24,7 @@ pub fn note_li(r: Registers, frames: &mut [u32], carries: bool)
 {
     let f = crate::top(r, frames);
     let has = f.has;
-    let kind = f.kind;
-    if !crate::same_kind(kind, Kind::NodeElt) {
+    if f.kind != Kind::NodeElt {
         return;
     }
     if has[Frame::PART] != Frame::AWAITED {
@@ -42,16 +40,15 @@ pub fn note_about(r: Registers, frames: &mut [u32], work: &mut [u8], about: &[u8
     let f = crate::top(r, frames);
     let at = f.at;
     let has = f.has;
-    let kind = f.kind;
-    if !crate::same_kind(kind, Kind::Rdf) {
+    if f.kind != Kind::Rdf {
         return r;
     }
     if has[Frame::PART] != Frame::AWAITED {
         return r;
     }
     let from = wide(at[Frame::TAIL]);
-    let c = crate::write_tail(r, frames, work, f, from, Frame::NOTED, about);
-    noting(c.registers, about.len())
+    let q = crate::write_tail(r, frames, work, f, from, Frame::NOTED, about).unwrap_or(r);
+    noting(q, about.len())
 }
 
 // With so many bytes noted.

@@ -4,10 +4,13 @@ use Rattle.std.proofs.Common.{sym, ◌∙◌, append-nil, add-zero, zero-add, ar
 use Rattle.std.proofs.Math.Path.{ap}
 use Rattle.std.proofs.Math.Seq.{take-length}
 use Rattle.std.proofs.lemmas.Bool.{lt-leb}
+use denote.Enum.Bare.{sameb}
+use denote.Enum.Declared.{tag_of}
 use Rattle.copy.specs.Copy.{part, stored_at, Put, Wrote, then, wrote_one, wrote_part, wrote_same, put-fits, get_d_part, part-part, length_part}
 use Rattle.state_words.specs.Parts.{PLACES, MARKS, HEAD, FRAME}
 use Rattle.state_words.specs.Kept.{Kept}
 use Rattle.state_words.specs.declared.Kind.{Kind}
+use Rattle.state_words.specs.contracts.Kind.{the_type}
 use Rattle.state_words.specs.declared.Kind.TheVariants.{Rdf, NodeElt, PropertyElt, ParseTypeCollectionPropertyElt, ParseTypeLiteralPropertyElt, ParseTypeOtherPropertyElt, Wrapper}
 use Rattle.state_words.specs.declared.Frame.{Frame}
 use Rattle.state_words.specs.declared.Row.{Row}
@@ -41,6 +44,19 @@ kind_back ParseTypeCollectionPropertyElt = refl
 kind_back ParseTypeLiteralPropertyElt = refl
 kind_back ParseTypeOtherPropertyElt = refl
 kind_back Wrapper = refl
+
+-- `==` of kinds is that of their words
+kind_tag : (k : Kind) → tag_of the_type k ≡ kind_number k
+kind_tag Rdf = refl
+kind_tag NodeElt = refl
+kind_tag PropertyElt = refl
+kind_tag ParseTypeCollectionPropertyElt = refl
+kind_tag ParseTypeLiteralPropertyElt = refl
+kind_tag ParseTypeOtherPropertyElt = refl
+kind_tag Wrapper = refl
+
+pub kind_eq : (a b : Kind) → sameb the_type a b ≡ eqb (kind_number a) (kind_number b)
+kind_eq a b = ap (λ (n : ℕ). eqb n (tag_of the_type b)) (kind_tag a) ∙ ap (eqb (kind_number a)) (kind_tag b)
 
 -- ---- frames
 

@@ -7,7 +7,7 @@ ghost use Rattle.state_words.specs.Words.{kind_of, kind_number, load_frame, Stor
 use copy::words;
 
 // What an open element outside Literal content is: the states of the Rust's parser, and the wrapper of document 02.
-#[derive(Clone, Copy)]
+#[derive(Clone, Copy, PartialEq, Eq, Debug)]
 pub enum Kind {
     Rdf,
     NodeElt,
@@ -37,10 +37,12 @@ pub struct Row {
     pub more: u32,
 }
 
-impl Kind {
-    pub fn of(word: u32) -> Self
-        ensures { result ≡ kind_of word }
-    {
+// The word that a frame keeps for a kind; a word beyond them is the last.
+impl From<u32> for Kind {
+    ghost from_gives = { λ word kind. kind ≡ kind_of word };
+
+    #[tactic(auto, unfolding(crate::specs::Words::kind_of))]
+    fn from(word: u32) -> Self {
         match word {
             0 => Kind::Rdf,
             1 => Kind::NodeElt,
@@ -51,11 +53,13 @@ impl Kind {
             _ => Kind::Wrapper,
         }
     }
+}
 
-    pub fn word(self) -> u32
-        ensures { result ≡ kind_number self }
-    {
-        match self {
+impl From<Kind> for u32 {
+    ghost from_gives = { λ kind word. word ≡ kind_number kind };
+
+    fn from(kind: Kind) -> Self {
+        match kind {
             Kind::Rdf => 0,
             Kind::NodeElt => 1,
             Kind::PropertyElt => 2,
@@ -110,6 +114,13 @@ impl Frame {
 
     pub const MARKS: usize = Self::FIRST + 1;
 
+    // What a pending object is: a named node, a blank one or a text; 0 where there is none.
+    pub const NAMED_NODE: u32 = 1;
+
+    pub const BLANK_NODE: u32 = 2;
+
+    pub const TEXT: u32 = 3;
+
     // What an element is to a packet, in the word that properties use for their object: nothing; it waits for its first child; that is
     // noted. Of an rdf:Alt: that its first rdf:li carries xml:lang.
     pub const PART: usize = Self::PENDING;
@@ -143,7 +154,7 @@ impl Frame {
         }
     }
 
-    // Frame i of a table; where the table is too short, none.
+    // Frame i of a table; where the table is too short, none: no Option, as the laws of a state rest on `load_frame`.
     pub fn load(frames: &[u32], i: usize) -> Self
         ensures { result ≡ load_frame frames.now i }
     {
@@ -151,14 +162,14 @@ impl Frame {
             return Frame::none();
         }
         let from = i * Self::WORDS;
-        let kind = Kind::of(frames[from]);
+        let kind = Kind::from(frames[from]);
         let mut at = [0u32; Self::PLACES];
         let mut has = [0u32; Self::MARKS];
         let a = from + 1;
         let h = from + Self::HEAD;
         let e = from + Self::WORDS;
-        words::put(&mut at, 0, &frames[a..h]);
-        words::put(&mut has, 0, &frames[h..e]);
+        copy::put(&mut at, 0, &frames[a..h]);
+        copy::put(&mut has, 0, &frames[h..e]);
         Frame { kind, at, has }
     }
 
@@ -172,9 +183,9 @@ impl Frame {
         let at = f.at;
         let has = f.has;
         let kind = f.kind;
-        frames[from] = kind.word();
-        words::put(frames, from + 1, &at);
-        words::put(frames, from + Self::HEAD, &has)
+        frames[from] = u32::from(kind);
+        copy::put(frames, from + 1, &at);
+        copy::put(frames, from + Self::HEAD, &has)
     }
 }
 
@@ -190,7 +201,7 @@ impl Row {
 
     pub const INNERS: usize = Frame::MOST * Self::WORDS;
 
-    // Row i of a table; where the table is too short, zeros.
+    // Row i of a table; where the table is too short, zeros: no Option, as the laws of a state rest on `load_row`.
     pub fn load(rows: &[u32], i: usize) -> Self
         ensures { result ≡ load_row rows.now i }
     {

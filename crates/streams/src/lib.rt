@@ -2,7 +2,8 @@
 // where it failed.
 #![tactic(auto)]
 
-ghost use Rattle.std.specs.Prelude.{◌+◌, ◌≤◌, min, ◌≡◌, ◌++◌, map, length, pos, IfSome, IsNone};
+ghost use Rattle.std.specs.Prelude.{◌+◌, ◌≤◌, ◌≡◌, ◌++◌, map, length, take, pos, IfSome, IsNone};
+ghost use Rattle.std.specs.Io.KnownBytes.{Consumes};
 ghost use Rattle.std.specs.IoError.{error_kind, raw_os_error};
 ghost use Rattle.spec.specs.NTriples.{decimal};
 ghost use Rattle.copy.specs.Copy.{Wrote};
@@ -32,7 +33,8 @@ const WORD: usize = 256;
 // Room for the text of an error.
 const TEXT: usize = 160;
 
-// A reader or a writer, and errno: the number of the last error of a call on it, 0 where there was none.
+// A reader or a writer, and errno: the number of the last error of a call on it, 0 where there was none. No Option: the
+// system's text for 0 is what is told of a write that took nothing without an error.
 #[derive(Drop)]
 pub struct Stream<T> {
     end: T,
@@ -40,16 +42,17 @@ pub struct Stream<T> {
 }
 
 // What a call that moves bytes came to: so many; none yet, and it is to be tried again; or it failed, and errno says
-// why.
-#[derive(Clone, Copy)]
+// why. Three answers; `moved_of` and `waits_for`, which docs/ARCHITECTURE.md names, say when each comes.
+#[derive(Clone, Copy, Debug, PartialEq, Eq)]
 pub enum Moved {
     Bytes(usize),
     Later,
     Failed,
 }
 
-// What came from the input: so many bytes, at least one; its end; or the read failed, and errno says why.
-#[derive(Clone, Copy)]
+// What came from the input: so many bytes, at least one; its end; or the read failed, and errno says why. `got_of`, which
+// docs/ARCHITECTURE.md names, says when each comes.
+#[derive(Clone, Copy, Debug, PartialEq, Eq)]
 pub enum Got {
     Bytes(usize),
     End,
@@ -57,15 +60,16 @@ pub enum Got {
 }
 
 // How many bytes of a text standard output took, and whether these are all. Only `print` makes one: its fields are
-// its own.
-#[derive(Clone, Copy)]
+// its own. A Result is no plainer: its callers count the bytes of a text that was cut too.
+#[derive(Clone, Copy, Debug, PartialEq, Eq)]
 pub struct Printed {
     whole: bool,
     bytes: usize,
 }
 
-// How far a text of `most` bytes is printed: so many of them were taken, and whether a write failed.
-#[derive(Clone, Copy)]
+// How far a text of `most` bytes is printed: so many of them were taken, and whether a write failed. `after_write` and
+// `goes_on`, which docs/ARCHITECTURE.md names, speak of it.
+#[derive(Clone, Copy, Debug, PartialEq, Eq)]
 struct Printing {
     taken: usize,
     most: usize,
@@ -97,7 +101,7 @@ impl Moved {
         ensures { result ≡ moved_of got error most }
     {
         if got >= 0 {
-            return Moved::Bytes(least(got as usize, most));
+            return Moved::Bytes((got as usize).min(most));
         }
         if error == EINTR {
             return Moved::Later;
@@ -208,17 +212,12 @@ impl Printed {
     }
 }
 
-fn least(a: usize, b: usize) -> usize
-    ensures { result ≡ min a b }
-{
-    if a < b { a } else { b }
-}
-
 // The text to a writer, up to the first write that fails.
 pub fn print<W: Write>(to: &mut Stream<W>, text: &[u8]) -> Printed
     ensures { Prints (length text.now) result }
 {
     let mut printing = Printing::begun(text.len());
+    // A turn takes what the call took, so no range counts them.
     while printing.goes_on() {
         let taken = printing.taken;
         let n = write(to, &text[taken..]);
@@ -231,6 +230,7 @@ pub fn print<W: Write>(to: &mut Stream<W>, text: &[u8]) -> Printed
 fn write<W: Write>(to: &mut Stream<W>, text: &[u8]) -> usize
     ensures { result ≤ length text.now }
 {
+    // The tries are counted down, as `waits_for` has it.
     let mut moved = try_write(to, text);
     let mut tries = Moved::TRIES;
     while moved.waits(tries) {
@@ -257,6 +257,7 @@ fn try_write<W: Write>(to: &mut Stream<W>, text: &[u8]) -> Moved
 pub fn read<R: Read>(from: &mut Stream<R>, into: &mut [u8]) -> Got
     ensures { Fills (length into.old) result }
 {
+    // As in `write`, which differs in the call and in what none means.
     let mut moved = try_read(from, into);
     let mut tries = Moved::TRIES;
     while moved.waits(tries) {
@@ -279,6 +280,23 @@ fn try_read<R: Read>(from: &mut Stream<R>, into: &mut [u8]) -> Moved
     }
 }
 
+// Reads until `buf` is full, the input ends or a read fails: how many bytes are at its front.
+pub fn read_full<R: Read>(from: &mut R, buf: &mut [u8]) -> usize
+    ensures within { result ≤ length buf.new }
+    ensures bytes { Consumes (R.remaining from.old) (R.remaining from.new) (take result buf.new) }
+{
+    let mut done = 0;
+    // A turn takes what the call took, so no range counts them.
+    while done < buf.len() {
+        match from.read(&mut buf[done..]) {
+            Ok(0) => return done,
+            Ok(n) => done += n,
+            Err(_) => return done,
+        }
+    }
+    done
+}
+
 // The number by which the system knows the error. One that is not the system's has the number of its kind.
 pub fn errno_of(error: &Error) -> i32
     ensures os { IfSome (raw_os_error error.now) (λ n. result ≡ n) }
@@ -298,7 +316,7 @@ pub fn errno_of(error: &Error) -> i32
 // One line on standard error: what failed, after how many whole events and bytes, and errno's text.
 pub fn tell(to: Stderr, errno: i32, what: &[u8], events: usize, bytes: usize) {
     let mut line = [0u8; LINE];
-    let most = least(what.len(), WHAT);
+    let most = what.len().min(WHAT);
     let n = failure_line(&mut line, &what[..most], events as u64, bytes as u64);
     fail(to, errno, &line[..n]);
 }
@@ -320,7 +338,7 @@ fn errno_text(errno: i32, text: &mut [u8]) -> usize
     let mut rest = &mut text[..];
     let _ = write!(rest, "{}", Error::from_raw_os_error(errno));
     let end = copy::find(text, b'(');
-    if end == 0 { 0 } else { end - 1 }
+    end.saturating_sub(1)
 }
 
 // An output that takes no more loses what is told, and the program goes on.
@@ -394,24 +412,20 @@ fn argument<E: Env>(env: &E, i: usize, word: &mut [u8]) -> usize
 // How many arguments the program was started with, its own name among them.
 pub fn argument_count<E: Env>(env: &E) -> usize {
     let mut word = [0u8; 1];
-    let mut n = 0;
-    while n < usize::MAX {
+    for n in 0..usize::MAX {
         if let Err(FillError::NotPresent) = env.arg(n, &mut word) {
             return n;
         }
-        n += 1;
     }
-    n
+    usize::MAX
 }
 
 // A word that is to be told in one line.
 pub fn keep_to_line(word: &mut [u8])
     ensures { word.new ≡ map in_line word.old }
 {
-    let mut i = 0;
-    while i < word.len() {
-        word[i] = in_line(word[i]);
-        i += 1;
+    for b in word.iter_mut() {
+        *b = in_line(*b);
     }
 }
 

@@ -1,11 +1,9 @@
 // The verdict on each line of the files `iris` and `tags`.
 #![tactic(auto)]
 
-ghost use Rattle.std.specs.Prelude.{◌≤◌, length};
-
 use spec::Verdict;
 use std::fs::File;
-use std::io::{Read, Stdout};
+use std::io::Stdout;
 use std::rt::Files;
 
 fn main(rt: HostRuntime) {
@@ -22,31 +20,13 @@ fn report_file<R: Files + Eprint>(rt: &R, out: Stdout, path: &str) {
         }
     };
     let mut text = [0u8; 65536];
-    let n = read_full(&mut file, &mut text);
+    let n = streams::read_full(&mut file, &mut text);
     report_lines(out, &text[..n]);
 }
 
-// Reads until `buf` is full, the input ends or a read fails: how many bytes are at its front.
-fn read_full<R: Read>(from: &mut R, buf: &mut [u8]) -> usize
-    ensures { result ≤ length buf.new }
-{
-    let mut done = 0;
-    while done < buf.len() {
-        match from.read(&mut buf[done..]) {
-            Ok(0) => return done,
-            Ok(n) => done += n,
-            Err(_) => return done,
-        }
-    }
-    done
-}
-
 fn report_lines(out: Stdout, text: &[u8]) {
-    let mut from = 0;
-    while from < text.len() {
-        let end = from + copy::find(&text[from..], b'\n');
-        report(out, &text[from..end]);
-        from = end + 1;
+    for line in text.split_inclusive(|b| *b == b'\n') {
+        report(out, line.strip_suffix(b"\n").unwrap_or(line));
     }
 }
 
@@ -62,11 +42,11 @@ fn report(out: Stdout, line: &[u8]) {
 
 // Before an IRI or a reference to one stand its kind and a tab, before a language tag nothing.
 fn verdict_on(line: &[u8]) -> Verdict {
-    if copy::begins(line, b"iri\t") {
-        return told(iri::is_iri(&line[4..]));
+    if let Some(iri) = line.strip_prefix(b"iri\t") {
+        return told(iri::is_iri(iri));
     }
-    if copy::begins(line, b"ref\t") {
-        return told(iri::is_iri_reference(&line[4..]));
+    if let Some(reference) = line.strip_prefix(b"ref\t") {
+        return told(iri::is_iri_reference(reference));
     }
     langtag::parse(line)
 }

@@ -1,43 +1,19 @@
 // Streams of events, parted by the byte FF in the input. Of each are printed where the first event of every beginning ends,
 // as long as more may follow and where no more does, and what each event of the whole is.
-ghost use Rattle.std.specs.Prelude.{◌≤◌, length};
-
 use pyx::{Event, First};
-use std::io::{Read, Stdin, Stdout};
+use std::io::{Stdin, Stdout};
 
 pub fn try_all(mut from: Stdin, out: Stdout) {
     let mut input = [0u8; 65536];
-    let n = read_full(&mut from, &mut input);
+    let n = streams::read_full(&mut from, &mut input);
     streams(out, &input[..n]);
     longest(out);
     scratches(out);
 }
 
-// Reads until `buf` is full, the input ends or a read fails: how many bytes are at its front.
-fn read_full<R: Read>(from: &mut R, buf: &mut [u8]) -> usize
-    ensures { result ≤ length buf.new }
-{
-    let mut done = 0;
-    while done < buf.len() {
-        match from.read(&mut buf[done..]) {
-            Ok(0) => return done,
-            Ok(n) => done += n,
-            Err(_) => return done,
-        }
-    }
-    done
-}
-
 fn streams(out: Stdout, input: &[u8]) {
-    let mut at = 0;
-    while at < input.len() {
-        let n = copy::find(&input[at..], 255);
-        let end = at + n;
-        stream(out, &input[at..end]);
-        if end == input.len() {
-            return;
-        }
-        at = end + 1;
+    for s in input.split_inclusive(|b| *b == 255) {
+        stream(out, s.strip_suffix(&[255]).unwrap_or(s));
     }
 }
 
@@ -54,70 +30,52 @@ fn stream(out: Stdout, s: &[u8]) {
 
 // The first event of every beginning, where it differs from that of the beginning one byte shorter.
 fn cuts(out: Stdout, s: &[u8], last: bool) {
-    let mut before = 0;
-    let mut n = 0;
-    while n < s.len() {
+    let mut before = Ok(0);
+    for n in 0..s.len() {
         let now = cut(&s[..n], last);
         print_change(out, n, now, before);
         before = now;
-        n += 1;
     }
-    print_change(out, n, cut(s, last), before);
+    print_change(out, s.len(), cut(s, last), before);
 }
 
-// How many bytes the first event has, or a number above all such.
-fn cut(s: &[u8], last: bool) -> usize {
+// How many bytes the first event has, or why there is none.
+fn cut(s: &[u8], last: bool) -> Result<usize, &'static str> {
     match pyx::first_event(s, last) {
-        First::Wait => 100_001,
-        First::Unended => 100_002,
-        First::TooLong => 100_003,
-        First::Whole(n) => n,
+        First::Wait => Err("wait"),
+        First::Unended => Err("unended"),
+        First::TooLong => Err("too long"),
+        First::Whole(n) => Ok(n),
     }
 }
 
-fn print_change(out: Stdout, n: usize, now: usize, before: usize) {
+fn print_change(
+    out: Stdout,
+    n: usize,
+    now: Result<usize, &'static str>,
+    before: Result<usize, &'static str>,
+) {
     if now == before {
         return;
     }
     print(out, b" ");
     print_number(out, n);
     print(out, b" ");
-    print_cut(out, now);
+    match now {
+        Ok(n) => print_number(out, n),
+        Err(why) => print(out, why.as_bytes()),
+    }
     print(out, b";");
-}
-
-fn print_cut(out: Stdout, cut: usize) {
-    if cut == 100_001 {
-        print(out, b"wait");
-        return;
-    }
-    if cut == 100_002 {
-        print(out, b"unended");
-        return;
-    }
-    if cut == 100_003 {
-        print(out, b"too long");
-        return;
-    }
-    print_number(out, cut);
 }
 
 // The spans have places for two attributes.
 fn events(out: Stdout, s: &[u8]) {
     let mut scratch = [0u8; Event::MOST_BYTES];
     let mut spans = [0u32; 8];
-    let mut at = 0;
-    while at < s.len() {
-        match pyx::first_event(pyx::rest(s, at), true) {
-            First::Whole(n) => {
-                let end = at + n;
-                event(out, &s[at..end], &mut scratch, &mut spans);
-                at = end;
-            }
-            First::Wait => return,
-            First::Unended => return,
-            First::TooLong => return,
-        }
+    let mut rest = s;
+    while let First::Whole(n) = pyx::first_event(rest, true) {
+        event(out, &rest[..n], &mut scratch, &mut spans);
+        rest = &rest[n..];
     }
 }
 
@@ -150,20 +108,8 @@ fn print_named(out: Stdout, what: &[u8], scratch: &[u8], n: usize) {
 }
 
 fn print_attributes(out: Stdout, scratch: &[u8], spans: &[u32], k: usize) {
-    let mut j = 0;
-    while j < spans.len() / 4 {
-        if j == k {
-            return;
-        }
-        print_attribute(
-            out,
-            scratch,
-            spans[j * 4],
-            spans[j * 4 + 1],
-            spans[j * 4 + 2],
-            spans[j * 4 + 3],
-        );
-        j += 1;
+    for span in spans.chunks_exact(4).take(k) {
+        print_attribute(out, scratch, span[0], span[1], span[2], span[3]);
     }
 }
 
@@ -193,18 +139,15 @@ fn print_part(out: Stdout, scratch: &[u8], from: usize, n: usize) {
 // Between apostrophes, what is no letter, digit or mark of ASCII in hexadecimal.
 fn show(out: Stdout, s: &[u8]) {
     print(out, b"'");
-    let mut i = 0;
-    while i < s.len() {
-        show_byte(out, s[i]);
-        i += 1;
+    for b in s {
+        show_byte(out, *b);
     }
     print(out, b"'");
 }
 
 fn show_byte(out: Stdout, b: u8) {
-    if (b > 32) & (b < 127) {
-        let one = [b];
-        print(out, &one);
+    if b.is_ascii_graphic() {
+        print(out, &[b]);
         return;
     }
     print(out, b"<");
@@ -243,7 +186,7 @@ fn unended(out: Stdout) {
 // Where the first event of the first n bytes ends.
 fn print_front(out: Stdout, s: &[u8], n: usize, last: bool) {
     if n <= s.len() {
-        print_change(out, n, cut(&s[..n], last), 0);
+        print_change(out, n, cut(&s[..n], last), Ok(0));
     }
 }
 

@@ -285,8 +285,7 @@ fn add(text: &mut [u8], at: usize, s: &[u8]) -> usize {
 // ---- lines
 
 fn report(stdout: Stdout, what: &[u8], done: Report) {
-    let answer = done.answer;
-    line(stdout, what, answer.number());
+    line(stdout, what, done.number());
 }
 
 fn line(stdout: Stdout, what: &[u8], number: u8) {

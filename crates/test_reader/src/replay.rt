@@ -11,7 +11,7 @@ use spec::Mode;
 use state::Registers;
 use state_ids::IdTable;
 use std::fs::File;
-use std::io::{Read, Stdout};
+use std::io::Stdout;
 use std::rt::Files;
 
 // How a document ended: its state, the number of its last call, and whether its lines were the expected ones.
@@ -88,23 +88,8 @@ pub fn replay_file<R: Files + Eprint>(rt: &R, stdout: Stdout, path: &str, mode: 
         }
     };
     let mut text = file_buffer();
-    let n = read_full(&mut file, &mut text);
+    let n = streams::read_full(&mut file, &mut text);
     replay_all(stdout, &text[..n], mode)
-}
-
-// Reads until `buf` is full, the input ends or a read fails: how many bytes are at its front.
-fn read_full<R: Read>(from: &mut R, buf: &mut [u8]) -> usize
-    ensures { result ≤ length buf.new }
-{
-    let mut done = 0;
-    while done < buf.len() {
-        match from.read(&mut buf[done..]) {
-            Ok(0) => return done,
-            Ok(n) => done += n,
-            Err(_) => return done,
-        }
-    }
-    done
 }
 
 // A document from start to finish, or to its refusal.
@@ -123,8 +108,7 @@ pub fn run(
     let before = State::none();
     let report = reader::start(before, mode, based, base, work, ids);
     let state = report.state;
-    let answer = report.answer;
-    let number = answer.number();
+    let number = report.number();
     if number > 0 {
         return Ended {
             state,
@@ -147,6 +131,7 @@ pub fn go_on(
     ensures { Ends (length out.old) input.now expected.now (meaning_of state work.old ids.old) result work.new ids.new }
 {
     let mut way = Way::of(state);
+    // Events are as long as they are: `over` ends it.
     while !way.over {
         way = turn(way, input, expected, work, ids, out);
     }
@@ -190,12 +175,10 @@ pub fn part(s: &[u8], from: usize, to: usize) -> &[u8]
 pub fn line_after(s: &[u8], from: usize) -> usize
     ensures { Behind from s.now result }
 {
-    let mut i = from;
-    while i < s.len() {
+    for i in from..s.len() {
         if s[i] == b'\n' {
             return i + 1;
         }
-        i += 1;
     }
     s.len()
 }
@@ -228,6 +211,7 @@ fn replay_each(
     let mut at = 0;
     let mut count: usize = 0;
     let mut same: usize = 0;
+    // From document to document.
     while at < text.len() {
         let end = line_with(text, at, b'.');
         same += replay_document(stdout, part(text, at, end), mode, work, ids, out);
@@ -320,8 +304,7 @@ fn turn(
     let before = way.state;
     let left = part(input, way.at, input.len());
     let report = reader::step(before, work, ids, left, true, out);
-    let answer = report.answer;
-    let number = answer.number();
+    let number = report.number();
     if number == 0 {
         return advance(way, report, input.len(), expected, out);
     }
@@ -354,8 +337,7 @@ fn end(way: Way, state: State, work: &[u8], ids: &[u8]) -> Way
 {
     let report = reader::finish(state, work, ids);
     let state = report.state;
-    let answer = report.answer;
-    stop(way, state, answer.number())
+    stop(way, state, report.number())
 }
 
 fn stop(way: Way, state: State, number: u8) -> Way
@@ -365,9 +347,7 @@ fn stop(way: Way, state: State, number: u8) -> Way
         state,
         number,
         over: true,
-        at: way.at,
-        seen: way.seen,
-        same: way.same,
+        ..way
     }
 }
 
@@ -375,6 +355,7 @@ fn stop(way: Way, state: State, number: u8) -> Way
 fn line_with(s: &[u8], from: usize, mark: u8) -> usize
     ensures { Within from s.now result }
 {
+    // From line to line.
     let mut i = from;
     while i < s.len() {
         if s[i] == mark {
@@ -387,12 +368,10 @@ fn line_with(s: &[u8], from: usize, mark: u8) -> usize
 
 // Where the word that starts at `from` ends: before the first space or line end.
 fn word_end(s: &[u8], from: usize) -> usize {
-    let mut i = from;
-    while i < s.len() {
+    for i in from..s.len() {
         if s[i] <= b' ' {
             return i;
         }
-        i += 1;
     }
     s.len()
 }

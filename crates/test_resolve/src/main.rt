@@ -1,12 +1,9 @@
 // Replays the vectors of data/, each result on a line of its own, and then the bounds: no form, the room, the length.
 #![tactic(auto)]
 
-ghost use Rattle.std.specs.Prelude.{◌<◌, ◌≤◌, length};
-ghost use Rattle.test_resolve.specs.Line.{Line};
-
-use resolve::Resolved;
+use resolve::ResolveError;
 use std::fs::File;
-use std::io::{Read, Stdout};
+use std::io::Stdout;
 
 fn main(rt: HostRuntime) {
     let out = rt.stdout();
@@ -19,57 +16,26 @@ fn main(rt: HostRuntime) {
         }
     };
     let mut text = [0u8; 32768];
-    let n = read_full(&mut file, &mut text);
+    let n = streams::read_full(&mut file, &mut text);
     replay_all(out, &text[..n]);
     forms(out);
     rooms(out);
     lengths(out);
 }
 
-// Reads until `buf` is full, the input ends or a read fails: how many bytes are at its front.
-fn read_full<R: Read>(from: &mut R, buf: &mut [u8]) -> usize
-    ensures { result ≤ length buf.new }
-{
-    let mut done = 0;
-    while done < buf.len() {
-        match from.read(&mut buf[done..]) {
-            Ok(0) => return done,
-            Ok(n) => done += n,
-            Err(_) => return done,
-        }
-    }
-    done
-}
-
 fn replay_all(out: Stdout, text: &[u8]) {
-    let mut at: usize = 0;
-    while at < text.len() {
-        at += replay(out, &text[at..]);
+    for line in text.split_inclusive(|b| *b == b'\n') {
+        replay(out, line.strip_suffix(b"\n").unwrap_or(line));
     }
 }
 
-// The first line: base, tab, reference, tab, and what is not read here. The answer is the line's length with its end.
-fn replay(out: Stdout, text: &[u8]) -> usize
-    requires { 0 < length text.now }
-    ensures { Line text.now result }
-{
-    let n = copy::find(text, b'\n');
-    replay_line(out, &text[..n]);
-    if n < text.len() {
-        return n + 1;
+// Base, tab, reference, and behind a second tab what is not read here.
+fn replay(out: Stdout, line: &[u8]) {
+    let mut fields = line.split(|b| *b == b'\t');
+    if let (Some(base), Some(reference)) = (fields.next(), fields.next()) {
+        let mut area = [0u8; 2048];
+        show(out, base, reference, &mut area);
     }
-    n
-}
-
-fn replay_line(out: Stdout, line: &[u8]) {
-    let a = copy::find(line, b'\t');
-    if a == line.len() {
-        return;
-    }
-    let rest = &line[a + 1..];
-    let b = copy::find(rest, b'\t');
-    let mut area = [0u8; 2048];
-    show(out, &line[..a], &rest[..b], &mut area);
 }
 
 // A path that begins `//` without an authority before it, and with one.
@@ -106,16 +72,16 @@ fn lengths(out: Stdout) {
 
 fn show(out: Stdout, base: &[u8], reference: &[u8], area: &mut [u8]) {
     match resolve::resolve(base, reference, area) {
-        Resolved::Length(n) => {
-            print(out, &area[..n]);
+        Ok(resolved) => {
+            print(out, &area[..resolved.len]);
         }
-        Resolved::NoForm => {
+        Err(ResolveError::NoForm) => {
             print(out, b"(no form)");
         }
-        Resolved::TooLong => {
+        Err(ResolveError::TooLong) => {
             print(out, b"(too long)");
         }
-        Resolved::NoArea => {
+        Err(ResolveError::NoArea) => {
             print(out, b"(no area)");
         }
     }
@@ -125,16 +91,17 @@ fn show(out: Stdout, base: &[u8], reference: &[u8], area: &mut [u8]) {
 // As `show`, with the number of bytes for the text.
 fn count(out: Stdout, base: &[u8], reference: &[u8], area: &mut [u8]) {
     match resolve::resolve(base, reference, area) {
-        Resolved::Length(n) => {
+        Ok(resolved) => {
+            let n = resolved.len;
             let _ = print!(out; "{n}");
         }
-        Resolved::NoForm => {
+        Err(ResolveError::NoForm) => {
             print(out, b"(no form)");
         }
-        Resolved::TooLong => {
+        Err(ResolveError::TooLong) => {
             print(out, b"(too long)");
         }
-        Resolved::NoArea => {
+        Err(ResolveError::NoArea) => {
             print(out, b"(no area)");
         }
     }

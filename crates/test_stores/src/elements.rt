@@ -1,8 +1,7 @@
 // Open elements, bindings, held bytes and the work store filled to the last and one past, a Collection read back; the answers printed.
 use crate::printing::{answer, number};
 use spec::Mode;
-use state::Registers;
-use state_stack::Found;
+use state::{Registers, Span};
 use state_words::{Frame, Kind, Row};
 use std::io::Stdout;
 
@@ -29,18 +28,16 @@ fn started(based: bool, base: usize) -> Registers {
 fn deepest(out: Stdout) {
     let mut frames = [0u32; Frame::TABLE];
     let mut r = started(false, 0);
-    let mut n: usize = 0;
     let mut at: u32 = 0;
-    while n < 70 {
-        let c = state_stack::push(r, &mut frames, Kind::NodeElt, places(at), [0u32; 8], 0);
-        if !c.ok {
+    for n in 0..70 {
+        let pushed = state_stack::push(r, &mut frames, Kind::NodeElt, places(at), [0u32; 8], 0);
+        let Some(behind) = pushed else {
             number(out, b"open elements", n);
             answer(out, b"valid", is_valid(r, &frames));
             return;
-        }
-        r = c.registers;
+        };
+        r = behind;
         at = std::num::wrapping_add_u32(at, 2);
-        n += 1;
     }
 }
 
@@ -48,6 +45,7 @@ fn deepest(out: Stdout) {
 fn most_bindings(out: Stdout) {
     let mut bindings = [0u32; Row::BINDINGS];
     let mut work = [0u8; Registers::STORE];
+    // `n` is told behind the loop: how many went.
     let mut n: usize = 0;
     while n < 200 {
         if !state_stack::bind(&mut work, &mut bindings, n, n, b"", b"x") {
@@ -68,13 +66,13 @@ fn most_inside(out: Stdout) {
         Kind::ParseTypeLiteralPropertyElt,
         0,
     );
+    // `n` is told behind the loop: how many went.
     let mut n: usize = 0;
     while n < 70 {
-        let d = state_inner::open_inside(r, &mut inners, 65535 - n, 1, 0);
-        if !d.ok {
+        let Some(behind) = state_inner::open_inside(r, &mut inners, 65535 - n, 1, 0) else {
             break;
-        }
-        r = d.registers;
+        };
+        r = behind;
         n += 1;
     }
     number(out, b"inside", n);
@@ -86,17 +84,17 @@ fn held_texts(out: Stdout) {
     let mut work = [97u8; Registers::STORE];
     let mut frames = [0u32; Frame::TABLE];
     let r = in_node(&mut frames, Kind::PropertyElt);
-    let c = state_stack::set_text(r, &mut frames, &mut work, &[97u8; 49_148]);
+    let most = state_stack::set_text(r, &mut frames, &mut work, &[97u8; 49_148]).unwrap_or(r);
     answer(
         out,
         b"text of 49,148 may be held",
-        state_inner::holds_no_more(c.registers),
+        state_inner::holds_no_more(most),
     );
-    let d = state_stack::set_text(c.registers, &mut frames, &mut work, &[97u8; 49_149]);
+    let over = state_stack::set_text(most, &mut frames, &mut work, &[97u8; 49_149]).unwrap_or(most);
     answer(
         out,
         b"text of 49,149 may be held",
-        state_inner::holds_no_more(d.registers),
+        state_inner::holds_no_more(over),
     );
 }
 
@@ -105,12 +103,13 @@ fn stored_texts(out: Stdout) {
     let mut work = [97u8; Registers::STORE];
     let mut frames = [0u32; Frame::TABLE];
     let r = in_node(&mut frames, Kind::PropertyElt);
-    let c = state_stack::set_text(r, &mut frames, &mut work, &[97u8; 65_532]);
-    answer(out, b"text of 65,532 has room", c.ok);
-    answer(out, b"valid", is_valid(c.registers, &frames));
-    let d = state_stack::set_text(c.registers, &mut frames, &mut work, &[97u8; 65_533]);
-    answer(out, b"text of 65,533 has room", d.ok);
-    number(out, b"held", state_inner::held(d.registers));
+    let last = state_stack::set_text(r, &mut frames, &mut work, &[97u8; 65_532]);
+    answer(out, b"text of 65,532 has room", last.is_some());
+    let full = last.unwrap_or(r);
+    answer(out, b"valid", is_valid(full, &frames));
+    let more = state_stack::set_text(full, &mut frames, &mut work, &[97u8; 65_533]);
+    answer(out, b"text of 65,533 has room", more.is_some());
+    number(out, b"held", state_inner::held(more.unwrap_or(full)));
 }
 
 // ---- operations
@@ -132,16 +131,17 @@ fn children(out: Stdout) {
 // A node that closes as a child: is the state behind it valid?
 fn child(out: Stdout, r: Registers, frames: &mut [u32], work: &mut [u8], at: u32) -> Registers {
     let r = pushed(r, frames, Kind::NodeElt, at);
-    let c = state_stack::nodes::close_node(r, frames, work);
-    answer(out, b"closed", c.ok);
+    let closed = state_stack::nodes::close_node(r, frames, work);
+    answer(out, b"closed", closed.is_some());
+    let behind = closed.unwrap_or(r);
     let bindings = [0u32; Row::BINDINGS];
     let inners = [0u32; Row::INNERS];
     answer(
         out,
         b"valid",
-        state::valid(c.registers, frames, &bindings, &inners, work),
+        state::valid(behind, frames, &bindings, &inners, work),
     );
-    c.registers
+    behind
 }
 
 // A pop gives room back.
@@ -149,8 +149,8 @@ fn room_again(out: Stdout) {
     let mut frames = [0u32; Frame::TABLE];
     let r = in_node(&mut frames, Kind::PropertyElt);
     number(out, b"held", state_inner::held(r));
-    let c = state_stack::pop(r, &frames);
-    number(out, b"held", state_inner::held(c.registers));
+    let behind = state_stack::pop(r, &frames).unwrap_or(r);
+    number(out, b"held", state_inner::held(behind));
 }
 
 // ---- the rules
@@ -183,8 +183,8 @@ fn bases(out: Stdout) {
     number(out, b"base of", length_of(found));
 }
 
-fn length_of(f: Found) -> usize {
-    if f.there { f.len } else { 0 }
+fn length_of(found: Option<Span>) -> usize {
+    found.map_or(0, |span| span.len)
 }
 
 // By the rules, with no binding and a store of one letter?
@@ -204,8 +204,7 @@ fn in_node(frames: &mut [u32], kind: Kind) -> Registers {
 }
 
 fn pushed(r: Registers, frames: &mut [u32], kind: Kind, at: u32) -> Registers {
-    let c = state_stack::push(r, frames, kind, places(at), [0u32; 8], 0);
-    c.registers
+    state_stack::push(r, frames, kind, places(at), [0u32; 8], 0).unwrap_or(r)
 }
 
 // The places of an element with a name of one byte at `at`, and a main part of one byte behind it.

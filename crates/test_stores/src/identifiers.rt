@@ -1,7 +1,7 @@
 // The table of rdf:IDs at its bounds, printed: the last place and one more, the last byte and one more, and IDs that are there or not.
 use crate::printing::{answer, number};
 use resolve::Resolved;
-use state_ids::{Added, IdTable};
+use state_ids::{Filled, IdTable};
 use std::io::Stdout;
 
 pub fn try_all(out: Stdout) {
@@ -12,7 +12,7 @@ pub fn try_all(out: Stdout) {
 }
 
 // How many IDs there are, and how many bytes they have.
-fn write_numbers(out: Stdout, table: Added) {
+fn write_numbers(out: Stdout, table: Filled) {
     number(out, b"IDs", table.count);
     number(out, b"bytes", table.used);
 }
@@ -26,16 +26,16 @@ fn id_of(k: usize) -> [u8; Resolved::MOST_BYTES] {
 
 // The ID of a number, entered with its first `n` bytes.
 fn enter(
-    table: Added,
+    table: Filled,
     at: &mut [u32; IdTable::MOST],
     len: &mut [u32; IdTable::MOST],
     store: &mut [u8],
     k: usize,
     n: usize,
-) -> Added {
+) -> Option<Filled> {
     let id = id_of(k);
     if id.len() < n {
-        return table;
+        return None;
     }
     state_ids::add(table.count, table.used, at, len, store, &id[0..n])
 }
@@ -47,16 +47,10 @@ fn fill(
     store: &mut [u8],
     times: usize,
     n: usize,
-) -> Added {
-    let mut table = Added {
-        ok: true,
-        count: 0,
-        used: 0,
-    };
-    let mut k = 0;
-    while k < times {
-        table = enter(table, at, len, store, k, n);
-        k += 1;
+) -> Filled {
+    let mut table = Filled { count: 0, used: 0 };
+    for k in 0..times {
+        table = enter(table, at, len, store, k, n).unwrap_or(table);
     }
     table
 }
@@ -118,18 +112,21 @@ fn places(out: Stdout) {
     let mut at = empty.at;
     let mut len = empty.len;
     let mut store = [0u8; IdTable::BYTES];
-    let full = fill(&mut at, &mut len, &mut store, IdTable::MOST, 5);
-    answer(out, b"the last place", full.ok);
+    let most = fill(&mut at, &mut len, &mut store, IdTable::MOST - 1, 5);
+    let last = enter(most, &mut at, &mut len, &mut store, IdTable::MOST - 1, 5);
+    answer(out, b"the last place", last.is_some());
+    let full = last.unwrap_or(most);
     write_numbers(out, full);
     let more = enter(full, &mut at, &mut len, &mut store, IdTable::MOST, 5);
-    answer(out, b"one place more", more.ok);
-    write_numbers(out, more);
-    seek_numbers(out, more, &at, &len, &store);
+    answer(out, b"one place more", more.is_some());
+    let now = more.unwrap_or(full);
+    write_numbers(out, now);
+    seek_numbers(out, now, &at, &len, &store);
 }
 
 fn seek_numbers(
     out: Stdout,
-    table: Added,
+    table: Filled,
     at: &[u32; IdTable::MOST],
     len: &[u32; IdTable::MOST],
     store: &[u8],
@@ -182,21 +179,24 @@ fn bytes(out: Stdout) {
         &mut store,
         31,
         Resolved::MOST_BYTES - 1,
-    );
+    )
+    .unwrap_or(most);
     write_numbers(out, short);
     let over = enter(short, &mut at, &mut len, &mut store, 32, 2);
-    answer(out, b"two bytes where one is left", over.ok);
-    let full = enter(over, &mut at, &mut len, &mut store, 33, 1);
-    answer(out, b"the last byte", full.ok);
+    answer(out, b"two bytes where one is left", over.is_some());
+    let now = over.unwrap_or(short);
+    let last = enter(now, &mut at, &mut len, &mut store, 33, 1);
+    answer(out, b"the last byte", last.is_some());
+    let full = last.unwrap_or(now);
     write_numbers(out, full);
     let more = enter(full, &mut at, &mut len, &mut store, 34, 1);
-    answer(out, b"one byte more", more.ok);
-    seek_lengths(out, more, &at, &len, &store);
+    answer(out, b"one byte more", more.is_some());
+    seek_lengths(out, more.unwrap_or(full), &at, &len, &store);
 }
 
 fn seek_lengths(
     out: Stdout,
-    table: Added,
+    table: Filled,
     at: &[u32; IdTable::MOST],
     len: &[u32; IdTable::MOST],
     store: &[u8],

@@ -15,15 +15,11 @@ fn write_line(out: Stdout, s: &[u8]) {
 }
 
 // The next label, or that there is none.
-fn write_label(out: Stdout, generator: BlankNodeIdGenerator) {
-    let made = generator.generate();
-    if !made.ok {
-        write_line(out, b"spent");
-        return;
+fn write_label(out: Stdout, mut generator: BlankNodeIdGenerator) {
+    match generator.generate() {
+        Some(label) => write_line(out, &label.id),
+        None => write_line(out, b"spent"),
     }
-    let label = made.id;
-    let id = label.id;
-    write_line(out, &id);
 }
 
 fn write_decimal(out: Stdout, v: u64) {
@@ -42,9 +38,10 @@ fn write_answer(out: Stdout, answer: bool) {
 }
 
 fn labels(out: Stdout) {
-    let first = BlankNodeIdGenerator::new();
-    write_label(out, first);
-    write_label(out, first.generate().generator);
+    let mut generator = BlankNodeIdGenerator::new();
+    write_label(out, generator);
+    let _ = generator.generate();
+    write_label(out, generator);
     write_label(out, BlankNodeIdGenerator { counter: 99 });
     write_label(
         out,

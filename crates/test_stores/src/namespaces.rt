@@ -110,10 +110,8 @@ fn attribute(out: Stdout, classes: &[usize], j: usize) {
 fn tag(out: Stdout, k: usize, n: usize) {
     let mut classes = [0usize; 21];
     start_names::classify(&TAG, &SPANS, k, &WORK, &ROWS, n, &mut classes);
-    let mut j = 0;
-    while j < k {
+    for j in 0..k {
         attribute(out, &classes, j);
-        j += 1;
     }
     answer(
         out,

@@ -1,49 +1,32 @@
 // Answers of the crate utils for the bytes on each line of the input, written as pairs of hexadecimal digits with one byte between them.
 #![tactic(auto)]
 
-ghost use Rattle.std.specs.Prelude.{◌<◌, ◌≤◌, length};
+ghost use Rattle.std.specs.Prelude.{◌<◌};
 
-use std::io::{Read, Stdout};
+use std::io::Stdout;
 use utils::{Decoded, Name};
 
 fn main(rt: HostRuntime) {
     let mut input = [0u8; 65536];
-    let n = read_full(&mut rt.stdin(), &mut input);
+    let n = streams::read_full(&mut rt.stdin(), &mut input);
     report(rt.stdout(), b"");
     report_lines(rt.stdout(), &input[..n]);
-}
-
-// Reads until `buf` is full, the input ends or a read fails: how many bytes are at its front.
-fn read_full<R: Read>(from: &mut R, buf: &mut [u8]) -> usize
-    ensures { result ≤ length buf.new }
-{
-    let mut done = 0;
-    while done < buf.len() {
-        match from.read(&mut buf[done..]) {
-            Ok(0) => return done,
-            Ok(n) => done += n,
-            Err(_) => return done,
-        }
-    }
-    done
 }
 
 // Each line's bytes are gathered, at most 32.
 fn report_lines(out: Stdout, input: &[u8]) {
     let mut bytes = [0u8; 32];
     let mut n = 0;
-    let mut i = 0;
-    while i + 2 < input.len() {
-        if n == 32 {
+    for pair in input.chunks_exact(3) {
+        if n == bytes.len() {
             return;
         }
-        bytes[n] = digit(input[i]) * 16 + digit(input[i + 1]);
+        bytes[n] = digit(pair[0]) * 16 + digit(pair[1]);
         n += 1;
-        if input[i + 2] == b'\n' {
+        if pair[2] == b'\n' {
             report(out, &bytes[..n]);
             n = 0;
         }
-        i += 3;
     }
 }
 
@@ -65,11 +48,9 @@ fn report(out: Stdout, s: &[u8]) {
 }
 
 fn print_bytes(out: Stdout, s: &[u8]) {
-    let mut i = 0;
-    while i < s.len() {
-        print_hex(out, as_u64(s[i]), 2);
+    for b in s {
+        print_hex(out, u64::from(*b), 2);
         print(out, b" ");
-        i += 1;
     }
 }
 
@@ -85,9 +66,9 @@ fn print_first(out: Stdout, s: &[u8]) {
 
 fn print_malformed(out: Stdout, s: &[u8]) {
     print(out, b"malformed");
-    if 0 < s.len() {
+    if let Some(first) = s.first() {
         print(out, b", leading ones ");
-        print_decimal(out, utils::sequence_length(s[0]) as u64);
+        print_decimal(out, utils::sequence_length(*first) as u64);
     }
 }
 
@@ -131,8 +112,4 @@ fn print_decimal(out: Stdout, n: u64) {
 
 fn print_hex(out: Stdout, n: u64, width: usize) {
     let _ = print!(out; "{n:0width$x}");
-}
-
-fn as_u64(b: u8) -> u64 {
-    b as u64
 }

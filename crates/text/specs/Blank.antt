@@ -13,23 +13,24 @@ use Rattle.state.specs.declared.Registers.{Registers}
 use Rattle.state.specs.Meaning.{elements_of, doc_of}
 use Rattle.state.specs.Valid.{Valid}
 use Rattle.state_inner.specs.Calls.{held_in}
-use Rattle.event.specs.declared.Outcome.{Outcome}
-use Rattle.event.specs.declared.Outcome.TheVariants.{Stop, Did}
 use Rattle.event.specs.declared.Place.{Place}
 use Rattle.event.specs.declared.Place.TheVariants.{Outside, Nodes, Properties, Xml}
 use Rattle.event.specs.Place.{place_at, place_is, place_read}
 use Rattle.event.specs.Result.{Asks}
 use Rattle.literal.specs.Quiet.{Quietly, Quiet, held_with_lem, holds_self, quiet_refused, quiet_over, quiet_done}
+use Rattle.std.specs.Prelude.{Result, Ok, Err}
+use Rattle.event.specs.declared.Done.{Done}
+use Rattle.spec.specs.declared.Refusal.{Refusal}
 
 -- o is the outcome of an event that changes nothing
-pub record Unchanged (r : Registers) (o : Outcome) : Type 0 where
+pub record Unchanged (r : Registers) (o : Result Done Refusal) : Type 0 where
   pub quietly : {e : Event} {fs bs is w : List ℕ} → Asks r fs bs is w → Quiet e r fs bs is w (elements_of r fs bs is w) → Quietly e r o fs bs is w fs bs is w
 
 module _ (r : Registers) where
-  pub unchanged_over : 49_152 < held_in r → Unchanged r (Stop OverLimit)
+  pub unchanged_over : 49_152 < held_in r → Unchanged r (Err OverLimit)
   unchanged_over l = record { quietly = λ a q. quiet_over q (rw (held_with_lem (holds_self a.valid)) at l) }
 
-  pub unchanged_done : held_in r ≤ 49_152 → Unchanged r (Did (record { written = 0; registers = r }))
+  pub unchanged_done : held_in r ≤ 49_152 → Unchanged r (Ok (record { written = 0; registers = r }))
   unchanged_done l = record { quietly = λ a q. quiet_done q a (rw (held_with_lem (holds_self a.valid)) at l) (holds_self a.valid) a.mark }
 
 -- may only blank text stand here?
@@ -39,7 +40,7 @@ pub data Bare : D.Place → Type 0 where
   properties : {s : Subject} {n : ℕ} → Bare (D.properties s n)
 
 -- o is the outcome of text s in such a place
-pub record BlankOnly (r : Registers) (s : Bytes) (o : Outcome) : Type 0 where
+pub record BlankOnly (r : Registers) (s : Bytes) (o : Result Done Refusal) : Type 0 where
   pub quietly : {fs bs is w : List ℕ} → Asks r fs bs is w → Bare (place_in (elements_of r fs bs is w)) → Quietly (text s) r o fs bs is w fs bs is w
 
 bare-text : {p : D.Place} → Bare p → (s : Bytes) (d : D.Doc) → on_text p s d ≡ ((require is_blank s or StrayText) >> good ([], d))
@@ -50,11 +51,11 @@ bare-text properties s d = refl
 
 module _ {r : Registers} (s : Bytes) where
   -- 16
-  pub blank_stray : is_blank s ≡ false → BlankOnly r s (Stop StrayText)
+  pub blank_stray : is_blank s ≡ false → BlankOnly r s (Err StrayText)
   unfolding on_event doc_of require◌or◌ ◌>>◌
   blank_stray h = record { quietly = λ a b. quiet_refused (λ ids. bare-text b s _ ∙ rw h) }
 
-  pub blank_stays : {o : Outcome} → is_blank s ≡ true → Unchanged r o → BlankOnly r s o
+  pub blank_stays : {o : Result Done Refusal} → is_blank s ≡ true → Unchanged r o → BlankOnly r s o
   unfolding on_event doc_of require◌or◌ ◌>>◌ with_frames
   blank_stays h u = record { quietly = λ a b. u.quietly a (record { step = λ ids. bare-text b s _ ∙ rw h }) }
 

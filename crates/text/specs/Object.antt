@@ -23,19 +23,19 @@ use Rattle.state.specs.declared.Registers.{Registers}
 use Rattle.state.specs.Meaning.{at, start_of, elements_of, doc_of}
 use Rattle.state.specs.Valid.{Valid, rising}
 use Rattle.state.specs.Held.{room}
-use Rattle.state_stack.specs.declared.Changed.{Changed}
 use Rattle.state_stack.specs.Calls.{top_frame, same_kind, tail_to, Texts, may_tail}
 use Rattle.state_stack.specs.Change.{topped_to, top_frame_lem}
 use Rattle.state_stack.specs.Laws.{by, text-holds, topmost, top_deep, length_at, length_has}
 use Rattle.state_inner.specs.Calls.{held_in, held_wild, held_is}
 use Rattle.event.specs.declared.Place.{Place}
 use Rattle.event.specs.declared.Place.TheVariants.{Outside, Nodes, Properties, NodesOrText, Xml}
-use Rattle.event.specs.declared.Outcome.{Outcome}
-use Rattle.event.specs.declared.Outcome.TheVariants.{Stop, Did}
 use Rattle.event.specs.Place.{place_of, place_at, place_is, place_read}
 use Rattle.event.specs.Result.{Asks}
 use Rattle.literal.specs.Quiet.{Quietly, Quiet, held_with, held_with_lem, quiet_over, quiet_done}
 use Rattle.text.specs.Blank.{Unchanged}
+use Rattle.std.specs.Prelude.{Option, Some, unwrap_or, Result, Ok, Err}
+use Rattle.event.specs.declared.Done.{Done}
+use Rattle.spec.specs.declared.Refusal.{Refusal}
 
 -- ---- in the definitions
 
@@ -142,7 +142,7 @@ module _ {r : Registers} {fs bs is w : List ℕ} (v : Valid r fs bs is w) (k : s
       )
 
   -- the same state with an empty text in place of the object
-  emptied : Texts r fs w [] (record { ok = true; registers = topped_to r (at (top_frame r fs) TAIL + 0) })
+  emptied : Texts r fs w [] (Some (topped_to r (at (top_frame r fs) TAIL + 0)))
       (stored_at fs ((r.counts.depth - 1) * FRAME) (words_of (tail_to (top_frame r fs) (at (top_frame r fs) TAIL + 0) 3))) (stored_at w (at (top_frame r fs) TAIL) [])
   emptied =
       let b = bottom in
@@ -213,7 +213,7 @@ module _ (r : Registers) where
 -- ---- how `take_text` comes to its answer
 
 -- o is the outcome of text s in a default property
-pub record TakesText (r : Registers) (fs w : List ℕ) (s : Bytes) (o : Outcome) (fs' w' : List ℕ) : Type 0 where
+pub record TakesText (r : Registers) (fs w : List ℕ) (s : Bytes) (o : Result Done Refusal) (fs' w' : List ℕ) : Type 0 where
   pub quietly : {bs is : List ℕ} → Asks r fs bs is w → place_at r fs ≡ NodesOrText → Quietly (text s) r o fs bs is w fs' bs is w'
 
 -- the place in the definitions' words
@@ -245,15 +245,15 @@ weighed {r} {fs} {bs} {is} {w} s v p =
     record { fits = λ m. absurd (omega arith); over = λ m. omega arith; low = λ m. absurd (omega arith) })
 
 module _ {r : Registers} {fs w : List ℕ} {s : Bytes} where
-  pub text_blank : {o : Outcome} → is_blank s ≡ true → Unchanged r o → TakesText r fs w s o fs w
+  pub text_blank : {o : Result Done Refusal} → is_blank s ≡ true → Unchanged r o → TakesText r fs w s o fs w
   text_blank h u = record { quietly = λ a p. u.quietly a (blank_quiet s (stands a.valid p) h) }
 
   module _ (h : is_blank s ≡ false) where
-    pub text_over : 49_152 < held_in (text_to r fs (length s)) → TakesText r fs w s (Stop OverLimit) fs w
+    pub text_over : 49_152 < held_in (text_to r fs (length s)) → TakesText r fs w s (Err OverLimit) fs w
     text_over l = record { quietly = λ a p. quiet_over (text_quiet s (stands a.valid p) h) ((weighed s a.valid p).over l) }
 
-    pub text_done : {c : Changed} {fs' w' : List ℕ} → held_in (text_to r fs (length s)) ≤ 49_152 → Texts r fs w s c fs' w'
-        → TakesText r fs w s (Did (record { written = 0; registers = c.registers })) fs' w'
+    pub text_done : {c : Option Registers} {fs' w' : List ℕ} → held_in (text_to r fs (length s)) ≤ 49_152 → Texts r fs w s c fs' w'
+        → TakesText r fs w s (Ok (record { written = 0; registers = unwrap_or c r })) fs' w'
     text_done {c} {fs'} {w'} l q =
         record {
           quietly =

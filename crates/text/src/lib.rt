@@ -11,7 +11,7 @@ ghost use Rattle.text.specs.Blank.{Unchanged, BlankOnly};
 ghost use Rattle.text.specs.Object.{TakesText, text_to};
 
 use copy::words::wide;
-use event::{Done, Outcome, Place};
+use event::{Done, Place};
 use spec::Refusal;
 use state::Registers;
 use state_words::Frame;
@@ -25,7 +25,7 @@ pub fn parse_text_event(
     work: &mut [u8],
     area: &mut [u8],
     s: &[u8],
-) -> Outcome
+) -> Result<Done, Refusal>
     requires { Asks r frames.old bindings.now inners.now work.old × (most_held_bytes ≤ length area.old) }
     ensures { Quietly (text s.now) r result frames.old bindings.now inners.now work.old frames.new bindings.now inners.now work.new }
 {
@@ -40,41 +40,40 @@ pub fn parse_text_event(
 }
 
 // An event that changes nothing: what is held already may be too much.
-pub fn unchanged(r: Registers) -> Outcome
+pub fn unchanged(r: Registers) -> Result<Done, Refusal>
     ensures { Unchanged r result }
 {
     if !state_inner::holds_no_more(r) {
-        return Outcome::Stop(Refusal::OverLimit);
+        return Err(Refusal::OverLimit);
     }
-    Outcome::Did(Done {
+    Ok(Done {
         written: 0,
         registers: r,
     })
 }
 
 // Text where only blank text may stand.
-fn blank_only(r: Registers, s: &[u8]) -> Outcome
+fn blank_only(r: Registers, s: &[u8]) -> Result<Done, Refusal>
     ensures { BlankOnly r s.now result }
 {
     if !utils::is_blank(s) {
-        return Outcome::Stop(Refusal::StrayText);
+        return Err(Refusal::StrayText);
     }
     unchanged(r)
 }
 
 // Text in a default property, in place of the object so far unless it is blank.
-fn take_text(r: Registers, frames: &mut [u32], work: &mut [u8], s: &[u8]) -> Outcome
+fn take_text(r: Registers, frames: &mut [u32], work: &mut [u8], s: &[u8]) -> Result<Done, Refusal>
     ensures { TakesText r frames.old work.old s.now result frames.new work.new }
 {
     if utils::is_blank(s) {
         return unchanged(r);
     }
     if !text_fits(r, frames, s.len()) {
-        return Outcome::Stop(Refusal::OverLimit);
+        return Err(Refusal::OverLimit);
     }
-    let c = state_stack::set_text(r, frames, work, s);
-    let behind = c.registers;
-    Outcome::Did(Done {
+    let behind = state_stack::set_text(r, frames, work, s).unwrap_or(r);
+    Ok(Done {
         written: 0,
         registers: behind,
     })

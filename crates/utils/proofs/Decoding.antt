@@ -15,7 +15,7 @@ use Rattle.spec.specs.Bytes.{Bytes, when◌then◌else◌, between, every}
 use Rattle.spec.specs.Utf8.{leading_ones, goes_on, fits, joined, value, least, is_scalar, characters}
 use Rattle.utils.specs.declared.Decoded.{Decoded}
 use Rattle.utils.specs.declared.Decoded.TheVariants.{End, Character, Malformed}
-use Rattle.utils.specs.declared.Joined.TheVariants.{Broken, Value}
+use Rattle.std.specs.Prelude.{Some, None}
 use Rattle.utils.specs.Decoding.{Front, Stuck, Decodes, Begins, joins}
 use Rattle.utils.proofs.Tools.{clash}
 use Rattle.utils.proofs.Utf8.{size, size_high, fits-size, ones_high, Fit, one, several, fits_fit, Good, Sequence, sequence_alone, alone_sequence, no_bytes}
@@ -23,19 +23,19 @@ use Rattle.utils.proofs.Front.{front_some}
 
 -- ---- the bytes that go on
 
-pub joins_broken : (bits : ℕ) (s : Bytes) → Broken ≡ joins bits s → every goes_on s ≡ false
+pub joins_broken : (bits : ℕ) (s : Bytes) → None ≡ joins bits s → every goes_on s ≡ false
 unfolding joins when◌then◌else◌
 joins_broken bits s e = by (every goes_on s) e
   where
-    by : (t : Bool) → Broken ≡ (when t then Value (joined bits s) else Broken) → t ≡ false
+    by : (t : Bool) → None ≡ (when t then Some (joined bits s) else None) → t ≡ false
     by true e = absurd (clash (cc))
     by false e = refl
 
-pub joins-value : (bits : ℕ) (s : Bytes) {c : ℕ} → Value c ≡ joins bits s → (every goes_on s ≡ true) × (c ≡ joined bits s)
+pub joins-value : (bits : ℕ) (s : Bytes) {c : ℕ} → Some c ≡ joins bits s → (every goes_on s ≡ true) × (c ≡ joined bits s)
 unfolding joins when◌then◌else◌
 joins-value bits s {c} e = by (every goes_on s) e
   where
-    by : (t : Bool) → Value c ≡ (when t then Value (joined bits s) else Broken) → (t ≡ true) × (c ≡ joined bits s)
+    by : (t : Bool) → Some c ≡ (when t then Some (joined bits s) else None) → (t ≡ true) × (c ≡ joined bits s)
     by true e = (refl, cc)
     by false e = absurd (clash (cc))
 
@@ -65,7 +65,7 @@ module _ {bits v i : ℕ} {s : Bytes} (j : Joining bits s v i) where
   pub joining_small : i < length s → length s ≤ 3 → v < 131072
   joining_small h l = omega (arith, room_small i (omega arith), j.below)
 
-  pub joining_broken : i < length s → goes_on (get_or s i 0) ≡ false → Broken ≡ joins bits s
+  pub joining_broken : i < length s → goes_on (get_or s i 0) ≡ false → None ≡ joins bits s
   unfolding joins every when◌then◌else◌
   joining_broken h e = sym (j.rest ∙ rw (drop-cons s i 0 h, e))
 
@@ -75,7 +75,7 @@ module _ {bits v i : ℕ} {s : Bytes} (j : Joining bits s v i) where
       let swap : v * 64 ≡ 64 * v = omega arith in
       record { within = omega arith; rest = j.rest ∙ rw (drop-cons s i 0 h, e, add-one i, swap); below = rw (add-one i) (omega (arith, j.below)) }
 
-  pub joining_done : length s ≤ i → Value v ≡ joins bits s
+  pub joining_done : length s ≤ i → Some v ≡ joins bits s
   unfolding joins every joined when◌then◌else◌
   joining_done h = sym (j.rest ∙ rw (drop_of_length-le s h))
 

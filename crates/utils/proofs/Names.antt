@@ -6,7 +6,7 @@ use Prim.Native.Nat.{ℕ, zero, suc, ◌+◌, ◌<◌, ◌≤◌}
 use native.Mathlib.Omega.{arith}
 use native.Mathlib.Numerals.{add-one}
 use lib.Dec.{eqb, leb}
-use lib.ListN.{length, take, drop, get_or, drop_of_length-le}
+use lib.ListN.{length, take, drop, get_or}
 use lib.Seq.{drop-cons}
 use borrow.Author.Tests.{le-leb, lt-leb, ne_eqb, eqb-true, eqb-false}
 use Rattle.spec.specs.Bytes.{Bytes, ascii, byte, when◌then◌else◌, after, among, up_to, from, every, between, in_ranges}
@@ -17,11 +17,11 @@ use Rattle.utils.specs.declared.Name.{Name}
 use Rattle.utils.specs.declared.Name.TheVariants.{NotName, Local, Prefixed}
 use Rattle.utils.specs.Decoding.{Front, Stuck}
 use Rattle.utils.specs.Names.{name_of, other, starts_nc, goes_on_nc, is_nc_rest}
-use Rattle.utils.specs.Walking.{Steps}
+use Rattle.utils.specs.Walking.{Step}
 use Rattle.utils.proofs.Tools.{clash, or-false, and-true, and-false, and_shuffle}
 use Rattle.utils.proofs.Utf8.{take_up_to}
 use Rattle.utils.proofs.Front.{front_holds, front_every, front_bytes, stuck_fails, empty_holds}
-use Rattle.utils.proofs.Walking.{ByCharacter, steps_more, steps_fail}
+use Rattle.utils.proofs.Walking.{ByCharacter, steps_more}
 
 -- ---- characters
 
@@ -91,19 +91,19 @@ nc_front {c} {n} {s} f =
     (and_shuffle (is_name_start c) (as_characters (every is_name_char) (drop n s)) (other c) (no_colon (drop n s)))
 
 module _ {c n : ℕ} {s : Bytes} (f : Front c n s) where
-  pub nc_starts : starts_nc c ≡ true → Steps is_nc_name is_nc_rest n s
+  pub nc_starts : starts_nc c ≡ true → Step is_nc_name is_nc_rest n s
   nc_starts e = steps_more f (nc_front f ∙ rw e)
 
-  pub nc_fails : starts_nc c ≡ false → Steps is_nc_name is_nc_rest 0 s
-  nc_fails e = steps_fail (nc_front f ∙ rw e)
+  pub nc_fails : starts_nc c ≡ false → is_nc_name s ≡ false
+  nc_fails e = nc_front f ∙ rw e
 
-pub nc_stuck : {s : Bytes} → Stuck s → Steps is_nc_name is_nc_rest 0 s
+pub nc_stuck : {s : Bytes} → Stuck s → is_nc_name s ≡ false
 unfolding is_nc_name
-nc_stuck h = steps_fail (rw (stuck_fails is_name h))
+nc_stuck h = rw (stuck_fails is_name h)
 
-pub nc_empty : (s : Bytes) → length s ≡ 0 → Steps is_nc_name is_nc_rest 0 s
+pub nc_empty : (s : Bytes) → length s ≡ 0 → is_nc_name s ≡ false
 unfolding is_nc_name is_name
-nc_empty s h = steps_fail (rw (empty_holds is_name s h))
+nc_empty s h = rw (empty_holds is_name s h)
 
 -- ---- the first colon
 
@@ -111,28 +111,14 @@ nc_empty s h = steps_fail (rw (empty_holds is_name s h))
 abbrev pub before : Bytes → ℕ
 before s = length (up_to (among (ascii ":")) s)
 
--- i bytes are passed, with no colon among them
-pub record Scanned (s : Bytes) (i : ℕ) : Type 0 where
-  pub within : i ≤ length s
-  pub counted : before s ≡ i + before (drop i s)
-
-pub scanned_begins : (s : Bytes) → Scanned s 0
-scanned_begins s = record { within = omega arith; counted = omega arith }
-
-module _ {s : Bytes} {i : ℕ} (w : Scanned s i) where
-  pub scanned_colon : i < length s → get_or s i 0 ≡ 0x3A → i ≡ before s
-  unfolding up_to among ascii when◌then◌else◌
-  scanned_colon h e = let z : before (drop i s) ≡ 0 = rw (drop-cons s i 0 h, e) in omega (arith, w.counted)
-
-  pub scanned_more : i < length s → (get_or s i 0 ≡ 0x3A → ⊥) → Scanned s (i + 1)
-  unfolding up_to among ascii when◌then◌else◌
-  scanned_more h n =
-      let z : before (drop i s) ≡ suc (before (drop (i + 1) s)) = rw (drop-cons s i 0 h, ne_eqb 0x3A (get_or s i 0) (λ e. n (sym e)), add-one i) in
-      record { within = omega arith; counted = omega (arith, w.counted) }
-
-  pub scanned_done : length s ≤ i → i ≡ before s
-  unfolding up_to
-  scanned_done h = let z : before (drop i s) ≡ 0 = rw (drop_of_length-le s h) in omega (arith, w.counted)
+pub found_before : (s : Bytes) → length (up_to (λ c. eqb c 58) s) ≡ before s
+unfolding up_to among ascii when◌then◌else◌
+found_before [] = refl
+found_before (b ∷ s) = by (eqb b 58) refl (found_before s)
+  where
+    by : (t : Bool) → eqb b 58 ≡ t → length (up_to (λ c. eqb c 58) s) ≡ before s → length (up_to (λ c. eqb c 58) (b ∷ s)) ≡ before (b ∷ s)
+    by true e q = rw (eqb-true b 58 e)
+    by false e q = rw (e, ne_eqb 58 b (λ d. eqb-false b 58 e (sym d))) (omega (arith, q))
 
 -- ---- names with a colon, and without
 

@@ -18,7 +18,7 @@ use Rattle.spec.proofs.Booleans.{and_left, and_right, or_cases}
 use Rattle.utils.specs.Decoding.{Front}
 use Rattle.utils.specs.Names.{other, starts_nc, goes_on_nc, PlainPart}
 use Rattle.utils.specs.Plain.{plain, plain_text, printable}
-use Rattle.utils.specs.Walking.{Walked, Steps}
+use Rattle.utils.specs.Walking.{Walked, Step}
 use Rattle.utils.proofs.Tools.{and-true, and_assoc}
 use Rattle.utils.proofs.Front.{every_append}
 use Rattle.utils.proofs.Decoding.{front_one}
@@ -78,13 +78,13 @@ unfolding printable byte
 plain-printable b e = plain_high b (leb-true 32 b (and_left (leb 32 b) (ltb b 128) e)) (ltb-true b 128 (and_right (leb 32 b) (ltb b 128) e))
 
 module _ {f : Bytes → Bool} {p : ℕ → Bool} (b : ByCharacter f p) where
-  plain-steps : {s : Bytes} → 0 < length s → plain p (get_or s 0 0) ≡ true → Steps f f 1 s
+  plain-steps : {s : Bytes} → 0 < length s → plain p (get_or s 0 0) ≡ true → Step f f 1 s
   plain-steps l h = let q = plain_front p l h in step_passes b q.0 q.1
 
   -- one byte passed
   pub walked_plain : {s : Bytes} {i : ℕ} → Walked f s i → i < length s → plain p (get_or s i 0) ≡ true → Walked f s (i + 1)
   walked_plain {s} {i} w l h =
-      walked_more w (plain-steps (omega (arith, length-drop i s)) (rw (get_or-drop i s 0 0, add-zero) h)) (λ z. omega arith)
+      walked_more w (plain-steps (omega (arith, length-drop i s)) (rw (get_or-drop i s 0 0, add-zero) h))
 
   -- a block of n bytes passed at once, by a test that only plain bytes pass
   module _ (q : ℕ → Bool) (only : (a : ℕ) → q a ≡ true → plain p a ≡ true) where
@@ -92,7 +92,7 @@ module _ {f : Bytes → Bool} {p : ℕ → Bool} (b : ByCharacter f p) where
     unfolding every
     past [] t h = refl
     past (a ∷ s) t h =
-        (plain-steps {s = a ∷ (s ++ t)} (omega arith) (only a (and_left (q a) (every q s) h))).rest (omega arith)
+        (plain-steps {s = a ∷ (s ++ t)} (omega arith) (only a (and_left (q a) (every q s) h))).rest
         ∙ past s t (and_right (q a) (every q s) h)
 
     pub walked_block : (n : ℕ) {s : Bytes} {i : ℕ} → Walked f s i → i + n ≤ length s → every q (take n (drop i s)) ≡ true → Walked f s (i + n)
@@ -172,4 +172,4 @@ part_start (a ∷ t) b h e = part_on b h (omega arith) (plain_starts_on b e)
 pub part-name : {t : Bytes} → PlainPart t → 0 < length t → is_nc_name t ≡ true
 part-name {t} h l =
     let q = plain_front starts_nc l (h.starts l) in
-    (nc_starts q.0 q.1).rest (omega arith) ∙ past_all rest_by (plain goes_on_nc) (λ a e. e) (drop 1 t) (every_drop (plain goes_on_nc) 1 t h.on)
+    (nc_starts q.0 q.1).rest ∙ past_all rest_by (plain goes_on_nc) (λ a e. e) (drop 1 t) (every_drop (plain goes_on_nc) 1 t h.on)

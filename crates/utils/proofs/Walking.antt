@@ -9,7 +9,7 @@ use lib.Seq.{drop-cons, drop-drop, take-length}
 use Rattle.spec.specs.Bytes.{Bytes, every}
 use Rattle.spec.specs.Utf8.{as_characters}
 use Rattle.utils.specs.Decoding.{Front, Stuck}
-use Rattle.utils.specs.Walking.{Walked, Steps}
+use Rattle.utils.specs.Walking.{Walked, Step}
 use Rattle.utils.proofs.Front.{front_some, front_every, stuck_fails, empty_holds}
 
 -- a part up to the end
@@ -48,33 +48,30 @@ every_by p = record { empty = empty_holds (every p); front = λ f. front_every p
 
 -- ---- a step: the first character passes, or the test fails
 
-pub steps_more : {f g : Bytes → Bool} {c n : ℕ} {s : Bytes} → Front c n s → f s ≡ g (drop n s) → Steps f g n s
-steps_more h e = record { within = h.within; fails = λ z. absurd (omega (arith, front_some h)); rest = λ _. e }
-
-pub steps_fail : {f g : Bytes → Bool} {s : Bytes} → f s ≡ false → Steps f g 0 s
-steps_fail e = record { within = omega arith; fails = λ _. e; rest = λ l. absurd (omega arith) }
+pub steps_more : {f g : Bytes → Bool} {c n : ℕ} {s : Bytes} → Front c n s → f s ≡ g (drop n s) → Step f g n s
+steps_more h e = record { some = front_some h; within = h.within; rest = e }
 
 module _ {f : Bytes → Bool} {p : ℕ → Bool} (b : ByCharacter f p) {s : Bytes} where
-  pub step_passes : {c n : ℕ} → Front c n s → p c ≡ true → Steps f f n s
+  pub step_passes : {c n : ℕ} → Front c n s → p c ≡ true → Step f f n s
   step_passes h e = steps_more h (b.front h ∙ rw e)
 
-  pub step_fails : {c n : ℕ} → Front c n s → p c ≡ false → Steps f f 0 s
-  step_fails h e = steps_fail (b.front h ∙ rw e)
+  pub step_fails : {c n : ℕ} → Front c n s → p c ≡ false → f s ≡ false
+  step_fails h e = b.front h ∙ rw e
 
-  pub step_stuck : Stuck s → Steps f f 0 s
-  step_stuck h = steps_fail (b.stuck h)
+  pub step_stuck : Stuck s → f s ≡ false
+  step_stuck h = b.stuck h
 
 -- ---- the loops
 
 module _ {f : Bytes → Bool} {s : Bytes} {i : ℕ} (w : Walked f s i) where
-  pub walked_within : {n : ℕ} → Steps f f n (drop i s) → i + n ≤ length s
+  pub walked_within : {n : ℕ} → Step f f n (drop i s) → i + n ≤ length s
   walked_within h = omega (arith, h.within, length-drop i s, w.within)
 
-  pub walked_fails : {n : ℕ} → Steps f f n (drop i s) → n ≡ 0 → false ≡ f s
-  walked_fails h z = sym (w.rest ∙ h.fails z)
+  pub walked_fails : f (drop i s) ≡ false → false ≡ f s
+  walked_fails h = sym (w.rest ∙ h)
 
-  pub walked_more : {n : ℕ} → Steps f f n (drop i s) → (n ≡ 0 → ⊥) → Walked f s (i + n)
-  walked_more {n} h l = record { within = walked_within h; rest = w.rest ∙ h.rest (omega arith) ∙ rw (drop-drop n i s) }
+  pub walked_more : {n : ℕ} → Step f f n (drop i s) → Walked f s (i + n)
+  walked_more {n} h = record { within = walked_within h; rest = w.rest ∙ h.rest ∙ rw (drop-drop n i s) }
 
   pub walked_on : {k : ℕ} → Walked f (drop i s) k → Walked f s (i + k)
   walked_on {k} h =

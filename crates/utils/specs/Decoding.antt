@@ -1,12 +1,10 @@
 -- What some bytes begin with: the answers of `decode`.
-use Rattle.std.specs.Prelude.{◌≡◌, [], ◌∷◌, ℕ, ◌-◌, ◌^◌, ◌%◌, ◌<◌, ◌≤◌, length, take, get_or}
+use Rattle.std.specs.Prelude.{◌≡◌, [], ◌∷◌, Option, Some, None, ℕ, ◌-◌, ◌^◌, ◌%◌, ◌<◌, ◌≤◌, length, take, get_or}
 use Rattle.std.proofs.Math.Option.{some}
 use Rattle.spec.specs.Bytes.{Bytes, when◌then◌else◌, every}
 use Rattle.spec.specs.Utf8.{leading_ones, goes_on, joined, least, characters}
 use Rattle.utils.specs.declared.Decoded.{Decoded}
 use Rattle.utils.specs.declared.Decoded.TheVariants.{End, Character, Malformed}
-use Rattle.utils.specs.declared.Joined.{Joined}
-use Rattle.utils.specs.declared.Joined.TheVariants.{Broken, Value}
 
 -- the first n bytes are one character, c
 pub record Front (c n : ℕ) (s : Bytes) : Type 0 where
@@ -35,5 +33,5 @@ pub record Begins (s : Bytes) (n bits low : ℕ) : Type 0 where
   pub low_of : low ≡ least n
 
 -- the bits of bytes that all go on, behind those of the first byte
-unfoldable pub joins : ℕ → Bytes → Joined
-joins bits s = when every goes_on s then Value (joined bits s) else Broken
+unfoldable pub joins : ℕ → Bytes → Option ℕ
+joins bits s = when every goes_on s then Some (joined bits s) else None

@@ -1,5 +1,5 @@
 -- A test that passes over bytes or characters, while what is left decides.
-use Rattle.std.specs.Prelude.{◌≡◌, Bool, false, ℕ, ◌<◌, ◌≤◌, length, drop}
+use Rattle.std.specs.Prelude.{◌≡◌, Bool, false, Option, Some, None, ℕ, ◌<◌, ◌≤◌, length, drop}
 use Rattle.spec.specs.Bytes.{Bytes}
 
 -- i bytes are passed, and the test of all is that of the rest
@@ -7,8 +7,13 @@ pub record Walked (f : Bytes → Bool) (s : Bytes) (i : ℕ) : Type 0 where
   pub within : i ≤ length s
   pub rest : f s ≡ f (drop i s)
 
--- the first character has n bytes, and a test of the rest decides; or n is 0, and the test fails
-pub record Steps (f g : Bytes → Bool) (n : ℕ) (s : Bytes) : Type 0 where
+-- the first character has n bytes, and a test of the rest decides
+pub record Step (f g : Bytes → Bool) (n : ℕ) (s : Bytes) : Type 0 where
+  pub some : 0 < n
   pub within : n ≤ length s
-  pub fails : n ≡ 0 → f s ≡ false
-  pub rest : 0 < n → f s ≡ g (drop n s)
+  pub rest : f s ≡ g (drop n s)
+
+-- a step, or the test fails
+abbrev pub Steps : (Bytes → Bool) → (Bytes → Bool) → Option ℕ → Bytes → Type 0
+Steps f g (Some n) s = Step f g n s
+Steps f g None s = f s ≡ false

@@ -7,7 +7,7 @@ ghost use Rattle.spec.specs.Utf8.{leading_ones, goes_on, is_scalar, as_character
 ghost use Rattle.spec.specs.XmlNames.{is_char, is_name_start, is_name_char, is_nc_name};
 ghost use Rattle.spec.specs.RdfXml.{is_blank};
 ghost use Rattle.utils.specs.Decoding.{Decodes, Begins, joins};
-ghost use Rattle.utils.specs.Ranges.{ranges, ascending_from};
+ghost use Rattle.utils.specs.Ranges.{ascending_from};
 ghost use Rattle.utils.specs.Names.{name_of, is_nc_rest, starts_nc, goes_on_nc};
 ghost use Rattle.utils.specs.Plain.{plain, plain_text, printable};
 ghost use Rattle.utils.specs.Walking.{Walked, Steps};
@@ -15,39 +15,50 @@ ghost use Rattle.utils.specs.Walking.{Walked, Steps};
 // The bytes that are tested at once.
 const BLOCK: usize = 16;
 
-// What some bytes begin with: nothing, a character and how many bytes it has, or no character.
-#[derive(Clone, Copy)]
+// What some bytes begin with: nothing, a character and how many bytes it has, or no character. Three answers, so no Option.
+#[derive(Clone, Copy, PartialEq, Eq, Debug)]
 pub enum Decoded {
     End,
     Character(u32, usize),
     Malformed,
 }
 
-// A name as written: none, one without a prefix, or one with its first colon at a place.
-#[derive(Clone, Copy)]
+// A name as written: none, one without a prefix, or one with its first colon at a place. As an Option of an Option it is no plainer.
+#[derive(Clone, Copy, PartialEq, Eq, Debug)]
 pub enum Name {
     NotName,
     Local,
     Prefixed(usize),
 }
 
-// The bits of bytes that go on with a sequence, or that one of them does not go on.
-#[derive(Clone, Copy)]
-enum Joined {
-    Broken,
-    Value(u32),
-}
-
 // First and last character of each range of those that may start a name.
-const START_RANGES: [u32; 32] = [
-    0x3A, 0x3A, 0x41, 0x5A, 0x5F, 0x5F, 0x61, 0x7A, 0xC0, 0xD6, 0xD8, 0xF6, 0xF8, 0x2FF, 0x370,
-    0x37D, 0x37F, 0x1FFF, 0x200C, 0x200D, 0x2070, 0x218F, 0x2C00, 0x2FEF, 0x3001, 0xD7FF, 0xF900,
-    0xFDCF, 0xFDF0, 0xFFFD, 0x10000, 0xEFFFF,
+const START_RANGES: [(u32, u32); 16] = [
+    (0x3A, 0x3A),
+    (0x41, 0x5A),
+    (0x5F, 0x5F),
+    (0x61, 0x7A),
+    (0xC0, 0xD6),
+    (0xD8, 0xF6),
+    (0xF8, 0x2FF),
+    (0x370, 0x37D),
+    (0x37F, 0x1FFF),
+    (0x200C, 0x200D),
+    (0x2070, 0x218F),
+    (0x2C00, 0x2FEF),
+    (0x3001, 0xD7FF),
+    (0xF900, 0xFDCF),
+    (0xFDF0, 0xFFFD),
+    (0x10000, 0xEFFFF),
 ];
 
 // Of those that may only go on with one.
-const FURTHER_RANGES: [u32; 12] = [
-    0x2D, 0x2D, 0x2E, 0x2E, 0x30, 0x39, 0xB7, 0xB7, 0x300, 0x36F, 0x203F, 0x2040,
+const FURTHER_RANGES: [(u32, u32); 6] = [
+    (0x2D, 0x2D),
+    (0x2E, 0x2E),
+    (0x30, 0x39),
+    (0xB7, 0xB7),
+    (0x300, 0x36F),
+    (0x203F, 0x2040),
 ];
 
 // How many one bits a byte begins with: of the first byte of a sequence of several, the sequence's length.
@@ -106,21 +117,18 @@ pub fn is_name_char(c: u32) -> bool
     in_ranges(&FURTHER_RANGES, c)
 }
 
-// Is a character in one of the ranges of which a table has first and last?
-// They ascend, so the first that begins above it ends the search.
-pub fn in_ranges(bounds: &[u32], c: u32) -> bool
-    requires { ascending_from 0 (ranges bounds.now) ≡ true }
-    ensures { result ≡ in_ranges (ranges bounds.now) c }
+// Is a character in one of some ranges, first and last of each? They ascend, so the first that begins above it ends the search.
+pub fn in_ranges(ranges: &[(u32, u32)], c: u32) -> bool
+    requires { ascending_from 0 ranges.now ≡ true }
+    ensures { result ≡ in_ranges ranges.now c }
 {
-    let mut i = 0;
-    while i + 1 < bounds.len() {
-        if c < bounds[i] {
+    for (first, last) in ranges {
+        if c < *first {
             return false;
         }
-        if c <= bounds[i + 1] {
+        if c <= *last {
             return true;
         }
-        i += 2;
     }
     false
 }
@@ -135,17 +143,16 @@ pub fn is_whitespace(b: u8) -> bool
 pub fn is_blank(s: &[u8]) -> bool
     ensures { result ≡ is_blank s.now }
 {
-    let mut i = 0;
-    while i < s.len() {
-        if !is_whitespace(s[i]) {
+    for b in s {
+        if !is_whitespace(*b) {
             return false;
         }
-        i += 1;
     }
     true
 }
 
-// Is it surely in ASCII without control characters? By blocks of sixteen bytes; the last may begin in the one before it.
+// Is it surely in ASCII without control characters? By blocks of sixteen bytes; the last may begin in the one before it,
+// so no `for` over blocks fits.
 pub fn is_printable(s: &[u8]) -> bool
     ensures { result ≡ true → every printable s.now ≡ true }
 {
@@ -164,7 +171,7 @@ pub fn is_printable(s: &[u8]) -> bool
     is_printable_block(&s[last..])
 }
 
-// UTF-8 of nothing but XML's characters.
+// UTF-8 of nothing but XML's characters. A turn passes what was found, so no `for` fits.
 pub fn is_text(s: &[u8]) -> bool
     ensures { result ≡ as_characters (every is_char) s.now }
 {
@@ -173,10 +180,9 @@ pub fn is_text(s: &[u8]) -> bool
         if is_plain(s[i]) {
             i += 1;
         } else {
-            let n = text_char(&s[i..]);
-            if n == 0 {
+            let Some(n) = text_char(&s[i..]) else {
                 return false;
-            }
+            };
             i += n;
             i += skip_behind(&s[i..]);
         }
@@ -187,11 +193,10 @@ pub fn is_text(s: &[u8]) -> bool
 pub fn is_nc_name(s: &[u8]) -> bool
     ensures { result ≡ is_nc_name s.now }
 {
-    let n = nc_start(s);
-    if n == 0 {
-        return false;
+    match nc_start(s) {
+        Some(n) => is_nc_rest(&s[n..]),
+        None => false,
     }
-    is_nc_rest(&s[n..])
 }
 
 // NCName or NCName:NCName, and where the colon is.
@@ -230,22 +235,19 @@ fn is_scalar(c: u32) -> bool
 }
 
 // The bits of at most three bytes that go on, behind those of the first byte.
-fn join(bits: u32, s: &[u8]) -> Joined
+fn join(bits: u32, s: &[u8]) -> Option<u32>
     requires bits_bound { bits < 32 }
     requires s_len_bound { length s.now ≤ 3 }
     ensures { result ≡ joins bits s.now }
 {
     let mut value = bits;
-    let mut i = 0;
-    while i < s.len() {
-        let b = s[i];
-        if !goes_on(b) {
-            return Joined::Broken;
+    for b in s {
+        if !goes_on(*b) {
+            return None;
         }
-        value = value * 64 + (b % 64) as u32;
-        i += 1;
+        value = value * 64 + (*b % 64) as u32;
     }
-    Joined::Value(value)
+    Some(value)
 }
 
 // A sequence of several bytes, by what its first byte says: how many they are, its own bits, and the least character for that many.
@@ -257,8 +259,8 @@ fn sequence(s: &[u8], n: usize, bits: u32, low: u32) -> Decoded
         return Decoded::Malformed;
     }
     match join(bits, &s[1..n]) {
-        Joined::Broken => Decoded::Malformed,
-        Joined::Value(c) => {
+        None => Decoded::Malformed,
+        Some(c) => {
             if c < low {
                 return Decoded::Malformed;
             }
@@ -271,7 +273,8 @@ fn sequence(s: &[u8], n: usize, bits: u32, low: u32) -> Decoded
     }
 }
 
-// How many plain bytes stand at the front, as far as blocks of sixteen show it. The last block may begin in the one before it.
+// How many plain bytes stand at the front, as far as blocks of sixteen show it. The last block may begin in the one before it,
+// so no `for` over blocks fits.
 fn skip_plain(s: &[u8]) -> usize
     ensures { Walked (as_characters (every is_char)) s.now result }
 {
@@ -311,10 +314,8 @@ fn is_plain_block(block: &[u8]) -> bool
     ensures { result ≡ every plain_text block.now }
 {
     let mut all = true;
-    let mut j = 0;
-    while j < block.len() {
-        all = all & is_plain(block[j]);
-        j += 1;
+    for b in block {
+        all = all & is_plain(*b);
     }
     all
 }
@@ -348,11 +349,8 @@ fn is_printable_block(block: &[u8]) -> bool
     ensures { result ≡ every printable block.now }
 {
     let mut all = true;
-    let mut j = 0;
-    while j < block.len() {
-        let b = block[j];
-        all = all & ((32 <= b) & (b < 128));
-        j += 1;
+    for b in block {
+        all = all & ((32 <= *b) & (*b < 128));
     }
     all
 }
@@ -364,49 +362,49 @@ fn is_plain(b: u8) -> bool
     ((32 <= b) & (b < 128)) | (b == 10)
 }
 
-// How many bytes the first character has, or 0 where it is none of XML's.
-fn text_char(s: &[u8]) -> usize
+// How many bytes the first character has, where it is one of XML's.
+fn text_char(s: &[u8]) -> Option<usize>
     requires { 0 < length s.now }
     ensures { Steps (as_characters (every is_char)) (as_characters (every is_char)) result s.now }
 {
     match decode(s) {
         Decoded::Character(c, n) => {
             if is_char(c) {
-                return n;
+                return Some(n);
             }
-            0
+            None
         }
-        Decoded::End => 0,
-        Decoded::Malformed => 0,
+        Decoded::End => None,
+        Decoded::Malformed => None,
     }
 }
 
-// How many bytes the first character has, or 0 where none may start an NCName.
-fn nc_start(s: &[u8]) -> usize
+// How many bytes the first character has, where it may start an NCName.
+fn nc_start(s: &[u8]) -> Option<usize>
     ensures { Steps is_nc_name is_nc_rest result s.now }
 {
     if s.len() == 0 {
-        return 0;
+        return None;
     }
     if is_plain_start(s[0]) {
-        return 1;
+        return Some(1);
     }
     match decode(s) {
         Decoded::Character(c, n) => {
             if c == 0x3A {
-                return 0;
+                return None;
             }
             if is_name_start_char(c) {
-                return n;
+                return Some(n);
             }
-            0
+            None
         }
-        Decoded::End => 0,
-        Decoded::Malformed => 0,
+        Decoded::End => None,
+        Decoded::Malformed => None,
     }
 }
 
-// Name characters other than the colon, and nothing else.
+// Name characters other than the colon, and nothing else. A turn passes what was found, so no `for` fits.
 fn is_nc_rest(s: &[u8]) -> bool
     ensures { result ≡ is_nc_rest s.now }
 {
@@ -415,33 +413,34 @@ fn is_nc_rest(s: &[u8]) -> bool
         if is_plain_name(s[i]) {
             i += 1;
         } else {
-            let n = nc_char(&s[i..]);
-            if n == 0 {
+            let Some(n) = nc_char(&s[i..]) else {
                 return false;
-            }
+            };
             i += n;
         }
     }
     true
 }
 
-// How many bytes the first character has, or 0 where it may not go on with an NCName.
-fn nc_char(s: &[u8]) -> usize
+// How many bytes the first character has, where it may go on with an NCName.
+// Not inlined: the loop over plain bytes then executes 201 instructions on a name of 12 bytes, and else 215.
+#[inline(never)]
+fn nc_char(s: &[u8]) -> Option<usize>
     requires { 0 < length s.now }
     ensures { Steps is_nc_rest is_nc_rest result s.now }
 {
     match decode(s) {
         Decoded::Character(c, n) => {
             if c == 0x3A {
-                return 0;
+                return None;
             }
             if is_name_char(c) {
-                return n;
+                return Some(n);
             }
-            0
+            None
         }
-        Decoded::End => 0,
-        Decoded::Malformed => 0,
+        Decoded::End => None,
+        Decoded::Malformed => None,
     }
 }
 
@@ -469,12 +468,5 @@ pub fn is_plain_name(b: u8) -> bool
 fn up_to_colon(s: &[u8]) -> usize
     ensures { result ≡ length (up_to (among (ascii ":")) s.now) }
 {
-    let mut i = 0;
-    while i < s.len() {
-        if s[i] == 0x3A {
-            return i;
-        }
-        i += 1;
-    }
-    i
+    copy::find(s, b':')
 }

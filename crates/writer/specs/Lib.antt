@@ -1,7 +1,6 @@
 -- What a writer does.
 pub mod Put
 pub mod Said
-pub mod Blocks
 -- The words that bytes are written as, and texts of them.
 pub mod Words
 pub mod Rules

@@ -1,52 +1,52 @@
 // XML text: &, <, >, the quote and the apostrophe are entities.
-ghost use Rattle.std.specs.Prelude.{◌≡◌, false, [], ◌∷◌};
 ghost use Rattle.spec.specs.NTriples.{coded};
 ghost use Rattle.spec.specs.XmlLiteral.{text_byte};
 ghost use Rattle.writer.specs.Put.{Put};
-ghost use Rattle.writer.specs.Rules.{Spells};
 
-use crate::coded::{Rule, Word};
+use crate::coded::{self, Coding, Word};
 
 pub fn write(out: &mut [u8], at: usize, on: bool, s: &[u8]) -> usize
     ensures { Put on out.old out.new at result (coded text_byte s.now) }
 {
-    crate::coded::write(out, at, on, s, Rule::Content)
+    coded::write::<Content>(out, at, on, s)
 }
 
-// Coarser than `spell`: the mask is that of the quote, & and the apostrophe.
-pub fn is_marked(b: u8) -> bool
-    ensures { result ≡ false → text_byte b ≡ b ∷ [] }
-{
-    ((b & 0xFA) == 0x22) | (b == b'<') | (b == b'>')
-}
+pub struct Content;
 
-pub fn spell(b: u8) -> Word
-    ensures { Spells result (text_byte b) }
-{
-    match b {
-        b'&' => Word {
-            bytes: *b"&amp;   ",
-            len: 5,
-        },
-        b'<' => Word {
-            bytes: *b"&lt;    ",
-            len: 4,
-        },
-        b'>' => Word {
-            bytes: *b"&gt;    ",
-            len: 4,
-        },
-        b'"' => Word {
-            bytes: *b"&quot;  ",
-            len: 6,
-        },
-        b'\'' => Word {
-            bytes: *b"&apos;  ",
-            len: 6,
-        },
-        _ => Word {
-            bytes: [b; 8],
-            len: 1,
-        },
+impl Coding for Content {
+    ghost byte_of = { text_byte };
+
+    // Coarser than `spell`: the mask is that of the quote, & and the apostrophe.
+    fn is_marked(b: u8) -> bool {
+        ((b & 0xFA) == 0x22) | (b == b'<') | (b == b'>')
+    }
+
+    fn spell(b: u8) -> Word {
+        match b {
+            b'&' => Word {
+                bytes: *b"&amp;   ",
+                len: 5,
+            },
+            b'<' => Word {
+                bytes: *b"&lt;    ",
+                len: 4,
+            },
+            b'>' => Word {
+                bytes: *b"&gt;    ",
+                len: 4,
+            },
+            b'"' => Word {
+                bytes: *b"&quot;  ",
+                len: 6,
+            },
+            b'\'' => Word {
+                bytes: *b"&apos;  ",
+                len: 6,
+            },
+            _ => Word {
+                bytes: [b; 8],
+                len: 1,
+            },
+        }
     }
 }

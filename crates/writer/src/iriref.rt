@@ -1,10 +1,9 @@
 // An IRI between its brackets: bytes that must not stand there become \u and four hex digits.
-ghost use Rattle.std.specs.Prelude.{◌≡◌, false, [], ◌∷◌, ◌<◌};
+ghost use Rattle.std.specs.Prelude.{◌≡◌, ◌<◌};
 ghost use Rattle.spec.specs.NTriples.{coded, iri_byte, forbidden, hex_digit};
 ghost use Rattle.writer.specs.Put.{Put};
-ghost use Rattle.writer.specs.Rules.{Spells};
 
-use crate::coded::{Rule, Word};
+use crate::coded::{self, Coding, Word};
 
 // The most bytes that a byte is written as.
 pub const MOST: usize = 6;
@@ -15,27 +14,29 @@ pub fn write(out: &mut [u8], at: usize, on: bool, s: &[u8]) -> usize
     if s.len() == 0 {
         return at;
     }
-    crate::coded::write(out, at, on, s, Rule::Iri)
+    coded::write::<Iri>(out, at, on, s)
 }
 
-// Coarser than `is_forbidden`, some tests less: the mask is that of <, >, \, ^ and |.
-pub fn is_marked(b: u8) -> bool
-    ensures { result ≡ false → iri_byte b ≡ b ∷ [] }
-{
-    ((b & 0x9D) == 0x1C) | (b == b'`') | (b <= b'"') | ((b'{' <= b) & (b <= 127))
-}
+pub struct Iri;
 
-pub fn spell(b: u8) -> Word
-    ensures { Spells result (iri_byte b) }
-{
-    if !is_forbidden(b) {
-        return Word {
-            bytes: [b; 8],
-            len: 1,
-        };
+impl Coding for Iri {
+    ghost byte_of = { iri_byte };
+
+    // Coarser than `is_forbidden`, some tests less: the mask is that of <, >, \, ^ and |.
+    fn is_marked(b: u8) -> bool {
+        ((b & 0x9D) == 0x1C) | (b == b'`') | (b <= b'"') | ((b'{' <= b) & (b <= 127))
     }
-    let bytes = [b'\\', b'u', b'0', b'0', hex(b / 16), hex(b % 16), 0, 0];
-    Word { bytes, len: 6 }
+
+    fn spell(b: u8) -> Word {
+        if !is_forbidden(b) {
+            return Word {
+                bytes: [b; 8],
+                len: 1,
+            };
+        }
+        let bytes = [b'\\', b'u', b'0', b'0', hex(b / 16), hex(b % 16), 0, 0];
+        Word { bytes, len: 6 }
+    }
 }
 
 // 00 to 20 hex and nine marks.

@@ -5,19 +5,11 @@
 ghost use Rattle.std.specs.Prelude.{◌≡◌, [], ◌∷◌};
 ghost use Rattle.writer.specs.Put.{counted, Put};
 
-mod blocks;
 pub mod coded;
 pub mod content;
 pub mod iriref;
 pub mod quoted;
 pub mod value;
-
-// Whether a text has room, and how many bytes of it were written.
-#[derive(Clone, Copy)]
-pub struct Said {
-    pub fits: bool,
-    pub written: usize,
-}
 
 // The bytes of a draft: most texts have room there, and one that has is counted and written in one pass.
 pub const DRAFT: usize = 1024;
@@ -29,10 +21,7 @@ pub const MOST: usize = 18_446_744_073_709_551_615;
 pub fn counted(at: usize, n: usize) -> usize
     ensures { result ≡ counted at n }
 {
-    if MOST - at < n {
-        return MOST;
-    }
-    at + n
+    at.saturating_add(n)
 }
 
 // The bytes of `src`.
@@ -47,7 +36,7 @@ pub fn bytes(out: &mut [u8], at: usize, on: bool, src: &[u8]) -> usize
     }
     let room = out.len() - at;
     if src.len() <= room {
-        blocks::store(out, at, src);
+        copy::put(out, at, src);
         return at + src.len();
     }
     copy::put(out, at, &src[..room]);

@@ -7,4 +7,4 @@ pub returns-then-may_finish : goal.returns-then-may_finish
 returns-then-may_finish c = finish_done c.args.registers (sym c.may_finish.ensures ∙ c.if-may_finish.true)
 
 pub returns : goal.returns
-returns c = c.number_of.ensures ∙ finish_open c.args.registers (sym c.may_finish.ensures ∙ c.if-may_finish.false)
+returns c = finish_open c.args.registers (sym c.may_finish.ensures ∙ c.if-may_finish.false)

@@ -1,21 +1,15 @@
--- `convert::follow` meets its contract: a way on, or the end, for each pause.
-use Rattle.convert.specs.Turning.{follow_on, follow-refused, waiting, follow_over, follow_more}
+-- `convert::follow` meets its contract: a way on, or the end, for each refusal.
+use Rattle.convert.specs.Turning.{follow_on, follow-refused, waiting}
 use Rattle.convert.proofs.follow.Goals as goal
 
-pub returns-then-number-ne1 : goal.returns-then-number-ne1
-returns-then-number-ne1 g c = follow-refused c.in-Stop.is c.number_of-number.ensures c.if-number-ne1.true c.over.ensures
+pub returns-in-None : goal.returns-in-None
+returns-in-None g c = follow_on c.in-None.is
 
-pub returns-then-place : goal.returns-then-place
-returns-then-place g c = follow_over c.in-Stop.is c.number_of-number.ensures c.if-number-ne1.false c.if-place.true c.finish.ensures c.over-then-place.ensures
+pub end_or_read-requires : goal.end_or_read-requires
+end_or_read-requires g c = record { rest = c.requires.rest; block = c.requires.block (waiting c.in-Some.is c.in-Incomplete.is) }
 
-pub read-requires : goal.read-requires
-read-requires g c = record { rest = c.requires.rest; block = c.requires.block (waiting c.in-Stop.is c.number_of-number.ensures c.if-number-ne1.false) }
+pub returns-in-Incomplete : goal.returns-in-Incomplete
+returns-in-Incomplete g c = rw (c.in-Some.is, c.in-Incomplete.is) c.end_or_read.ensures
 
-pub returns-in-Full : goal.returns-in-Full
-returns-in-Full g c = follow_on c.in-Full.is
-
-pub shape_of-input : goal.shape_of-input
-shape_of-input g c = c.read.ensures.room
-
-pub returns-else-place : goal.returns-else-place
-returns-else-place g c = follow_more c.in-Stop.is c.number_of-number.ensures c.if-number-ne1.false c.if-place.false c.read.ensures
+pub returns-in_default : goal.returns-in_default
+returns-in_default g c = follow-refused c.in-Some.is c.in_default.not-Incomplete c.over.ensures

@@ -9,46 +9,43 @@ pub loop-turns-init : goal.loop-turns-init
 loop-turns-init g c = (running_begins c.first-place.ensures c.requires.0, lengths_here, record { scratch = refl; spans = refl; area = refl })
 
 pub turn-next-requires : goal.turn-next-requires
-turn-next-requires g c = (running_stands c.loop-turns.invariant.0 (omega (arith, c.loop-turns-test)), still_roomy c.loop-turns.invariant.2 c.requires.1)
-
-pub loop-turns-smaller : goal.loop-turns-smaller
-loop-turns-smaller g c = omega (arith, c.loop-turns-test)
+turn-next-requires g c = (running_stands c.loop-turns.invariant.0 (omega arith), still_roomy c.loop-turns.invariant.2 c.requires.1)
 
 pub loop-turns-preserved : goal.loop-turns-preserved
-loop-turns-preserved g c = (running_on c.loop-turns.invariant.0 c.turn-next.ensures.0 (omega (arith, c.loop-turns-test)) c.in-On.is, lengths_then c.loop-turns.invariant.1 c.turn-next.ensures.0.lengths, areas_then c.loop-turns.invariant.2 c.turn-next.ensures.1)
+loop-turns-preserved g c = (running_on c.loop-turns.invariant.0 c.turn-next.ensures.0 c.in-Continue.is, lengths_then c.loop-turns.invariant.1 c.turn-next.ensures.0.lengths, areas_then c.loop-turns.invariant.2 c.turn-next.ensures.1)
 
-pub shape_of-frames-in-Over : goal.shape_of-frames-in-Over
-shape_of-frames-in-Over g c = c.turn-next.ensures.0.lengths.frames ∙ c.loop-turns.invariant.1.frames
+pub shape_of-frames-in-Break : goal.shape_of-frames-in-Break
+shape_of-frames-in-Break g c = c.turn-next.ensures.0.lengths.frames ∙ c.loop-turns.invariant.1.frames
 
-pub shape_of-bindings-in-Over : goal.shape_of-bindings-in-Over
-shape_of-bindings-in-Over g c = c.turn-next.ensures.0.lengths.bindings ∙ c.loop-turns.invariant.1.bindings
+pub shape_of-bindings-in-Break : goal.shape_of-bindings-in-Break
+shape_of-bindings-in-Break g c = c.turn-next.ensures.0.lengths.bindings ∙ c.loop-turns.invariant.1.bindings
 
-pub shape_of-inners-in-Over : goal.shape_of-inners-in-Over
-shape_of-inners-in-Over g c = c.turn-next.ensures.0.lengths.inners ∙ c.loop-turns.invariant.1.inners
+pub shape_of-inners-in-Break : goal.shape_of-inners-in-Break
+shape_of-inners-in-Break g c = c.turn-next.ensures.0.lengths.inners ∙ c.loop-turns.invariant.1.inners
 
-pub shape_of-work-in-Over : goal.shape_of-work-in-Over
-shape_of-work-in-Over g c = c.turn-next.ensures.0.lengths.work ∙ c.loop-turns.invariant.1.work
+pub shape_of-work-in-Break : goal.shape_of-work-in-Break
+shape_of-work-in-Break g c = c.turn-next.ensures.0.lengths.work ∙ c.loop-turns.invariant.1.work
 
-pub shape_of-ids-in-Over : goal.shape_of-ids-in-Over
-shape_of-ids-in-Over g c = c.turn-next.ensures.0.lengths.ids ∙ c.loop-turns.invariant.1.ids
+pub shape_of-ids-in-Break : goal.shape_of-ids-in-Break
+shape_of-ids-in-Break g c = c.turn-next.ensures.0.lengths.ids ∙ c.loop-turns.invariant.1.ids
 
-pub shape_of-input-in-Over : goal.shape_of-input-in-Over
-shape_of-input-in-Over g c = c.turn-next.ensures.0.lengths.buffer ∙ c.loop-turns.invariant.1.buffer
+pub shape_of-input-in-Break : goal.shape_of-input-in-Break
+shape_of-input-in-Break g c = c.turn-next.ensures.0.lengths.buffer ∙ c.loop-turns.invariant.1.buffer
 
-pub shape_of-output-in-Over : goal.shape_of-output-in-Over
-shape_of-output-in-Over g c = c.turn-next.ensures.0.lengths.out ∙ c.loop-turns.invariant.1.out
+pub shape_of-output-in-Break : goal.shape_of-output-in-Break
+shape_of-output-in-Break g c = c.turn-next.ensures.0.lengths.out ∙ c.loop-turns.invariant.1.out
 
-pub shape_of-scratch-in-Over : goal.shape_of-scratch-in-Over
-shape_of-scratch-in-Over g c = c.turn-next.ensures.1.scratch ∙ c.loop-turns.invariant.2.scratch
+pub shape_of-scratch-in-Break : goal.shape_of-scratch-in-Break
+shape_of-scratch-in-Break g c = c.turn-next.ensures.1.scratch ∙ c.loop-turns.invariant.2.scratch
 
-pub shape_of-spans-in-Over : goal.shape_of-spans-in-Over
-shape_of-spans-in-Over g c = c.turn-next.ensures.1.spans ∙ c.loop-turns.invariant.2.spans
+pub shape_of-spans-in-Break : goal.shape_of-spans-in-Break
+shape_of-spans-in-Break g c = c.turn-next.ensures.1.spans ∙ c.loop-turns.invariant.2.spans
 
-pub shape_of-area-in-Over : goal.shape_of-area-in-Over
-shape_of-area-in-Over g c = c.turn-next.ensures.1.area ∙ c.loop-turns.invariant.2.area
+pub shape_of-area-in-Break : goal.shape_of-area-in-Break
+shape_of-area-in-Break g c = c.turn-next.ensures.1.area ∙ c.loop-turns.invariant.2.area
 
-pub returns-in-Over : goal.returns-in-Over
-returns-in-Over g c = rw c.first-place.ensures at (running_ends c.loop-turns.invariant.0 c.turn-next.ensures.0 (omega (arith, c.loop-turns-test)) c.in-Over.is)
+pub returns-in-Break : goal.returns-in-Break
+returns-in-Break g c = rw c.first-place.ensures at (running_ends c.loop-turns.invariant.0 c.turn-next.ensures.0 (omega arith) c.in-Break.is)
 
 pub shape_of-frames : goal.shape_of-frames
 shape_of-frames g c = c.loop-turns.invariant.1.frames
@@ -81,4 +78,4 @@ pub shape_of-area : goal.shape_of-area
 shape_of-area g c = c.loop-turns.invariant.2.area
 
 pub returns : goal.returns
-returns g c = rw c.first-place.ensures at (running_spent c.loop-turns.invariant.0)
+returns g c = rw c.first-place.ensures at (running_spent c.loop-turns.invariant.0 (omega arith))

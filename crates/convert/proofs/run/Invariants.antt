@@ -1,5 +1,4 @@
--- `convert::run` meets its contract. The loop's invariant: the program is on its way from the start, and all that is lent has its lengths. The measure
--- is the number of turns that are left.
+-- `convert::run` meets its contract. The loop's invariant: the program is on its way from the start, and all that is lent has its lengths.
 use Rattle.event.specs.Progress.{lent, doc_in}
 use Rattle.reader.specs.Asked.{Areas}
 use Rattle.convert.specs.Places.{Lengths}
@@ -11,6 +10,3 @@ invariant-loop-turns g l =
     Running (doc_in l.initial.place.registers 0 (lent l.initial.frames l.initial.bindings l.initial.inners l.initial.work l.initial.places l.initial.sizes l.initial.ids l.initial.output)) l.place l.turns (lent l.frames l.bindings l.inners l.work l.places l.sizes l.ids l.output) l.input
     × Lengths (lent l.initial.frames l.initial.bindings l.initial.inners l.initial.work l.initial.places l.initial.sizes l.initial.ids l.initial.output) l.initial.input (lent l.frames l.bindings l.inners l.work l.places l.sizes l.ids l.output) l.input
     × Areas l.initial.scratch l.initial.spans l.initial.area l.scratch l.spans l.area
-
-abbrev pub decreases-loop-turns : goal.decreases-loop-turns
-decreases-loop-turns g l = l.turns

@@ -4,9 +4,6 @@ use Rattle.copy.specs.Scan.{sought_stop, sought_more, sought_done}
 use native.Mathlib.Omega.{arith}
 use Rattle.copy.proofs.find.Goals as goal
 
-pub loop-i-init : goal.loop-i-init
-loop-i-init c = c.skip_blocks-i.ensures
-
 pub returns-then-s-i : goal.returns-then-s-i
 returns-then-s-i c = sought_stop c.loop-i.invariant (omega arith) (eq-eqb _ _ c.if-s-i.true)
 
@@ -14,4 +11,4 @@ pub loop-i-preserved : goal.loop-i-preserved
 loop-i-preserved c = sought_more c.loop-i.invariant (omega arith) (ne_eqb _ _ c.if-s-i.false)
 
 pub returns : goal.returns
-returns c = sought_done c.loop-i.invariant (omega arith)
+returns c = omega (arith, sought_done c.loop-i.invariant (omega arith))

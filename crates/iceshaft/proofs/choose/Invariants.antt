@@ -1,11 +1,7 @@
--- `choose` meets its contract. The loop's invariant: the word keeps its length. The measure is the number of arguments that are left.
-use Prim.Native.Nat.{◌-◌}
+-- `choose` meets its contract. The loop's invariant: the word keeps its length.
 use mathlib.Core.Path.{◌≡◌}
 use lib.ListN.{length}
 use Rattle.iceshaft.proofs.choose.Given as goal
 
 abbrev pub invariant-loop-i : goal.invariant-loop-i
 invariant-loop-i g l = length l.word ≡ 4_096
-
-abbrev pub decreases-loop-i : goal.decreases-loop-i
-decreases-loop-i g l = l.count - l.i

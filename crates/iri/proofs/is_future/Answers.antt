@@ -1,16 +1,16 @@
 -- `iri::is_future` meets its contract.
-use mathlib.Core.Path.{sym, ap, ◌∙◌}
+use mathlib.Core.Path.{sym, ◌∙◌}
+use Rattle.iri.proofs.Classes.{same_v, other_v}
 use native.Mathlib.Omega.{arith}
-use Rattle.spec.specs.Abnf.{lower}
 use Rattle.utils.proofs.Walking.{to_end}
 use Rattle.iri.proofs.Checks.{future_none, future_other, future_version}
 use Rattle.iri.proofs.is_future.Goals as goal
 
-pub returns-then-s-eq0 : goal.returns-then-s-eq0
-returns-then-s-eq0 c = future_none _ (omega arith)
+pub returns-in-empty : goal.returns-in-empty
+returns-in-empty c = future_none _ (omega arith)
 
-pub returns-then-lowered-ne118 : goal.returns-then-lowered-ne118
-returns-then-lowered-ne118 c = future_other _ (omega arith) (λ e. c.if-lowered-ne118.true (c.lowered.ensures ∙ ap lower c.as_char.ensures ∙ e))
+pub returns-then-eq_ignore_ascii_case : goal.returns-then-eq_ignore_ascii_case
+returns-then-eq_ignore_ascii_case c = rw to_end at c.is_version.ensures ∙ future_version _ (omega arith) (same_v _ (sym c.eq_ignore_ascii_case.ensures ∙ c.if-eq_ignore_ascii_case.true))
 
-pub returns : goal.returns
-returns c = rw to_end at c.is_version.ensures ∙ future_version _ (omega arith) (ap lower (sym c.as_char.ensures) ∙ sym c.lowered.ensures ∙ omega arith)
+pub returns-else-eq_ignore_ascii_case : goal.returns-else-eq_ignore_ascii_case
+returns-else-eq_ignore_ascii_case c = c.if-eq_ignore_ascii_case.false ∙ future_other _ (omega arith) (other_v _ (sym c.eq_ignore_ascii_case.ensures ∙ c.if-eq_ignore_ascii_case.false))

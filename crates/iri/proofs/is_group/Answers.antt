@@ -5,11 +5,11 @@ use Rattle.iri.proofs.Octets.{group_none, group_long}
 use Rattle.iri.proofs.Checks.{group_row}
 use Rattle.iri.proofs.is_group.Goals as goal
 
-pub returns-then-s-eq0 : goal.returns-then-s-eq0
-returns-then-s-eq0 c = sym (group_none _ (omega arith))
+pub returns-in-1-to-4 : goal.returns-in-1-to-4
+returns-in-1-to-4 c = c.is_row.ensures ∙ group_row _ (omega arith) (omega arith)
 
-pub returns-then-s-gt4 : goal.returns-then-s-gt4
-returns-then-s-gt4 c = sym (group_long _ (omega arith))
+pub returns-in_default : goal.returns-in_default
+returns-in_default c = sym (group_none _ (omega arith))
 
-pub returns : goal.returns
-returns c = c.is_row.ensures ∙ group_row _ (omega arith) (omega arith)
+pub returns-in_default-2 : goal.returns-in_default-2
+returns-in_default-2 c = sym (group_long _ (omega arith))

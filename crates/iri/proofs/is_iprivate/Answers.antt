@@ -1,18 +1,19 @@
 -- `iri::is_iprivate` meets its contract.
-use mathlib.Core.Path.{refl, sym}
+use mathlib.Core.Path.{refl, sym, ◌∙◌}
+use borrow.Author.Tests.{lt-leb}
 use Rattle.iri.specs.Parts as P
-use Rattle.utils.specs.Ranges.{ranges, ascending_from}
+use Rattle.utils.specs.Ranges.{ascending_from}
 use Rattle.utils.proofs.Ranges.{before_all}
 use Rattle.iri.proofs.is_iprivate.Goals as goal
 
-pub returns-then-c-lt57344 : goal.returns-then-c-lt57344
+pub returns-else-c-ge57344 : goal.returns-else-c-ge57344
 unfolding P.all ascending_from
-returns-then-c-lt57344 c = sym (before_all 57344 _ P.iprivates c.if-c-lt57344.true refl)
+returns-else-c-ge57344 c = lt-leb 57344 c.args.c c.if-c-ge57344.false ∙ sym (before_all 57344 _ P.iprivates c.if-c-ge57344.false refl)
 
 pub in_ranges-requires : goal.in_ranges-requires
-unfolding ranges ascending_from
+unfolding ascending_from
 in_ranges-requires c = refl
 
-pub returns : goal.returns
-unfolding P.all ranges
-returns c = c.in_ranges.ensures
+pub returns-then-c-ge57344 : goal.returns-then-c-ge57344
+unfolding P.all
+returns-then-c-ge57344 c = c.in_ranges.ensures

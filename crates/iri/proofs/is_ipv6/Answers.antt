@@ -1,25 +1,21 @@
 -- `iri::is_ipv6` meets its contract. The groups on both sides of the first "::", if there is one.
-use mathlib.Core.Path.{sym}
+use mathlib.Core.Path.{◌∙◌}
 use native.Mathlib.Omega.{arith}
-use lib.Seq.{length-take-le}
-use Rattle.utils.proofs.Walking.{to_end}
-use Rattle.iri.proofs.Checks.{gap_none, gap_within, gap_room, gap_some}
+use Rattle.iri.proofs.Checks.{eight_law, gap_law, gap_over, counted}
 use Rattle.iri.proofs.is_ipv6.Goals as goal
 
-pub returns-then-n-s : goal.returns-then-n-s
-returns-then-n-s c = gap_none _ c.find_gap-n.ensures (omega arith) c.count_groups.ensures
+pub returns-in-Some-Some : goal.returns-in-Some-Some
+returns-in-Some-Some c =
+    gap_law _ c.in-Some.ensures (rw c.in-Some-Some.is-0 at c.count_groups-before.ensures) (rw c.in-Some-Some.is-1 at c.count_groups-behind.ensures)
 
-pub slice_bounds-count_groups-end : goal.slice_bounds-count_groups-end
-slice_bounds-count_groups-end c = sym (length-take-le _ _ (gap_within _ c.find_gap-n.ensures))
+pub returns-in_default : goal.returns-in_default
+returns-in_default c =
+    gap_over _ c.in-Some.ensures (rw c.in_default.is-0 at c.count_groups-before.ensures) (rw c.in_default.is-1 at c.count_groups-behind.ensures) (omega arith)
 
-pub overflow_add-n : goal.overflow_add-n
-overflow_add-n c = record { fits = omega (arith, gap_within _ c.find_gap-n.ensures, gap_room _ c.find_gap-n.ensures (omega (arith, gap_within _ c.find_gap-n.ensures))) }
+pub returns-in_default-2 : goal.returns-in_default-2
+returns-in_default-2 c =
+    let behind = counted c.count_groups-behind.result c.count_groups-behind.ensures in
+    gap_over _ c.in-Some.ensures (rw c.in_default.is-0 at c.count_groups-before.ensures) behind.1 (omega arith)
 
-pub slice_bounds-count_groups-count : goal.slice_bounds-count_groups-count
-slice_bounds-count_groups-count c = omega (arith, gap_within _ c.find_gap-n.ensures, gap_room _ c.find_gap-n.ensures (omega (arith, gap_within _ c.find_gap-n.ensures)))
-
-pub slice_bounds-count_groups-start : goal.slice_bounds-count_groups-start
-slice_bounds-count_groups-start c = omega (arith, gap_within _ c.find_gap-n.ensures, gap_room _ c.find_gap-n.ensures (omega (arith, gap_within _ c.find_gap-n.ensures)))
-
-pub returns : goal.returns
-returns c = gap_some _ c.find_gap-n.ensures (omega (arith, gap_within _ c.find_gap-n.ensures)) c.count_groups-2.ensures (rw to_end at c.count_groups-3.ensures)
+pub returns-in-None : goal.returns-in-None
+returns-in-None c = c.eq.ensures ∙ eight_law _ c.in-None.ensures c.count_groups.result c.count_groups.ensures

@@ -13,6 +13,6 @@ pub returns-then-is_within : goal.returns-then-is_within
 unfolding lower byte when◌then◌else◌
 returns-then-is_within c = rw (sym c.is_within.ensures ∙ c.if-is_within.true)
 
-pub returns : goal.returns
+pub returns-else-is_within : goal.returns-else-is_within
 unfolding lower byte when◌then◌else◌
-returns c = rw (sym c.is_within.ensures ∙ c.if-is_within.false)
+returns-else-is_within c = rw (sym c.is_within.ensures ∙ c.if-is_within.false)

@@ -1,20 +1,17 @@
--- `label::are_digits` meets its contract.
-use Rattle.copy.specs.Scan.{passed-begins, passed_stop, passed_more, passed_done}
-use Rattle.label.specs.Digits.{no_digit-below, no_digit-above, a_digit}
-use native.Mathlib.Omega.{arith}
+-- `label::are_digits` meets its contract: `all` of a test is `every` of it.
+use mathlib.Core.Path.{refl, ◌∙◌}
+use borrow.Author.Rules.{rules}
+use borrow.Author.Tests.{tests}
+use Rattle.std.specs.List.{list_all}
+use Rattle.std.specs.Prelude.{◌&&◌}
+use Rattle.std.proofs.lemmas.Iterator.{YieldsList-from_slice}
+use Rattle.std.proofs.lemmas.Iterator.Search.{all_from_yields_List}
+use Rattle.std.proofs.lemmas.List.Recursion.{same_from_clauses}
+use Rattle.spec.specs.Bytes.{byte, every, between}
 use Rattle.label.proofs.are_digits.Goals as goal
 
-pub loop-i-init : goal.loop-i-init
-loop-i-init c = passed-begins
-
-pub returns-then-s-i-lt48 : goal.returns-then-s-i-lt48
-returns-then-s-i-lt48 c = passed_stop c.loop-i.invariant (omega arith) (no_digit-below _ (omega arith))
-
-pub returns-then-s-i-gt57 : goal.returns-then-s-i-gt57
-returns-then-s-i-gt57 c = passed_stop c.loop-i.invariant (omega arith) (no_digit-above _ (omega arith))
-
-pub loop-i-preserved : goal.loop-i-preserved
-loop-i-preserved c = passed_more c.loop-i.invariant (omega arith) (a_digit _ (omega arith) (omega arith))
-
 pub returns : goal.returns
-returns c = passed_done c.loop-i.invariant (omega arith)
+unfolding every between byte
+returns c =
+    all_from_yields_List (between 48 57) _ _ _ c.all.ensures.ran (YieldsList-from_slice c.args.s.now cc) (λ x b q k. search (rules, tests))
+    ∙ same_from_clauses (list_all (between 48 57)) (every (between 48 57)) (λ x r. between 48 57 x && r) refl (λ _ _. refl) (λ _ _. refl) c.args.s.now

@@ -1,10 +1,7 @@
 -- `label::write_u64_to_slice` meets its contract.
-use Rattle.label.specs.Digits.{written-begins, written_more, written_done}
+use Rattle.label.specs.Digits.{written_more, written_done}
 use native.Mathlib.Omega.{arith}
 use Rattle.label.proofs.write_u64_to_slice.Goals as goal
-
-pub loop-i-init : goal.loop-i-init
-loop-i-init c = written-begins
 
 pub loop-i-preserved : goal.loop-i-preserved
 loop-i-preserved c = written_more c.loop-i.invariant (omega arith)

@@ -5,6 +5,3 @@ use Rattle.label.proofs.write_u64_to_slice.Given as goal
 
 abbrev pub invariant-loop-i : goal.invariant-loop-i
 invariant-loop-i l = Written (length l.initial.s) l.initial.v l.v l.s l.i
-
-abbrev pub decreases-loop-i : goal.decreases-loop-i
-decreases-loop-i l = l.i

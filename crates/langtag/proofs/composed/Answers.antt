@@ -3,11 +3,11 @@ use Rattle.langtag.proofs.Machine.{reading_begins, reading_more, reading_done}
 use native.Mathlib.Omega.{arith}
 use Rattle.langtag.proofs.composed.Goals as goal
 
-pub loop-i-init : goal.loop-i-init
-loop-i-init c = reading_begins c.fresh.ensures
+pub loop-b-init : goal.loop-b-init
+loop-b-init c = reading_begins c.start-reader.ensures
 
-pub loop-i-preserved : goal.loop-i-preserved
-loop-i-preserved c = reading_more c.loop-i.invariant (omega arith) c.step-reader.ensures
+pub loop-b-preserved : goal.loop-b-preserved
+loop-b-preserved c = reading_more c.loop-b.invariant (omega arith) c.step-reader.ensures
 
 pub returns : goal.returns
-returns c = reading_done c.loop-i.invariant (omega arith) c.ended.ensures c.is_final.ensures
+returns c = reading_done c.loop-b.invariant (omega arith) c.ended.ensures c.is_final.ensures

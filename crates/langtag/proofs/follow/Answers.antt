@@ -1,4 +1,5 @@
 -- `langtag::follow` is `follow`: each place asks its own function.
+use mathlib.Core.Logic.{inl, inr}
 use Rattle.langtag.proofs.follow.Goals as goal
 
 pub returns-in-Start : goal.returns-in-Start
@@ -29,7 +30,4 @@ pub returns-in-Extension : goal.returns-in-Extension
 returns-in-Extension c = rw c.in-Extension.is (rw c.extensions.ensures at c.extended-in-Extension.ensures)
 
 pub returns-in-X : goal.returns-in-X
-returns-in-X c = rw c.in-X.is c.private.ensures
-
-pub returns-in-Private : goal.returns-in-Private
-returns-in-Private c = rw c.in-Private.is c.private-in-Private.ensures
+returns-in-X c = elim c.in-X.is [ inl e ↦ rw e c.private.ensures | inr e ↦ rw e c.private.ensures ]

@@ -25,4 +25,4 @@ shape_of-work c = c.work-1.given
 
 pub returns : goal.returns
 unfolding L.all
-returns c = add_done c.kept-size.ensures (leb-true _ 49152 (sym c.has_room.ensures ∙ c.if-not-has_room.false)) (omega arith) c.add_xml-c.ensures
+returns c = rw c.unwrap_or-behind.ensures (add_done c.kept-size.ensures (leb-true _ 49152 (sym c.has_room.ensures ∙ c.if-not-has_room.false)) (omega arith) c.add_xml.ensures)

@@ -16,4 +16,4 @@ pub shape_of-work : goal.shape_of-work
 shape_of-work c = c.work-2-1.given ∙ c.work-1.given
 
 pub returns : goal.returns
-returns c = entered c.requires c.put.ensures c.bind_all-next.ensures c.open_inside-c.ensures
+returns c = rw c.unwrap_or.ensures (entered c.requires c.put.ensures c.bind_all-next.ensures c.open_inside.ensures)

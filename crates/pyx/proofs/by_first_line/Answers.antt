@@ -1,41 +1,29 @@
 -- `pyx::by_first_line` meets its contract. Each arm is one law on the event's first byte.
 use native.Mathlib.Omega.{arith}
-use Rattle.pyx.proofs.Events.{title_room, nothing_first, lines-opening, closing_nameless, closing_good, text_wrong, text_good, instruction_good, other_first}
+use Rattle.pyx.proofs.Events.{nothing_first, lines-opening, closing_nameless, closing_good, text_wrong, text_good, instruction_good, other_first}
 use Rattle.pyx.proofs.Lines.{positive}
 use Rattle.pyx.proofs.by_first_line.Goals as goal
 
 pub returns-then-n-eq0 : goal.returns-then-n-eq0
 returns-then-n-eq0 c = nothing_first c.requires _ c.if-n-eq0.true
 
-pub bounds-event-0 : goal.bounds-event-0
-bounds-event-0 c = omega arith
+pub returns-in-40 : goal.returns-in-40
+returns-in-40 c = rw (lines-opening c.requires (positive c.if-n-eq0.false) c.in-40.is) c.opening.ensures
 
-pub opening-requires : goal.opening-requires
-opening-requires c = record { fits = c.requires; n_nonzero = omega arith }
+pub returns-in-None : goal.returns-in-None
+returns-in-None c = closing_nameless c.requires (positive c.if-n-eq0.false) _ c.in-41.is c.in-None.ensures
 
-pub returns-then-c-eq40 : goal.returns-then-c-eq40
-returns-then-c-eq40 c = rw (lines-opening c.requires (positive c.if-n-eq0.false) c.if-c-eq40.true) c.opening.ensures
+pub returns-in-Some : goal.returns-in-Some
+returns-in-Some c = closing_good c.requires (positive c.if-n-eq0.false) _ c.in-41.is c.in-Some.ensures
 
-pub put_name-requires : goal.put_name-requires
-put_name-requires c = title_room c.requires (positive c.if-n-eq0.false)
+pub returns-in-None-put_text : goal.returns-in-None-put_text
+returns-in-None-put_text c = text_wrong c.requires (positive c.if-n-eq0.false) _ c.in-45.is c.in-None-put_text.ensures
 
-pub returns-in-NotName : goal.returns-in-NotName
-returns-in-NotName c = closing_nameless c.requires (positive c.if-n-eq0.false) _ c.if-c-eq41.true (rw c.in-NotName.is at c.put_name.ensures)
+pub returns-in-Some-put_text : goal.returns-in-Some-put_text
+returns-in-Some-put_text c = text_good c.requires (positive c.if-n-eq0.false) _ c.in-45.is c.in-Some-put_text.ensures
 
-pub returns-in-At : goal.returns-in-At
-returns-in-At c = closing_good c.requires (positive c.if-n-eq0.false) _ c.if-c-eq41.true (rw c.in-At.is at c.put_name.ensures)
+pub returns-in-63 : goal.returns-in-63
+returns-in-63 c = instruction_good c.requires (positive c.if-n-eq0.false) _ c.in-63.is
 
-pub put_text-requires : goal.put_text-requires
-put_text-requires c = record { fits = c.requires; n_nonzero = omega arith }
-
-pub returns-in-Wrong : goal.returns-in-Wrong
-returns-in-Wrong c = text_wrong c.requires (positive c.if-n-eq0.false) _ c.if-c-eq45.true (rw c.in-Wrong.is at c.put_text.ensures)
-
-pub returns-in-Upto : goal.returns-in-Upto
-returns-in-Upto c = text_good c.requires (positive c.if-n-eq0.false) _ c.if-c-eq45.true (rw c.in-Upto.is at c.put_text.ensures)
-
-pub returns-then-c-eq63 : goal.returns-then-c-eq63
-returns-then-c-eq63 c = instruction_good c.requires (positive c.if-n-eq0.false) _ c.if-c-eq63.true
-
-pub returns : goal.returns
-returns c = other_first c.requires (positive c.if-n-eq0.false) _ c.if-c-eq40.false c.if-c-eq41.false c.if-c-eq45.false c.if-c-eq63.false
+pub returns-in_default : goal.returns-in_default
+returns-in_default c = other_first c.requires (positive c.if-n-eq0.false) _ (λ e. omega arith) (λ e. omega arith) (λ e. omega arith) (λ e. omega arith)

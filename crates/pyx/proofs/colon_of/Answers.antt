@@ -5,13 +5,13 @@ use Rattle.pyx.proofs.Names.{local_name, prefixed_name, colon_within}
 use Rattle.pyx.proofs.colon_of.Goals as goal
 
 pub overflow_add-result : goal.overflow_add-result
-overflow_add-result c = omega (arith, (prefixed_name _ (rw c.in-Prefixed.is at c.qname.ensures)).1, colon_within c.args.name.now)
+overflow_add-result c = omega (arith, (prefixed_name _ c.in-Prefixed.ensures).1, colon_within c.args.name.now)
 
 pub returns-in-NotName : goal.returns-in-NotName
-returns-in-NotName c = not_name _ (rw c.in-NotName.is at c.qname.ensures)
+returns-in-NotName c = not_name _ c.in-NotName.ensures
 
 pub returns-in-Local : goal.returns-in-Local
-returns-in-Local c = local_name _ (rw c.in-Local.is at c.qname.ensures)
+returns-in-Local c = local_name _ c.in-Local.ensures
 
 pub returns-in-Prefixed : goal.returns-in-Prefixed
-returns-in-Prefixed c = prefixed_name _ (rw c.in-Prefixed.is at c.qname.ensures)
+returns-in-Prefixed c = prefixed_name _ c.in-Prefixed.ensures

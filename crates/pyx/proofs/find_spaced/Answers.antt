@@ -1,10 +1,7 @@
 -- `pyx::find_spaced` meets its contract.
-use Rattle.pyx.proofs.Lines.{spacing_begins, spacing_more, spacing_done}
+use Rattle.pyx.proofs.Lines.{spacing_more, spacing_done}
 use native.Mathlib.Omega.{arith}
 use Rattle.pyx.proofs.find_spaced.Goals as goal
-
-pub loop-i-init : goal.loop-i-init
-loop-i-init c = spacing_begins
 
 pub loop-i-preserved : goal.loop-i-preserved
 loop-i-preserved c = spacing_more c.loop-i.invariant (omega arith)

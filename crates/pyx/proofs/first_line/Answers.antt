@@ -6,17 +6,8 @@ use Rattle.pyx.proofs.Reach.{is_end}
 use native.Mathlib.Omega.{arith}
 use Rattle.pyx.proofs.first_line.Goals as goal
 
-pub overflow_sub-result : goal.overflow_sub-result
-overflow_sub-result c = (c.is_plain_line.ensures c.if-is_plain_line.true).some
-
 pub returns-then-is_plain_line : goal.returns-then-is_plain_line
 returns-then-is_plain_line c = plain-line c.args.event.now (c.is_plain_line.ensures c.if-is_plain_line.true)
-
-pub has_spaced-requires : goal.has_spaced-requires
-has_spaced-requires c = c.find-n.ensures
-
-pub returns-then-has_spaced : goal.returns-then-has_spaced
-returns-then-has_spaced c = sym c.if-has_spaced.true ∙ c.has_spaced.ensures
 
 pub returns-then-not-is_text : goal.returns-then-not-is_text
 returns-then-not-is_text c = (sym c.if-has_spaced.false ∙ c.has_spaced.ensures, read_no_text c.args.event.now (sym c.if-not-is_text.true ∙ c.is_text.ensures))

@@ -10,14 +10,14 @@ returns-then-b-ne92 c = stands_plain _ _ _ c.requires refl c.if-b-ne92.true
 pub returns-then-s-i-lt2 : goal.returns-then-s-i-lt2
 returns-then-s-i-lt2 c = wrong_last _ _ c.requires c.if-b-ne92.false c.if-s-i-lt2.true
 
-pub returns-then-c-eq110 : goal.returns-then-c-eq110
-returns-then-c-eq110 c = stands-line_feed c.args.s.now c.args.i (omega arith) c.if-b-ne92.false c.if-c-eq110.true
+pub returns-in-110 : goal.returns-in-110
+returns-in-110 c = stands-line_feed c.args.s.now c.args.i (omega arith) c.if-b-ne92.false c.in-110.is
 
-pub returns-then-c-eq116 : goal.returns-then-c-eq116
-returns-then-c-eq116 c = stands_tab c.args.s.now c.args.i (omega arith) c.if-b-ne92.false c.if-c-eq116.true
+pub returns-in-116 : goal.returns-in-116
+returns-in-116 c = stands_tab c.args.s.now c.args.i (omega arith) c.if-b-ne92.false c.in-116.is
 
-pub returns-then-c-eq92 : goal.returns-then-c-eq92
-returns-then-c-eq92 c = stands_backslash c.args.s.now c.args.i (omega arith) c.if-b-ne92.false c.if-c-eq92.true
+pub returns-in-92 : goal.returns-in-92
+returns-in-92 c = stands_backslash c.args.s.now c.args.i (omega arith) c.if-b-ne92.false c.in-92.is
 
-pub returns : goal.returns
-returns c = wrong_escape c.args.s.now c.args.i (omega arith) c.if-b-ne92.false c.if-c-eq110.false c.if-c-eq116.false c.if-c-eq92.false
+pub returns-in_default : goal.returns-in_default
+returns-in_default c = wrong_escape c.args.s.now c.args.i (omega arith) c.if-b-ne92.false (λ e. omega arith) (λ e. omega arith) (λ e. omega arith)

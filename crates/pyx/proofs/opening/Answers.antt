@@ -7,16 +7,16 @@ pub put_name-requires : goal.put_name-requires
 put_name-requires c = title_room c.requires.fits c.requires.n_nonzero
 
 pub put_attributes-requires : goal.put_attributes-requires
-put_attributes-requires c = behind_title c.requires.fits c.requires.n_nonzero (rw c.in-At.is at c.put_name.ensures)
+put_attributes-requires c = behind_title c.requires.fits c.requires.n_nonzero c.in-Some.ensures
 
 pub returns-then-k-spans : goal.returns-then-k-spans
-returns-then-k-spans c = let r = rw c.in-Held.is at c.put_attributes.ensures in opening_crowded c.requires.fits c.requires.n_nonzero (rw c.in-At.is at c.put_name.ensures) _ _ r (omega (arith, r.words))
+returns-then-k-spans c = let r = c.in-Some-put_attributes.ensures in opening_crowded c.requires.fits c.requires.n_nonzero c.in-Some.ensures _ _ r (omega (arith, r.words))
 
-pub returns-in-NotName : goal.returns-in-NotName
-returns-in-NotName c = opening_nameless c.requires.fits c.requires.n_nonzero _ (rw c.in-NotName.is at c.put_name.ensures) _
+pub returns-in_default : goal.returns-in_default
+returns-in_default c = opening_nameless c.requires.fits c.requires.n_nonzero _ c.in_default.ensures _
 
-pub returns-in-Wrong : goal.returns-in-Wrong
-returns-in-Wrong c = opening_wrong c.requires.fits c.requires.n_nonzero (rw c.in-At.is at c.put_name.ensures) _ _ (rw c.in-Wrong.is at c.put_attributes.ensures)
+pub returns-in_default-put_attributes : goal.returns-in_default-put_attributes
+returns-in_default-put_attributes c = opening_wrong c.requires.fits c.requires.n_nonzero c.in-Some.ensures _ _ c.in_default-put_attributes.ensures
 
-pub returns-else-k-spans : goal.returns-else-k-spans
-returns-else-k-spans c = let r = rw c.in-Held.is at c.put_attributes.ensures in opening_good c.requires.fits c.requires.n_nonzero (rw c.in-At.is at c.put_name.ensures) _ _ r (omega (arith, r.words))
+pub returns : goal.returns
+returns c = let r = c.in-Some-put_attributes.ensures in opening_good c.requires.fits c.requires.n_nonzero c.in-Some.ensures _ _ r (omega (arith, r.words))

@@ -1,5 +1,6 @@
 -- `pyx::put_attribute` meets its contract. A name up to the first space, and a value behind it.
 use Prim.Native.Nat.{◌+◌}
+use mathlib.Core.Path.{refl}
 use native.Mathlib.Omega.{arith}
 use lib.ListN.{length-drop}
 use Rattle.copy.specs.Copy.{rest_of, part_of}
@@ -44,13 +45,13 @@ pub overflow_add-result : goal.overflow_add-result
 overflow_add-result c = omega (arith, read_end c.args.line.now (positive c.if-line-eq0.false) (rw rest_of at c.find-n.ensures), c.requires.line_in_bounds)
 
 pub overflow_sub-result : goal.overflow_sub-result
-overflow_sub-result c = let p = (rw rest_of at (rw c.in-Upto.is at c.unescape.ensures)) in omega (arith, p.wrote.up)
+overflow_sub-result c = let p = (rw rest_of at c.in_ok-to.ensures) in omega (arith, p.wrote.up)
 
-pub returns-in-NotName : goal.returns-in-NotName
-returns-in-NotName c = read_nameless c.args.line.now (positive c.if-line-eq0.false) (rw rest_of at c.find-n.ensures) c.requires.line_value _ _ c.args.at (rw part_of at (rw c.in-NotName.is at c.put_name.ensures))
+pub returns-in_err-colon : goal.returns-in_err-colon
+returns-in_err-colon c = rw c.from_residual.ensures (read_nameless c.args.line.now (positive c.if-line-eq0.false) (rw rest_of at c.find-n.ensures) c.requires.line_value _ _ c.args.at (rw part_of at c.in_err-colon.ensures))
 
-pub returns-in-Wrong : goal.returns-in-Wrong
-returns-in-Wrong c = read_valueless c.args.line.now (positive c.if-line-eq0.false) (rw rest_of at c.find-n.ensures) c.requires.line_value _ _ c.args.at (omega (arith, read_end c.args.line.now (positive c.if-line-eq0.false) (rw rest_of at c.find-n.ensures))) (rw part_of at (rw c.in-At.is at c.put_name.ensures)) (rw rest_of at (rw c.in-Wrong.is at c.unescape.ensures))
+pub returns-in_err-to : goal.returns-in_err-to
+returns-in_err-to c = rw c.from_residual-in_err-to.ensures (read_valueless c.args.line.now (positive c.if-line-eq0.false) (rw rest_of at c.find-n.ensures) c.requires.line_value _ _ c.args.at (omega (arith, read_end c.args.line.now (positive c.if-line-eq0.false) (rw rest_of at c.find-n.ensures))) (rw part_of at c.in_ok-colon.ensures) (rw rest_of at c.in_err-to.ensures))
 
-pub returns-in-Upto : goal.returns-in-Upto
-returns-in-Upto c = read_both c.args.line.now (positive c.if-line-eq0.false) (rw rest_of at c.find-n.ensures) c.requires.line_value _ _ c.args.at (omega (arith, read_end c.args.line.now (positive c.if-line-eq0.false) (rw rest_of at c.find-n.ensures))) (rw part_of at (rw c.in-At.is at c.put_name.ensures)) (rw rest_of at (rw c.in-Upto.is at c.unescape.ensures))
+pub returns : goal.returns
+returns c = (refl, read_both c.args.line.now (positive c.if-line-eq0.false) (rw rest_of at c.find-n.ensures) c.requires.line_value _ _ c.args.at (omega (arith, read_end c.args.line.now (positive c.if-line-eq0.false) (rw rest_of at c.find-n.ensures))) (rw part_of at c.in_ok-colon.ensures) (rw rest_of at c.in_ok-to.ensures))

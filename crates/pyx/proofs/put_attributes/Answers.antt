@@ -25,23 +25,17 @@ slice_bounds-put_attribute-end c = omega (arith, laying_end c.loop-at.invariant 
 pub put_attribute-requires : goal.put_attribute-requires
 put_attribute-requires c = record { line_value = rw part_of (laying_clear c.loop-at.invariant (rw rest_of at c.find-n.ensures)); line_in_bounds = rw part_of (laying_room c.loop-at.invariant (rw rest_of at c.find-n.ensures)) }
 
-pub shape_of-scratch-in-Wrong : goal.shape_of-scratch-in-Wrong
-shape_of-scratch-in-Wrong c = omega (arith, c.loop-at.invariant.kept.same)
-
-pub shape_of-spans-in-Wrong : goal.shape_of-spans-in-Wrong
-shape_of-spans-in-Wrong c = c.loop-at.invariant.words
-
-pub returns-in-Wrong : goal.returns-in-Wrong
-returns-in-Wrong c = laying_wrong c.loop-at.invariant (rw rest_of at c.find-n.ensures) c.if-end-event.false (rw part_of at (rw c.in-Wrong.is at c.put_attribute.ensures))
+pub returns-in_err-entry : goal.returns-in_err-entry
+returns-in_err-entry c = rw c.from_residual.ensures (laying_wrong c.loop-at.invariant (rw rest_of at c.find-n.ensures) c.if-end-event.false (rw part_of at c.in_err-entry.ensures))
 
 pub enter-requires : goal.enter-requires
-enter-requires c = laying_small c.loop-at.invariant (rw rest_of at c.find-n.ensures) c.if-end-event.false (rw part_of at (rw c.in-Held.is at c.put_attribute.ensures))
+enter-requires c = rw c.in_ok-entry.ensures.0 (laying_small c.loop-at.invariant (rw rest_of at c.find-n.ensures) c.if-end-event.false (rw part_of at c.in_ok-entry.ensures).1)
 
 pub overflow_add-used : goal.overflow_add-used
-overflow_add-used c = omega (arith, laying_within c.loop-at.invariant (rw rest_of at c.find-n.ensures) c.if-end-event.false (rw part_of at (rw c.in-Held.is at c.put_attribute.ensures)), laying_end c.loop-at.invariant (rw rest_of at c.find-n.ensures))
+overflow_add-used c = omega (arith, laying_within c.loop-at.invariant (rw rest_of at c.find-n.ensures) c.if-end-event.false (rw part_of at c.in_ok-entry.ensures).1, laying_end c.loop-at.invariant (rw rest_of at c.find-n.ensures))
 
-pub overflow_add-used-in-Held : goal.overflow_add-used-in-Held
-overflow_add-used-in-Held c = omega (arith, laying_within c.loop-at.invariant (rw rest_of at c.find-n.ensures) c.if-end-event.false (rw part_of at (rw c.in-Held.is at c.put_attribute.ensures)), laying_end c.loop-at.invariant (rw rest_of at c.find-n.ensures))
+pub overflow_add-used-in-loop-at : goal.overflow_add-used-in-loop-at
+overflow_add-used-in-loop-at c = omega (arith, laying_within c.loop-at.invariant (rw rest_of at c.find-n.ensures) c.if-end-event.false (rw part_of at c.in_ok-entry.ensures).1, laying_end c.loop-at.invariant (rw rest_of at c.find-n.ensures))
 
 pub overflow_add-k : goal.overflow_add-k
 overflow_add-k c = omega (arith, c.loop-at.invariant.few, c.loop-at.invariant.within)
@@ -53,7 +47,7 @@ pub loop-at-smaller : goal.loop-at-smaller
 loop-at-smaller c = omega arith
 
 pub loop-at-preserved : goal.loop-at-preserved
-loop-at-preserved c = laying_more c.loop-at.invariant (rw rest_of at c.find-n.ensures) c.if-end-event.false (rw part_of at (rw c.in-Held.is at c.put_attribute.ensures)) c.enter.ensures
+loop-at-preserved c = laying_more c.loop-at.invariant (rw rest_of at c.find-n.ensures) c.if-end-event.false (rw part_of at c.in_ok-entry.ensures).1 (rw c.in_ok-entry.ensures.0 at c.enter.ensures)
 
 pub shape_of-scratch : goal.shape_of-scratch
 shape_of-scratch c = c.loop-at.invariant.kept.same

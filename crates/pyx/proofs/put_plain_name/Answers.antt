@@ -11,11 +11,8 @@ loop-i-init c = (spelled_begins _, rw add-zero (wrote_none (omega (arith, c.requ
 pub next_part-requires : goal.next_part-requires
 next_part-requires c = record { i_in_bounds = omega arith; spelled = c.loop-i.invariant.0 }
 
-pub shape_of-scratch-in-NotName : goal.shape_of-scratch-in-NotName
-shape_of-scratch-in-NotName c = wrote_same c.loop-i.invariant.1
-
-pub returns-in-NotName : goal.returns-in-NotName
-returns-in-NotName c = copied-part c.args.name.now c.loop-i.invariant.1 c.loop-i.invariant.0.within
+pub returns-in_err-part : goal.returns-in_err-part
+returns-in_err-part c = rw c.from_residual.ensures (copied-part c.args.name.now c.loop-i.invariant.1 c.loop-i.invariant.0.within)
 
 pub overflow_add-scratch : goal.overflow_add-scratch
 overflow_add-scratch c = omega (arith, c.requires, wrote_same c.loop-i.invariant.1)
@@ -24,16 +21,13 @@ pub bounds-scratch-at : goal.bounds-scratch-at
 bounds-scratch-at c = omega (arith, c.requires, wrote_same c.loop-i.invariant.1)
 
 pub loop-i-preserved : goal.loop-i-preserved
-loop-i-preserved c = (rw c.in-At.is at c.next_part.ensures, copied_more c.args.name.now c.loop-i.invariant.1 (omega arith) c.requires)
+loop-i-preserved c = (rw c.in_ok-part.was at c.next_part.ensures, copied_more c.args.name.now c.loop-i.invariant.1 (omega arith) c.requires)
 
-pub shape_of-scratch-then-i-part : goal.shape_of-scratch-then-i-part
-shape_of-scratch-then-i-part c = wrote_same c.loop-i.invariant.1
-
-pub returns-then-i-part : goal.returns-then-i-part
-returns-then-i-part c = copied-part c.args.name.now c.loop-i.invariant.1 c.loop-i.invariant.0.within
+pub returns-then-name-part : goal.returns-then-name-part
+returns-then-name-part c = copied-part c.args.name.now c.loop-i.invariant.1 (omega arith)
 
 pub shape_of-scratch : goal.shape_of-scratch
 shape_of-scratch c = wrote_same c.loop-i.invariant.1
 
 pub returns : goal.returns
-returns c = copied-name c.args.name.now c.loop-i.invariant.1 c.loop-i.invariant.0 (omega arith) c.if-i-part.false
+returns c = copied-name c.args.name.now c.loop-i.invariant.1 c.loop-i.invariant.0 (omega arith) (λ e. c.if-name-part.false (omega arith))

@@ -7,11 +7,8 @@ use Rattle.pyx.proofs.unescape_bytes.Goals as goal
 pub loop-i-init : goal.loop-i-init
 loop-i-init c = passed-begins c.requires
 
-pub shape_of-scratch-in-Wrong : goal.shape_of-scratch-in-Wrong
-shape_of-scratch-in-Wrong c = wrote_same c.loop-i.invariant.done.wrote
-
-pub returns-in-Wrong : goal.returns-in-Wrong
-returns-in-Wrong c = passed_wrong c.loop-i.invariant (rw c.in-Wrong.is at c.next_byte.ensures)
+pub returns-in_err-b : goal.returns-in_err-b
+returns-in_err-b c = rw c.from_residual.ensures (passed_wrong c.loop-i.invariant c.in_err-b.ensures)
 
 pub bounds-scratch-to : goal.bounds-scratch-to
 bounds-scratch-to c = passed-room c.loop-i.invariant (omega arith)
@@ -20,13 +17,13 @@ pub overflow_add-to : goal.overflow_add-to
 overflow_add-to c = omega (arith, passed-room c.loop-i.invariant (omega arith))
 
 pub overflow_add-i : goal.overflow_add-i
-overflow_add-i c = omega (arith, passed-within c.loop-i.invariant (rw c.in-Byte.is at c.next_byte.ensures))
+overflow_add-i c = omega (arith, passed-within c.loop-i.invariant c.in_ok-b.ensures)
 
 pub loop-i-smaller : goal.loop-i-smaller
-loop-i-smaller c = let w = rw c.in-Byte.is at c.next_byte.ensures in omega (arith, w.some, passed-within c.loop-i.invariant w)
+loop-i-smaller c = let w = c.in_ok-b.ensures in omega (arith, w.some, passed-within c.loop-i.invariant w)
 
 pub loop-i-preserved : goal.loop-i-preserved
-loop-i-preserved c = passed_more c.loop-i.invariant (omega arith) (rw c.in-Byte.is at c.next_byte.ensures)
+loop-i-preserved c = passed_more c.loop-i.invariant (omega arith) c.in_ok-b.ensures
 
 pub shape_of-scratch : goal.shape_of-scratch
 shape_of-scratch c = wrote_same c.loop-i.invariant.done.wrote

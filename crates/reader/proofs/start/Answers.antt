@@ -2,14 +2,14 @@
 use Rattle.reader.specs.Starting.{start_refused, start_done}
 use Rattle.reader.proofs.start.Goals as goal
 
-pub shape_of-work-in-Refused : goal.shape_of-work-in-Refused
-shape_of-work-in-Refused c = c.work-1.given
+pub shape_of-work-in-Err : goal.shape_of-work-in-Err
+shape_of-work-in-Err c = c.work-1.given
 
-pub returns-in-Refused : goal.returns-in-Refused
-returns-in-Refused c = start_refused _ _ _ _ _ _ c.begin-begun.ensures c.in-Refused.is c.refused.ensures
+pub returns-in-Err : goal.returns-in-Err
+returns-in-Err c = start_refused _ _ _ _ _ _ c.begin-begun.ensures c.in-Err.is c.refused.ensures
 
-pub shape_of-work-in-On : goal.shape_of-work-in-On
-shape_of-work-in-On c = c.work-1.given
+pub shape_of-work-in-Ok : goal.shape_of-work-in-Ok
+shape_of-work-in-Ok c = c.work-1.given
 
-pub returns-in-On : goal.returns-in-On
-returns-in-On c = start_done _ _ _ _ _ _ c.begin-begun.ensures c.in-On.is c.base_size.ensures c.fresh.ensures c.done.ensures
+pub returns-in-Ok : goal.returns-in-Ok
+returns-in-Ok c = start_done _ _ _ _ _ _ c.begin-begun.ensures c.in-Ok.is c.base_size.ensures c.fresh.ensures c.done.ensures

@@ -26,26 +26,26 @@ returns-then-registers c = step-closed (lawful_as_parts c.args.state _ _ c.is_la
 pub core-taken-requires : goal.core-taken-requires
 core-taken-requires c = (record { lawful = lawful_facts c.args.state _ _ (lawful_as_parts c.args.state _ _ c.is_lawful.ensures ∙ c.if-not-is_lawful.false) c.well_formed.0.1.1.1.1.1.1.0.1.1.1.1.0.1.0.1 c.well_formed.0.1.1.1.1.1.1.0.1.1.1.1.1.0.1.0.1 _; mark = c.if-registers.false }, roomy)
 
-pub shape_of-work-in-Stop : goal.shape_of-work-in-Stop
-shape_of-work-in-Stop c = c.work-1.given
+pub shape_of-work-in-Err : goal.shape_of-work-in-Err
+shape_of-work-in-Err c = c.work-1.given
 
-pub shape_of-ids-in-Stop : goal.shape_of-ids-in-Stop
-shape_of-ids-in-Stop c = c.ids-1.given
+pub shape_of-ids-in-Err : goal.shape_of-ids-in-Err
+shape_of-ids-in-Err c = c.ids-1.given
 
-pub shape_of-out-in-Stop : goal.shape_of-out-in-Stop
-shape_of-out-in-Stop c = c.out-1.given
+pub shape_of-out-in-Err : goal.shape_of-out-in-Err
+shape_of-out-in-Err c = c.out-1.given
 
-pub returns-in-Stop : goal.returns-in-Stop
-returns-in-Stop c = step_stop c.args.state (lawful_as_parts c.args.state _ _ c.is_lawful.ensures ∙ c.if-not-is_lawful.false) c.if-registers.false c.core-taken.ensures.0 c.in-Stop.is c.marked.ensures c.refused-in-Stop.ensures
+pub returns-in-Err : goal.returns-in-Err
+returns-in-Err c = step_stop c.args.state (lawful_as_parts c.args.state _ _ c.is_lawful.ensures ∙ c.if-not-is_lawful.false) c.if-registers.false c.core-taken.ensures.0 c.in-Err.is c.marked.ensures c.refused-in-Err.ensures
 
-pub shape_of-work-in-Did : goal.shape_of-work-in-Did
-shape_of-work-in-Did c = c.work-1.given
+pub shape_of-work-in-Ok : goal.shape_of-work-in-Ok
+shape_of-work-in-Ok c = c.work-1.given
 
-pub shape_of-ids-in-Did : goal.shape_of-ids-in-Did
-shape_of-ids-in-Did c = c.ids-1.given
+pub shape_of-ids-in-Ok : goal.shape_of-ids-in-Ok
+shape_of-ids-in-Ok c = c.ids-1.given
 
-pub shape_of-out-in-Did : goal.shape_of-out-in-Did
-shape_of-out-in-Did c = c.out-1.given
+pub shape_of-out-in-Ok : goal.shape_of-out-in-Ok
+shape_of-out-in-Ok c = c.out-1.given
 
-pub returns-in-Did : goal.returns-in-Did
-returns-in-Did c = step_did c.args.state (lawful_as_parts c.args.state _ _ c.is_lawful.ensures ∙ c.if-not-is_lawful.false) c.if-registers.false c.core-taken.ensures.0 c.in-Did.is c.accepted.ensures
+pub returns-in-Ok : goal.returns-in-Ok
+returns-in-Ok c = step_did c.args.state (lawful_as_parts c.args.state _ _ c.is_lawful.ensures ∙ c.if-not-is_lawful.false) c.if-registers.false c.core-taken.ensures.0 c.in-Ok.is c.accepted.ensures

@@ -3,4 +3,4 @@ use Rattle.reader_contract.specs.Meets.{closing_numbers}
 use Rattle.reader_contract.proofs.closes.Goals as goal
 
 pub returns : goal.returns
-returns c = rw c.number_of.ensures (closing_numbers c.args.r)
+returns c = rw c.from.ensures (closing_numbers c.args.r)

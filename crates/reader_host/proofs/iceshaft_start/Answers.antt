@@ -1,24 +1,17 @@
 -- `reader_host::iceshaft_start` meets its contract.
+use Rattle.std.proofs.Common.{leb-true, leb-false}
+use Rattle.reader_host.specs.Saving.{held, failed}
 use Rattle.reader_host.specs.Calling.{start_bad, start_unknown, start_refused, start_done}
 use Rattle.reader_host.proofs.iceshaft_start.Goals as goal
 
 pub returns-then-state-ne-BYTES : goal.returns-then-state-ne-BYTES
-returns-then-state-ne-BYTES c = start_bad c.if-state-ne-BYTES.true
+returns-then-state-ne-BYTES c = rw c.from.ensures (start_bad c.if-state-ne-BYTES.true)
 
-pub returns-then-unknown : goal.returns-then-unknown
-returns-then-unknown c = start_unknown c.if-unknown.true
+pub returns-in_default : goal.returns-in_default
+returns-in_default c = rw c.from-in_default.ensures (start_unknown (leb-false _ _ (failed _ _ c.mode_of.ensures c.in_default.is)))
 
-pub shape_of-work-then-number-ne0 : goal.shape_of-work-then-number-ne0
-shape_of-work-then-number-ne0 c = c.work-1.given
-
-pub returns-then-number-ne0 : goal.returns-then-number-ne0
-returns-then-number-ne0 c = start_refused c.if-state-ne-BYTES.false c.if-unknown.false c.none-before.ensures c.mode_of.ensures c.start-report.ensures c.number-number.ensures c.if-number-ne0.true
-
-pub shape_of-state : goal.shape_of-state
-shape_of-state c = c.state-1.given
-
-pub shape_of-work : goal.shape_of-work
-shape_of-work c = c.work-1.given
+pub returns-then-refused : goal.returns-then-refused
+returns-then-refused c = start_refused c.if-state-ne-BYTES.false (leb-true _ _ (held _ c.mode_of.ensures c.in-Some.is).0) c.none-before.ensures (held _ c.mode_of.ensures c.in-Some.is).1 c.start-report.ensures c.number-number.ensures c.if-refused.true
 
 pub returns : goal.returns
-returns c = start_done c.if-state-ne-BYTES.false c.if-unknown.false c.none-before.ensures c.mode_of.ensures c.start-report.ensures c.number-number.ensures c.if-number-ne0.false c.save.ensures
+returns c = start_done c.if-state-ne-BYTES.false (leb-true _ _ (held _ c.mode_of.ensures c.in-Some.is).0) c.none-before.ensures (held _ c.mode_of.ensures c.in-Some.is).1 c.start-report.ensures c.number-number.ensures c.if-refused.false c.save.ensures

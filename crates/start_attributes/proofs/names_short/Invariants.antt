@@ -1,5 +1,4 @@
 -- `start_attributes::names_short` meets its contract. The loop's invariant: the expanded names of the first `j` attributes are short.
-use Prim.Native.Nat.{◌-◌}
 use Rattle.copy.specs.Scan.{Passed}
 use Rattle.start_attributes.specs.Short.{short_at}
 use Rattle.start_attributes.specs.Places.{places}
@@ -7,6 +6,3 @@ use Rattle.start_attributes.proofs.names_short.Given as goal
 
 abbrev pub invariant-loop-j : goal.invariant-loop-j
 invariant-loop-j l = Passed (short_at l.scratch l.spans l.work l.classes) (places 0 l.k) l.j
-
-abbrev pub decreases-loop-j : goal.decreases-loop-j
-decreases-loop-j l = l.k - l.j

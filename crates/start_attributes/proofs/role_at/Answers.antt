@@ -1,14 +1,11 @@
 -- `start_attributes::role_at` meets its contract, by the class.
 use Rattle.spec.specs.Namespaces.{xml_name}
 use Rattle.spec.specs.Bytes.{ascii}
-use Rattle.start_attributes.specs.Attributes.{no_role_declaration, no_role_unknown, role_unprefixed, role_xml, role_own, role_held, text-unprefixed, text_xml_lem, text_own, text-held}
+use Rattle.start_attributes.specs.Attributes.{no_role, role_unprefixed, role_xml, role_own, role_held, text-unprefixed, text_xml_lem, text_own, text-held}
 use Rattle.start_attributes.proofs.role_at.Goals as goal
 
 pub returns-in-Declaration : goal.returns-in-Declaration
-returns-in-Declaration c = no_role_declaration _ _ _ _ c.in-Declaration.is
-
-pub returns-in-Unknown : goal.returns-in-Unknown
-returns-in-Unknown c = no_role_unknown _ _ _ _ c.in-Unknown.is
+returns-in-Declaration c = no_role _ _ _ _ c.in-Declaration.is
 
 pub returns-in-Unprefixed : goal.returns-in-Unprefixed
 returns-in-Unprefixed c = role_unprefixed _ _ _ _ c.name_of-name.ensures (text-unprefixed _ _ _ _ c.name_of-name.ensures c.in-Unprefixed.is) c.role_of.ensures c.in-Unprefixed.is

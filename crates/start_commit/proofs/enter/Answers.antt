@@ -10,4 +10,4 @@ pub shape_of-ids : goal.shape_of-ids
 shape_of-ids c = c.ids-1.given
 
 pub returns : goal.returns
-returns c = enters_one _ _ _ c.requires.0 (sym c.is_there.ensures ∙ c.if-not-is_there.false) (c.requires.1 (sym c.is_there.ensures ∙ c.if-not-is_there.false)) c.text.ensures c.add.ensures
+returns c = enters_one _ (record { count = c.args.count; used = c.args.used }) _ _ c.requires.0 (sym c.is_there.ensures ∙ c.if-not-is_there.false) (c.requires.1 (sym c.is_there.ensures ∙ c.if-not-is_there.false)) c.text-text.ensures c.add.ensures c.unwrap_or.ensures

@@ -6,4 +6,4 @@ pub shape_of-out : goal.shape_of-out
 shape_of-out c = c.out-1.given
 
 pub returns : goal.returns
-returns c = object-told c.args.x _ _ _ _ _ _ _ _ c.tag_in_force-spoken.ensures c.is_there-typed.ensures c.text-type_of.ensures c.of-node.ensures c.text-subject.ensures c.tag_lines.ensures
+returns c = object-told c.args.x _ _ _ _ _ _ _ _ c.tag_in_force-spoken.ensures c.is_there-typed.ensures c.text-type_of.ensures (rw c.is_blank.ensures at c.of-node.ensures) c.text-subject.ensures c.tag_lines.ensures

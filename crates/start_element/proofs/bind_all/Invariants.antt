@@ -4,6 +4,3 @@ use Rattle.start_element.proofs.bind_all.Given as goal
 
 abbrev pub invariant-loop-j : goal.invariant-loop-j
 invariant-loop-j l = Entering l.scratch l.spans l.k l.initial.work l.initial.bindings l.work l.bindings l.initial.next l.next l.j
-
-abbrev pub decreases-loop-j : goal.decreases-loop-j
-decreases-loop-j l = l.j

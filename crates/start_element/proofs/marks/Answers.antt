@@ -9,4 +9,4 @@ unfolding most_bindings
 overflow_cast-result c = search rules
 
 pub returns : goal.returns
-returns c = marks_are c.args.parts _ c.mark.ensures c.mark-2.ensures c.bit.ensures c.mark-3.ensures c.mark-4.ensures
+returns c = marks_are c.args.parts _ c.mark.ensures c.mark-2.ensures c.from.ensures c.mark-3.ensures c.mark-4.ensures c.from-2.ensures

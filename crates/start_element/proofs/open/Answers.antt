@@ -19,7 +19,7 @@ unfolding most_bindings
 marks-has-requires c = omega (arith, c.requires.bindings)
 
 pub shape_of-frames : goal.shape_of-frames
-shape_of-frames c = c.push-c.ensures.same
+shape_of-frames c = c.push.ensures.same
 
 pub shape_of-bindings : goal.shape_of-bindings
 shape_of-bindings c = c.bind_all-next.ensures.same_words
@@ -28,4 +28,4 @@ pub shape_of-work : goal.shape_of-work
 shape_of-work c = c.lay-at.ensures.same ∙ (c.bind_all-next.ensures.same_bytes ∙ c.put.ensures.same)
 
 pub returns : goal.returns
-returns c = opens c.requires c.piece-name.ensures c.put.ensures c.bind_all-next.ensures c.lay-at.ensures c.marks-has.ensures c.push-c.ensures
+returns c = rw c.unwrap_or.ensures (opens c.requires c.piece-name.ensures c.put.ensures c.bind_all-next.ensures c.lay-at.ensures c.marks-has.ensures c.push.ensures)

@@ -2,8 +2,8 @@
 use Rattle.start_lines.specs.Lines.{role_none}
 use Rattle.start_lines.proofs.is_property.Goals as goal
 
-pub returns-then-roles-j : goal.returns-then-roles-j
-returns-then-roles-j c = role_none c.args.roles.now _ c.if-roles-j.true
+pub returns-else-j-roles : goal.returns-else-j-roles
+returns-else-j-roles c = role_none c.args.roles.now _ c.if-j-roles.false
 
-pub returns : goal.returns
-returns c = rw c.word.ensures
+pub returns-then-j-roles : goal.returns-then-j-roles
+returns-then-j-roles c = rw c.from.ensures

@@ -10,4 +10,4 @@ pub returns-then-prefix-eq0 : goal.returns-then-prefix-eq0
 returns-then-prefix-eq0 c = says-unprefixed _ (told _ _ _ c.name_of.ensures c.is_declaration.ensures c.if-is_declaration.false) c.prefix_of-prefix.ensures c.if-prefix-eq0.true
 
 pub returns : goal.returns
-returns c = says_class _ _ _ _ _ (told _ _ _ c.name_of.ensures c.is_declaration.ensures c.if-is_declaration.false) c.prefix_of-prefix.ensures c.if-prefix-eq0.false c.lookup.ensures c.class.ensures
+returns c = says_class _ _ _ _ _ (told _ _ _ c.name_of.ensures c.is_declaration.ensures c.if-is_declaration.false) c.prefix_of-prefix.ensures c.if-prefix-eq0.false c.lookup.ensures c.from.ensures

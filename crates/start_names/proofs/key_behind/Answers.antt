@@ -9,8 +9,8 @@ use Rattle.start_names.proofs.key_behind.Goals as goal
 pub returns-then-k-j : goal.returns-then-k-j
 returns-then-k-j c = none_behind _ _ _ (omega arith)
 
-pub returns-then-k-i : goal.returns-then-k-i
-returns-then-k-i c = alone_done alone_begins (omega arith)
+pub returns-then-k-first : goal.returns-then-k-first
+returns-then-k-first c = alone_done alone_begins (omega arith)
 
 pub loop-i-init : goal.loop-i-init
 loop-i-init c = alone_begins

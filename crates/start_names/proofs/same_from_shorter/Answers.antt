@@ -18,4 +18,4 @@ pub returns-then-not-begins : goal.returns-then-not-begins
 returns-then-not-begins c = middles_differ c.args.a.now c.args.b.now c.args.c.now c.args.d.now c.requires (omega arith) (rw rest_of at (sym c.begins.ensures ∙ c.if-not-begins.true))
 
 pub returns : goal.returns
-returns c = c.equal_long.ensures ∙ fronts_decide c.args.a.now c.args.b.now c.args.c.now c.args.d.now c.requires (omega arith) (rw rest_of at (sym c.equal.ensures ∙ c.if-not-equal.false)) (rw rest_of at (sym c.begins.ensures ∙ c.if-not-begins.false))
+returns c = c.equal-2.ensures ∙ fronts_decide c.args.a.now c.args.b.now c.args.c.now c.args.d.now c.requires (omega arith) (rw rest_of at (sym c.equal.ensures ∙ c.if-not-equal.false)) (rw rest_of at (sym c.begins.ensures ∙ c.if-not-begins.false))

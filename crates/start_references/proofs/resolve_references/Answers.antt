@@ -10,4 +10,4 @@ pub shape_of-area : goal.shape_of-area
 shape_of-area c = c.area-1.given
 
 pub returns : goal.returns
-returns c = base_as (fresh_by c.args.count c.args.starts.now c.args.sizes.now c.args.ids.now) (five_at c.args.scratch.now c.args.spans.now c.args.k c.args.roles.now) (based c.base_of-base.ensures c.args.roles.now c.first_in-j.ensures c.base_in_force-f.ensures) c.resolve_on.ensures
+returns c = base_as (fresh_by c.args.count c.args.starts.now c.args.sizes.now c.args.ids.now) (five_at c.args.scratch.now c.args.spans.now c.args.k c.args.roles.now) (based _ _ _ _ _ _ c.args.roles.now c.base_of-base.ensures c.first_in-j.ensures c.base_in_force-f.ensures) c.resolve_on.ensures

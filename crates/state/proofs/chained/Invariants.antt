@@ -4,6 +4,3 @@ use Rattle.state.proofs.chained.Given as goal
 
 abbrev pub invariant-loop-i : goal.invariant-loop-i
 invariant-loop-i l = ChainWalk l.bindings l.b l.n l.from l.to l.i l.t
-
-abbrev pub decreases-loop-i : goal.decreases-loop-i
-decreases-loop-i l = l.i

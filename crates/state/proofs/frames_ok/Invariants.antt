@@ -4,6 +4,3 @@ use Rattle.state.proofs.frames_ok.Given as goal
 
 abbrev pub invariant-loop-i : goal.invariant-loop-i
 invariant-loop-i l = FrameWalk l.frames l.bindings l.work l.base l.depth l.top l.outer l.i l.t l.b
-
-abbrev pub decreases-loop-i : goal.decreases-loop-i
-decreases-loop-i l = l.i

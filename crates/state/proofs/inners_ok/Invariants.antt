@@ -4,6 +4,3 @@ use Rattle.state.proofs.inners_ok.Given as goal
 
 abbrev pub invariant-loop-i : goal.invariant-loop-i
 invariant-loop-i l = InnerWalk l.inners l.bindings l.outer l.inner l.low l.bound l.i l.l l.b
-
-abbrev pub decreases-loop-i : goal.decreases-loop-i
-decreases-loop-i l = l.i

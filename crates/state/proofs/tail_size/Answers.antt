@@ -1,9 +1,6 @@
--- `state::tail_size` meets its contract. By the test that was made.
-use native.Mathlib.Omega.{arith}
+-- `state::tail_size` meets its contract. What is left, or nothing.
+use mathlib.Core.Path.{◌∙◌}
 use Rattle.state.proofs.tail_size.Goals as goal
 
-pub returns-then-at : goal.returns-then-at
-returns-then-at c = (omega arith, omega arith)
-
 pub returns : goal.returns
-returns c = (c.wide.ensures.0, c.wide.ensures.1)
+returns c = (c.wide.ensures.0 ∙ c.saturating_sub.ensures, c.wide.ensures.1)

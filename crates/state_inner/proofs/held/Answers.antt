@@ -10,4 +10,4 @@ pub returns-then-r : goal.returns-then-r
 returns-then-r c = held_crossed _ (omega arith) (omega arith)
 
 pub returns : goal.returns
-returns c = rw c.minus.ensures (held_is _ (omega arith) (omega arith))
+returns c = rw c.saturating_sub.ensures (held_is _ (omega arith) (omega arith))

@@ -4,6 +4,3 @@ use Rattle.state_inner.proofs.innermost.Given as goal
 
 abbrev pub invariant-loop-i : goal.invariant-loop-i
 invariant-loop-i l = Sought l.frames l.mark l.place l.depth l.i
-
-abbrev pub decreases-loop-i : goal.decreases-loop-i
-decreases-loop-i l = l.i

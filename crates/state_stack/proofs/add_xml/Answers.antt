@@ -1,22 +1,14 @@
 -- `state_stack::add_xml` meets its contract. A law of specs/ for each return, with the tests that led there.
+use Rattle.state_words.specs.declared.Kind.TheVariants.{ParseTypeLiteralPropertyElt, ParseTypeOtherPropertyElt}
+use Rattle.state_stack.specs.Calls.{is_kind, not_kind}
 use Rattle.state_stack.specs.Calls.{xml_dropped, xml_other, xml_done}
-use mathlib.Core.Path.{◌∙◌, sym, refl}
 use Rattle.state_stack.proofs.add_xml.Goals as goal
 
-pub returns-then-same_kind : goal.returns-then-same_kind
-returns-then-same_kind c = xml_dropped c.top-f.ensures (sym c.same_kind.ensures ∙ c.if-same_kind.true)
+pub returns-then-eq : goal.returns-then-eq
+returns-then-eq c = xml_dropped c.top-f.ensures (is_kind _ ParseTypeOtherPropertyElt c.eq.ensures c.if-eq.true)
 
-pub shape_of-frames-then-not-same_kind : goal.shape_of-frames-then-not-same_kind
-shape_of-frames-then-not-same_kind c = refl
-
-pub returns-then-not-same_kind : goal.returns-then-not-same_kind
-returns-then-not-same_kind c = xml_other c.top-f.ensures (sym c.same_kind.ensures ∙ c.if-same_kind.false) (sym c.same_kind-2.ensures ∙ c.if-not-same_kind.true)
-
-pub shape_of-frames : goal.shape_of-frames
-shape_of-frames c = c.frames-1.given
-
-pub shape_of-work : goal.shape_of-work
-shape_of-work c = c.work-1.given
+pub returns-then-ne : goal.returns-then-ne
+returns-then-ne c = xml_other c.top-f.ensures (is_kind _ ParseTypeOtherPropertyElt c.eq.ensures c.if-eq.false) (not_kind _ ParseTypeLiteralPropertyElt c.ne.ensures c.if-ne.true)
 
 pub returns : goal.returns
-returns c = xml_done c.top-f.ensures (sym c.same_kind.ensures ∙ c.if-same_kind.false) (sym c.same_kind-2.ensures ∙ c.if-not-same_kind.false) (rw c.wide.ensures.0 at c.write_tail.ensures)
+returns c = xml_done c.top-f.ensures (is_kind _ ParseTypeOtherPropertyElt c.eq.ensures c.if-eq.false) (not_kind _ ParseTypeLiteralPropertyElt c.ne.ensures c.if-ne.false) (rw c.wide.ensures.0 at c.write_tail.ensures)

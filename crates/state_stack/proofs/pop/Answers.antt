@@ -10,4 +10,4 @@ pub returns-then-r-eq0 : goal.returns-then-r-eq0
 returns-then-r-eq0 c = pop_empty (omega arith) (omega arith)
 
 pub returns : goal.returns
-returns c = rw (c.of.ensures, c.minus.ensures, c.noted_of.ensures.0, c.wide-first.ensures.0, c.wide-top.ensures.0) (pop_done (omega (arith, c.if-r-ne0.false)) c.if-r-eq0.false c.load-f.ensures)
+returns c = rw (c.of.ensures, c.saturating_sub.ensures, c.noted_of.ensures.0, c.wide-first.ensures.0, c.wide-top.ensures.0) (pop_done (omega (arith, c.if-r-ne0.false)) c.if-r-eq0.false c.load-f.ensures)

@@ -9,14 +9,8 @@ returns-then-r-ne0 c = push_inside c.if-r-ne0.true
 pub returns-then-r-ge-MOST : goal.returns-then-r-ge-MOST
 returns-then-r-ge-MOST c = push_deep (omega arith) (omega arith)
 
-pub shape_of-frames-then-not-store : goal.shape_of-frames-then-not-store
-shape_of-frames-then-not-store c = c.frames-1.given
-
 pub returns-then-not-store : goal.returns-then-not-store
 returns-then-not-store c = push_short (omega arith) (omega arith) c.store.ensures c.if-not-store.true
-
-pub shape_of-frames : goal.shape_of-frames
-shape_of-frames c = c.frames-1.given
 
 pub returns : goal.returns
 returns c = rw (c.of.ensures, c.wide-top.ensures.0) (push_done (omega arith) (omega arith) c.store.ensures c.if-not-store.false)

@@ -18,17 +18,8 @@ returns-then-low-from c = tail_full c.if-r-eq0.false (omega arith) (omega arith)
 pub returns-then-low-from-2 : goal.returns-then-low-from-2
 returns-then-low-from-2 c = tail_full c.if-r-eq0.false (omega arith) (omega arith) (omega arith)
 
-pub shape_of-frames-then-not-store : goal.shape_of-frames-then-not-store
-shape_of-frames-then-not-store c = c.frames-1.given
-
 pub returns-then-not-store : goal.returns-then-not-store
 returns-then-not-store c = tail_short c.if-r-eq0.false (omega arith) (omega arith) (omega arith) c.store.ensures c.if-not-store.true
-
-pub shape_of-frames : goal.shape_of-frames
-shape_of-frames c = c.frames-1.given
-
-pub shape_of-work : goal.shape_of-work
-shape_of-work c = c.work-1.given
 
 pub returns : goal.returns
 returns c = tail_done c.if-r-eq0.false (omega (arith, c.if-low-gt-STORE.false)) (omega (arith, c.if-work-low.false)) (omega (arith, c.if-low-from.false, c.if-low-from-2.false)) c.store.ensures c.if-not-store.false c.put.ensures c.with_top.ensures

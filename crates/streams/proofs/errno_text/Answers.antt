@@ -7,5 +7,5 @@ use Rattle.streams.proofs.errno_text.Goals as goal
 before : (p : ℕ → Bool) (s : List ℕ) {n : ℕ} → n ≡ length (up_to p s) → n - 1 ≤ length s
 before p s e = omega (arith, e, length_up_to p s)
 
-pub returns-else-end-eq0 : goal.returns-else-end-eq0
-returns-else-end-eq0 c = before _ _ c.find-end.ensures
+pub returns : goal.returns
+returns c = rw c.saturating_sub.ensures (before _ _ c.find-end.ensures)

@@ -14,4 +14,4 @@ returns-then-not-text_fits c = text_over (sym c.is_blank.ensures ∙ c.if-is_bla
 
 pub returns : goal.returns
 unfolding L.all
-returns c = text_done (sym c.is_blank.ensures ∙ c.if-is_blank.false) (leb-true _ 49152 (sym c.text_fits.ensures ∙ c.if-not-text_fits.false)) c.set_text-c.ensures
+returns c = rw c.unwrap_or-behind.ensures (text_done (sym c.is_blank.ensures ∙ c.if-is_blank.false) (leb-true _ 49152 (sym c.text_fits.ensures ∙ c.if-not-text_fits.false)) c.set_text.ensures)

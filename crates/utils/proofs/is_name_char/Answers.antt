@@ -2,7 +2,7 @@
 use mathlib.Core.Path.{refl, sym, ◌∙◌}
 use Rattle.spec.specs.Bytes.{byte}
 use Rattle.spec.specs.XmlNames.{further_ranges, is_name_char}
-use Rattle.utils.specs.Ranges.{ranges, ascending_from}
+use Rattle.utils.specs.Ranges.{ascending_from}
 use Rattle.utils.proofs.is_name_char.Goals as goal
 
 pub returns-then-is_name_start_char : goal.returns-then-is_name_start_char
@@ -10,9 +10,9 @@ unfolding is_name_char
 returns-then-is_name_start_char c = rw (sym c.is_name_start_char.ensures ∙ c.if-is_name_start_char.true)
 
 pub in_ranges-requires : goal.in_ranges-requires
-unfolding ranges ascending_from
+unfolding ascending_from
 in_ranges-requires c = refl
 
 pub returns : goal.returns
-unfolding ranges is_name_char further_ranges byte
+unfolding is_name_char further_ranges byte
 returns c = rw (sym c.is_name_start_char.ensures ∙ c.if-is_name_start_char.false) c.in_ranges.ensures

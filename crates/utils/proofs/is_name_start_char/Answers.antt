@@ -2,13 +2,13 @@
 use mathlib.Core.Path.{refl}
 use Rattle.spec.specs.Bytes.{byte}
 use Rattle.spec.specs.XmlNames.{start_ranges, is_name_start}
-use Rattle.utils.specs.Ranges.{ranges, ascending_from}
+use Rattle.utils.specs.Ranges.{ascending_from}
 use Rattle.utils.proofs.is_name_start_char.Goals as goal
 
 pub in_ranges-requires : goal.in_ranges-requires
-unfolding ranges ascending_from
+unfolding ascending_from
 in_ranges-requires c = refl
 
 pub returns : goal.returns
-unfolding ranges is_name_start start_ranges byte
+unfolding is_name_start start_ranges byte
 returns c = c.in_ranges.ensures

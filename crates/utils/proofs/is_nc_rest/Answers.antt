@@ -13,20 +13,20 @@ loop-i-init c = walked_begins _ _
 pub loop-i-preserved-then-is_plain_name : goal.loop-i-preserved-then-is_plain_name
 loop-i-preserved-then-is_plain_name c = walked_plain rest_by c.loop-i.invariant (omega arith) (sym c.is_plain_name.ensures ∙ c.if-is_plain_name.true)
 
-pub nc_char-n-requires : goal.nc_char-n-requires
-nc_char-n-requires c = rw to_end (rw length-drop (omega arith))
+pub nc_char-requires : goal.nc_char-requires
+nc_char-requires c = rw to_end (rw length-drop (omega arith))
 
-pub returns-then-n-eq0 : goal.returns-then-n-eq0
-returns-then-n-eq0 c = walked_fails c.loop-i.invariant (rw to_end at c.nc_char-n.ensures) c.if-n-eq0.true
+pub returns-in_default : goal.returns-in_default
+returns-in_default c = walked_fails c.loop-i.invariant (rw to_end at c.in_default.ensures)
 
 pub overflow_add-i-else-is_plain_name : goal.overflow_add-i-else-is_plain_name
-overflow_add-i-else-is_plain_name c = omega (arith, walked_within c.loop-i.invariant (rw to_end at c.nc_char-n.ensures))
+overflow_add-i-else-is_plain_name c = omega (arith, walked_within c.loop-i.invariant (rw to_end at c.in-Some.ensures))
 
 pub loop-i-smaller : goal.loop-i-smaller
-loop-i-smaller c = omega (arith, walked_within c.loop-i.invariant (rw to_end at c.nc_char-n.ensures))
+loop-i-smaller c = omega (arith, (rw to_end at c.in-Some.ensures).some, walked_within c.loop-i.invariant (rw to_end at c.in-Some.ensures))
 
 pub loop-i-preserved : goal.loop-i-preserved
-loop-i-preserved c = walked_more c.loop-i.invariant (rw to_end at c.nc_char-n.ensures) c.if-n-eq0.false
+loop-i-preserved c = walked_more c.loop-i.invariant (rw to_end at c.in-Some.ensures)
 
 pub returns : goal.returns
 returns c = walked_passes c.loop-i.invariant rest_by (omega arith)

@@ -6,12 +6,12 @@ use Rattle.utils.proofs.Plain.{gathered_begins, gathered_more, gathered_done}
 use native.Mathlib.Omega.{arith}
 use Rattle.utils.proofs.is_printable_block.Goals as goal
 
-pub loop-j-init : goal.loop-j-init
-loop-j-init c = gathered_begins
+pub loop-b-init : goal.loop-b-init
+loop-b-init c = gathered_begins
 
-pub loop-j-preserved : goal.loop-j-preserved
+pub loop-b-preserved : goal.loop-b-preserved
 unfolding printable byte
-loop-j-preserved c = gathered_more c.loop-j.invariant (omega arith) refl
+loop-b-preserved c = gathered_more c.loop-b.invariant (omega arith) refl
 
 pub returns : goal.returns
-returns c = gathered_done c.loop-j.invariant (omega arith)
+returns c = gathered_done c.loop-b.invariant (omega arith)

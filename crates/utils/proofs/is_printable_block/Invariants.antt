@@ -1,12 +1,7 @@
 -- `is_printable_block`. The invariant: `all` is the answer for the first `j` bytes.
-use Prim.Native.Nat.{◌-◌}
-use lib.ListN.{length}
 use Rattle.utils.specs.Plain.{printable}
 use Rattle.utils.proofs.Plain.{Gathered}
 use Rattle.utils.proofs.is_printable_block.Given as goal
 
-abbrev pub invariant-loop-j : goal.invariant-loop-j
-invariant-loop-j l = Gathered printable l.block l.j l.all
-
-abbrev pub decreases-loop-j : goal.decreases-loop-j
-decreases-loop-j l = length l.block - l.j
+abbrev pub invariant-loop-b : goal.invariant-loop-b
+invariant-loop-b l = Gathered printable l.block l.b-index l.all

@@ -5,20 +5,20 @@ use native.Mathlib.Omega.{arith}
 use borrow.Author.Rules.{rules}
 use Rattle.utils.proofs.join.Goals as goal
 
-pub loop-i-init : goal.loop-i-init
-loop-i-init c = joining_begins _ _ (search rules)
+pub loop-b-init : goal.loop-b-init
+loop-b-init c = joining_begins _ _ (search rules)
 
 pub returns-then-not-goes_on : goal.returns-then-not-goes_on
-returns-then-not-goes_on c = joining_broken c.loop-i.invariant (search rules) (sym c.goes_on.ensures ∙ c.if-not-goes_on.true)
+returns-then-not-goes_on c = joining_broken c.loop-b.invariant (search rules) (sym c.goes_on.ensures ∙ c.if-not-goes_on.true)
 
 pub overflow_mul-value : goal.overflow_mul-value
-overflow_mul-value c = omega (arith, joining_small c.loop-i.invariant (search rules) (search rules))
+overflow_mul-value c = omega (arith, joining_small c.loop-b.invariant (search rules) (search rules))
 
 pub overflow_add-value : goal.overflow_add-value
-overflow_add-value c = omega (arith, joining_small c.loop-i.invariant (search rules) (search rules))
+overflow_add-value c = omega (arith, joining_small c.loop-b.invariant (search rules) (search rules))
 
-pub loop-i-preserved : goal.loop-i-preserved
-loop-i-preserved c = joining_more c.loop-i.invariant (search rules) (sym c.goes_on.ensures ∙ c.if-not-goes_on.false)
+pub loop-b-preserved : goal.loop-b-preserved
+loop-b-preserved c = joining_more c.loop-b.invariant (search rules) (sym c.goes_on.ensures ∙ c.if-not-goes_on.false)
 
 pub returns : goal.returns
-returns c = joining_done c.loop-i.invariant (search rules)
+returns c = joining_done c.loop-b.invariant (search rules)

@@ -1,4 +1,4 @@
--- `nc_char`: by the first character, or 0 where there is none.
+-- `nc_char`: by the first character, or none.
 use mathlib.Core.Path.{sym, ◌∙◌}
 use Rattle.utils.specs.Decoding.{Front}
 use Rattle.utils.proofs.Walking.{step_passes, step_fails, step_stuck}

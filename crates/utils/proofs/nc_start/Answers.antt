@@ -1,4 +1,4 @@
--- `nc_start`: a plain byte by itself, else by the first character, or 0 where there is none.
+-- `nc_start`: a plain byte by itself, else by the first character, or none.
 use mathlib.Core.Path.{sym, ◌∙◌}
 use Rattle.utils.specs.Decoding.{Front}
 use Rattle.utils.specs.Names.{starts_nc}

@@ -1,4 +1,4 @@
--- `text_char`: by the first character, or 0 where there is none.
+-- `text_char`: by the first character, or none.
 use mathlib.Core.Path.{sym, ◌∙◌}
 use Rattle.spec.specs.XmlNames.{is_char}
 use Rattle.utils.specs.Decoding.{Front}

@@ -11,11 +11,8 @@ returns-then-not-on c = put_off c.if-not-on.true c.counted.ensures
 pub returns-then-out-at : goal.returns-then-out-at
 returns-then-out-at c = put_full (omega arith) c.counted-then-out-at.ensures
 
-pub store-requires : goal.store-requires
-store-requires c = omega arith
-
 pub returns-then-src-room : goal.returns-then-src-room
-returns-then-src-room c = put_all c.if-not-on.false (omega arith) c.store.ensures
+returns-then-src-room c = put_all c.if-not-on.false (omega arith) (put-fits c.put.ensures (omega arith))
 
 pub slice_bounds-put-end : goal.slice_bounds-put-end
 slice_bounds-put-end c = simp length-take (omega arith)
@@ -24,4 +21,4 @@ pub shape_of-out : goal.shape_of-out
 shape_of-out c = c.out-2-1.given
 
 pub returns : goal.returns
-returns c = put-part c.if-not-on.false (omega arith) c.counted-2.ensures (put-fits c.put.ensures (simp length-take (omega arith)))
+returns c = put-part c.if-not-on.false (omega arith) c.counted-2.ensures (put-fits c.put-2.ensures (simp length-take (omega arith)))

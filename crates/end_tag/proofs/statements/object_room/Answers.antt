@@ -3,8 +3,8 @@ use borrow.Author.Tests.{eq-eqb, ne_eqb}
 use native.Mathlib.Omega.{arith}
 use Rattle.end_tag.proofs.statements.object_room.Goals as goal
 
-pub returns-then-what-eq1 : goal.returns-then-what-eq1
-returns-then-what-eq1 c = (rw (eq-eqb _ 1 c.if-what-eq1.true), omega arith)
+pub returns-then-what-eq-NAMED_NODE : goal.returns-then-what-eq-NAMED_NODE
+returns-then-what-eq-NAMED_NODE c = (rw (eq-eqb _ 1 c.if-what-eq-NAMED_NODE.true), omega arith)
 
 pub returns : goal.returns
-returns c = (rw (ne_eqb _ 1 c.if-what-eq1.false), omega arith)
+returns c = (rw (ne_eqb _ 1 c.if-what-eq-NAMED_NODE.false), omega arith)

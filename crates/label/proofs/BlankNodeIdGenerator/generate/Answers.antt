@@ -3,15 +3,14 @@
 use mathlib.Core.Path.{refl}
 use Rattle.spec.specs.Bytes.{ascii}
 use Rattle.spec.specs.Limits.{most_labels}
-use Rattle.spec.specs.NTriples.{digits, label}
-use Rattle.label.specs.Label.{generates_none, generates_next}
+use Rattle.label.specs.Label.{generates_next}
 use native.Mathlib.Omega.{arith}
 use Rattle.label.proofs.BlankNodeIdGenerator.generate.Goals as goal
 
-pub returns-then-counter-ge-MOST_LABELS : goal.returns-then-counter-ge-MOST_LABELS
-unfolding most_labels label digits ascii
-returns-then-counter-ge-MOST_LABELS c = generates_none (omega arith) refl refl refl
+pub returns-then-self-ge-MOST_LABELS : goal.returns-then-self-ge-MOST_LABELS
+unfolding most_labels
+returns-then-self-ge-MOST_LABELS c = (omega arith, refl)
 
 pub returns : goal.returns
 unfolding most_labels ascii
-returns c = generates_next (omega arith) c.write_u64_to_slice.ensures refl refl refl
+returns c = generates_next (omega arith) refl c.write_u64_to_slice.ensures refl

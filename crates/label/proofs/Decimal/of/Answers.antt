@@ -1,15 +1,12 @@
 -- `label::Decimal::of` meets its contract.
 use Rattle.spec.specs.NTriples.{digits}
-use Rattle.label.specs.Digits.{filled_begins, filled_room, filled_more, filled_done}
+use Rattle.label.specs.Digits.{filled_begins, filled_more, filled_done}
 use native.Mathlib.Omega.{arith}
 use Rattle.label.proofs.Decimal.of.Goals as goal
 
 pub loop-w-init : goal.loop-w-init
 unfolding digits
 loop-w-init c = filled_begins (omega arith)
-
-pub overflow_sub-i : goal.overflow_sub-i
-overflow_sub-i c = filled_room c.loop-w.invariant (omega arith)
 
 pub loop-w-preserved : goal.loop-w-preserved
 loop-w-preserved c = filled_more c.loop-w.invariant (omega arith)

@@ -16,44 +16,44 @@ overflow_add-end c = omega (arith, c.loop-out-test.true, c.loop-out.invariant.0.
 pub core-taken-requires : goal.core-taken-requires
 core-taken-requires c = (going_asks _ c.loop-out.invariant.0, still_roomy c.loop-out.invariant.1 c.requires.1)
 
-pub shape_of-frames-in-Stop : goal.shape_of-frames-in-Stop
-shape_of-frames-in-Stop c = c.core-taken.ensures.0.frame_words ∙ c.loop-out.invariant.0.went.frame_words
+pub shape_of-frames-in-Err : goal.shape_of-frames-in-Err
+shape_of-frames-in-Err c = c.core-taken.ensures.0.frame_words ∙ c.loop-out.invariant.0.went.frame_words
 
-pub shape_of-bindings-in-Stop : goal.shape_of-bindings-in-Stop
-shape_of-bindings-in-Stop c = c.core-taken.ensures.0.binding_words ∙ c.loop-out.invariant.0.went.binding_words
+pub shape_of-bindings-in-Err : goal.shape_of-bindings-in-Err
+shape_of-bindings-in-Err c = c.core-taken.ensures.0.binding_words ∙ c.loop-out.invariant.0.went.binding_words
 
-pub shape_of-inners-in-Stop : goal.shape_of-inners-in-Stop
-shape_of-inners-in-Stop c = c.core-taken.ensures.0.inner_words ∙ c.loop-out.invariant.0.went.inner_words
+pub shape_of-inners-in-Err : goal.shape_of-inners-in-Err
+shape_of-inners-in-Err c = c.core-taken.ensures.0.inner_words ∙ c.loop-out.invariant.0.went.inner_words
 
-pub shape_of-work-in-Stop : goal.shape_of-work-in-Stop
-shape_of-work-in-Stop c = c.core-taken.ensures.0.store ∙ c.loop-out.invariant.0.went.store
+pub shape_of-work-in-Err : goal.shape_of-work-in-Err
+shape_of-work-in-Err c = c.core-taken.ensures.0.store ∙ c.loop-out.invariant.0.went.store
 
-pub shape_of-ids-in-Stop : goal.shape_of-ids-in-Stop
-shape_of-ids-in-Stop c = c.core-taken.ensures.0.id_store ∙ c.loop-out.invariant.0.went.id_store
+pub shape_of-ids-in-Err : goal.shape_of-ids-in-Err
+shape_of-ids-in-Err c = c.core-taken.ensures.0.id_store ∙ c.loop-out.invariant.0.went.id_store
 
-pub shape_of-out-in-Stop : goal.shape_of-out-in-Stop
-shape_of-out-in-Stop c = back_room c.loop-out.invariant.0 (omega (arith, c.loop-out-test.true)) c.core-taken.ensures.0
+pub shape_of-out-in-Err : goal.shape_of-out-in-Err
+shape_of-out-in-Err c = back_room c.loop-out.invariant.0 (omega (arith, c.loop-out-test.true)) c.core-taken.ensures.0
 
-pub shape_of-scratch-in-Stop : goal.shape_of-scratch-in-Stop
-shape_of-scratch-in-Stop c = c.core-taken.ensures.1.scratch ∙ c.loop-out.invariant.1.scratch
+pub shape_of-scratch-in-Err : goal.shape_of-scratch-in-Err
+shape_of-scratch-in-Err c = c.core-taken.ensures.1.scratch ∙ c.loop-out.invariant.1.scratch
 
-pub shape_of-spans-in-Stop : goal.shape_of-spans-in-Stop
-shape_of-spans-in-Stop c = c.core-taken.ensures.1.spans ∙ c.loop-out.invariant.1.spans
+pub shape_of-spans-in-Err : goal.shape_of-spans-in-Err
+shape_of-spans-in-Err c = c.core-taken.ensures.1.spans ∙ c.loop-out.invariant.1.spans
 
-pub shape_of-area-in-Stop : goal.shape_of-area-in-Stop
-shape_of-area-in-Stop c = c.core-taken.ensures.1.area ∙ c.loop-out.invariant.1.area
+pub shape_of-area-in-Err : goal.shape_of-area-in-Err
+shape_of-area-in-Err c = c.core-taken.ensures.1.area ∙ c.loop-out.invariant.1.area
 
-pub returns-in-Stop : goal.returns-in-Stop
-returns-in-Stop c = (goes_from c.none-fed.ensures (goes_stop c.loop-out.invariant.0 (omega (arith, c.loop-out-test.true)) c.core-taken.ensures.0 c.in-Stop.is c.stopped.ensures), areas_then c.loop-out.invariant.1 c.core-taken.ensures.1)
+pub returns-in-Err : goal.returns-in-Err
+returns-in-Err c = (goes_from c.none-fed.ensures (goes_stop c.loop-out.invariant.0 (omega (arith, c.loop-out-test.true)) c.core-taken.ensures.0 c.in-Err.is c.stopped.ensures), areas_then c.loop-out.invariant.1 c.core-taken.ensures.1)
 
 pub further-fed-requires : goal.further-fed-requires
-further-fed-requires c = further_counts c.loop-out.invariant.0 (omega (arith, c.loop-out-test.true)) c.core-taken.ensures.0 c.in-Did.is c.well_formed.1.1.1.1.1.1.1.1.1.1.0.1 c.well_formed.1.1.1.1.1.1.1.1.1.1.1.1.0.1
+further-fed-requires c = further_counts c.loop-out.invariant.0 (omega (arith, c.loop-out-test.true)) c.core-taken.ensures.0 c.in-Ok.is c.well_formed.1.1.1.1.1.1.1.1.1.1.0.1 c.well_formed.1.1.1.1.1.1.1.1.1.1.1.1.0.1
 
 pub loop-out-smaller : goal.loop-out-smaller
-loop-out-smaller c = further_less c.loop-out.invariant.0 (omega (arith, c.loop-out-test.true)) c.core-taken.ensures.0 c.in-Did.is c.further-fed.ensures
+loop-out-smaller c = further_less c.loop-out.invariant.0 (omega (arith, c.loop-out-test.true)) c.core-taken.ensures.0 c.in-Ok.is c.further-fed.ensures
 
 pub loop-out-preserved : goal.loop-out-preserved
-loop-out-preserved c = (going_further c.loop-out.invariant.0 (omega (arith, c.loop-out-test.true)) c.core-taken.ensures.0 c.in-Did.is c.further-fed.ensures, areas_then c.loop-out.invariant.1 c.core-taken.ensures.1)
+loop-out-preserved c = (going_further c.loop-out.invariant.0 (omega (arith, c.loop-out-test.true)) c.core-taken.ensures.0 c.in-Ok.is c.further-fed.ensures, areas_then c.loop-out.invariant.1 c.core-taken.ensures.1)
 
 pub shape_of-frames : goal.shape_of-frames
 shape_of-frames c = c.loop-out.invariant.0.went.frame_words

@@ -1,9 +1,12 @@
 -- `stream::took` meets its contract by cases.
 use Rattle.reader.specs.Core.{taken_stop, taken_did}
+use Rattle.std.proofs.Common.{Err, arith, ◌≡◌}
 use Rattle.reader.proofs.stream.took.Goals as goal
 
-pub returns-in-Stop : goal.returns-in-Stop
-returns-in-Stop c = taken_stop _ c.in-Stop.is
+pub returns-in_err-behind : goal.returns-in_err-behind
+returns-in_err-behind c =
+    let up : c.from_residual.result ≡ Err c.in_err-behind.field-0.0 = grind arith in
+    rw up (taken_stop _ c.in_err-behind.was)
 
-pub returns-in-Did : goal.returns-in-Did
-returns-in-Did c = taken_did _ c.in-Did.is
+pub returns : goal.returns
+returns c = taken_did _ c.in_ok-behind.was

@@ -1,18 +1,14 @@
--- `resolve::parts::among` meets its contract.
-use borrow.Author.Tests.{ne_eqb}
-use Rattle.copy.specs.Scan.{sought_begins, sought_more}
-use Rattle.resolve.specs.Parts.{among_stop, among_done}
-use native.Mathlib.Omega.{arith}
+-- `resolve::parts::among` meets its contract: `contains` asks the bytes one after the other.
+use mathlib.Core.Path.{refl, ◌∙◌}
+use lib.Dec.{eqb}
+use Rattle.std.specs.List.{list_any}
+use Rattle.std.specs.Prelude.{◌||◌}
+use Rattle.std.proofs.lemmas.List.Recursion.{same_from_clauses}
+use Rattle.spec.specs.Bytes.{among}
 use Rattle.resolve.proofs.parts.among.Goals as goal
 
-pub loop-i-init : goal.loop-i-init
-loop-i-init c = sought_begins
-
-pub returns-then-set-i : goal.returns-then-set-i
-returns-then-set-i c = among_stop _ c.loop-i.invariant (omega arith) c.if-set-i.true
-
-pub loop-i-preserved : goal.loop-i-preserved
-loop-i-preserved c = sought_more c.loop-i.invariant (omega arith) (ne_eqb _ _ c.if-set-i.false)
-
 pub returns : goal.returns
-returns c = among_done _ c.loop-i.invariant (omega arith)
+unfolding among
+returns c =
+    let b = c.args.b in
+    c.contains.ensures.value ∙ same_from_clauses (list_any (λ y. eqb y b)) (λ l. among l b) (λ x r. eqb x b || r) refl (λ _ _. refl) (λ _ _. refl) c.args.set.now

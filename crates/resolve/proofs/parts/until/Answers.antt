@@ -1,5 +1,6 @@
 -- `resolve::parts::until` meets its contract.
-use mathlib.Core.Path.{sym, ◌∙◌}
+use mathlib.Core.Path.{◌≡◌, sym, ◌∙◌}
+use lib.ListN.{length}
 use Rattle.copy.specs.Scan.{sought_begins, sought_stop, sought_more, sought_done}
 use native.Mathlib.Omega.{arith}
 use Rattle.resolve.proofs.parts.until.Goals as goal
@@ -14,4 +15,4 @@ pub loop-i-preserved : goal.loop-i-preserved
 loop-i-preserved c = sought_more c.loop-i.invariant (omega arith) (sym c.among.ensures ∙ c.if-among.false)
 
 pub returns : goal.returns
-returns c = sought_done c.loop-i.invariant (omega arith)
+returns c = let e : length c.args.s.now ≡ c.loop-i.i = omega arith in e ∙ sought_done c.loop-i.invariant (omega arith)

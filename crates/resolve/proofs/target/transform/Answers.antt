@@ -22,8 +22,8 @@ bounds-reference-0 c = omega (arith, ordered_of c.parse-r.ensures)
 pub returns-then-reference-eq47 : goal.returns-then-reference-eq47
 returns-then-reference-eq47 c = rw (c.parse-b.ensures, c.parse-r.ensures) (aimed_absolute c.args.base.now c.args.reference.now (record { authority = (rw c.parse-r.ensures at c.if-r-gt0-2.false); path = omega (arith, rw c.parse-r.ensures at c.if-r-eq0-2.false) }) c.if-reference-eq47.true)
 
-pub merge-lead-requires : goal.merge-lead-requires
-merge-lead-requires c = c.parse-b.ensures
+pub merge-requires : goal.merge-requires
+merge-requires c = c.parse-b.ensures
 
 pub returns : goal.returns
-returns c = rw (c.parse-b.ensures, c.parse-r.ensures) (aimed_merged c.args.base.now c.args.reference.now (record { authority = (rw c.parse-r.ensures at c.if-r-gt0-2.false); path = omega (arith, rw c.parse-r.ensures at c.if-r-eq0-2.false) }) c.if-reference-eq47.false c.merge-lead.ensures)
+returns c = rw (c.parse-b.ensures, c.parse-r.ensures) (aimed_merged c.args.base.now c.args.reference.now (record { authority = (rw c.parse-r.ensures at c.if-r-gt0-2.false); path = omega (arith, rw c.parse-r.ensures at c.if-r-eq0-2.false) }) c.if-reference-eq47.false c.merge.ensures)

@@ -1,11 +1,7 @@
 -- `start_form::marks::repeated` meets its contract. The loop's invariant: none of the first `j` attributes is repeated.
-use Prim.Native.Nat.{◌-◌}
 use Rattle.start_names.specs.Pairs.{Unpaired}
 use Rattle.start_names.specs.Classes.{same_keys}
 use Rattle.start_form.proofs.marks.repeated.Given as goal
 
 abbrev pub invariant-loop-j : goal.invariant-loop-j
 invariant-loop-j l = Unpaired (same_keys l.scratch l.spans l.work l.classes) l.k l.j
-
-abbrev pub decreases-loop-j : goal.decreases-loop-j
-decreases-loop-j l = l.k - l.j

@@ -24,7 +24,7 @@ returns-in-Unknown c =
     c.if-is_declaration.false)
     c.prefix_of-prefix.ensures
     c.if-prefix-eq0.false c.lookup-own.ensures _
-    c.in-Unknown.is c.lookup.ensures c.class.ensures
+    c.in-Unknown.is c.lookup.ensures c.from.ensures
 
 pub returns-in-Xml : goal.returns-in-Xml
 unfolding found_bytes

@@ -5,6 +5,3 @@ use Rattle.start_form.proofs.own.own_rows.Given as goal
 
 abbrev pub invariant-loop-j : goal.invariant-loop-j
 invariant-loop-j l = Owning l.scratch l.spans l.k l.initial.rows l.rows l.d l.j
-
-abbrev pub decreases-loop-j : goal.decreases-loop-j
-decreases-loop-j l = l.j

@@ -8,4 +8,4 @@ pub returns-then-classes-j : goal.returns-then-classes-j
 returns-then-classes-j c = class_none _ _ (omega arith)
 
 pub returns : goal.returns
-returns c = c.of.ensures ∙ class_loaded _ _ (omega arith)
+returns c = c.from.ensures ∙ class_loaded _ _ (omega arith)

@@ -14,4 +14,4 @@ pub bounds-classes-from-3 : goal.bounds-classes-from-3
 bounds-classes-from-3 c = simp length-set (omega arith)
 
 pub returns : goal.returns
-returns c = class_stored (omega arith) c.words-words.ensures
+returns c = class_stored (omega arith) c.from-words.ensures

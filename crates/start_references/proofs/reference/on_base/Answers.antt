@@ -6,14 +6,14 @@ use Rattle.start_references.specs.Reference.{based_made, based_formless, based_l
 use native.Mathlib.Omega.{arith}
 use Rattle.start_references.proofs.reference.on_base.Goals as goal
 
-pub returns-in-Length : goal.returns-in-Length
-returns-in-Length c = based_made c.args.base.now c.args.reference.now c.requires.1 c.resolve.ensures c.args.area.now c.args.at (c.args.at + 1_027 - c.args.at) refl (omega (arith, c.requires.0.room)) c.in-Length.is
+pub returns-in-Ok : goal.returns-in-Ok
+returns-in-Ok c = based_made c.args.base.now c.args.reference.now c.requires.1 c.resolve.ensures c.args.area.now c.args.at (c.args.at + 1_027 - c.args.at) refl (omega (arith, c.requires.0.room)) c.in-Ok.is
 
-pub returns-in-NoForm : goal.returns-in-NoForm
-returns-in-NoForm c = based_formless c.args.base.now c.args.reference.now c.requires.1 c.resolve.ensures c.args.area.now c.args.at (c.args.at + 1_027 - c.args.at) refl (omega (arith, c.requires.0.room)) c.in-NoForm.is
+pub returns-in-Err-NoForm : goal.returns-in-Err-NoForm
+returns-in-Err-NoForm c = based_formless c.args.base.now c.args.reference.now c.requires.1 c.resolve.ensures c.args.area.now c.args.at (c.args.at + 1_027 - c.args.at) refl (omega (arith, c.requires.0.room)) (rw c.in-Err-NoForm.field-0-is at c.in-Err-NoForm.is)
 
-pub returns-in-TooLong : goal.returns-in-TooLong
-returns-in-TooLong c = based_long c.args.base.now c.args.reference.now c.requires.1 c.resolve.ensures c.args.area.now c.args.at (c.args.at + 1_027 - c.args.at) refl (omega (arith, c.requires.0.room)) c.in-TooLong.is
+pub returns-in-Err-TooLong : goal.returns-in-Err-TooLong
+returns-in-Err-TooLong c = based_long c.args.base.now c.args.reference.now c.requires.1 c.resolve.ensures c.args.area.now c.args.at (c.args.at + 1_027 - c.args.at) refl (omega (arith, c.requires.0.room)) (rw c.in-Err-TooLong.field-0-is at c.in-Err-TooLong.is)
 
-pub returns-in-NoArea : goal.returns-in-NoArea
-returns-in-NoArea c = absurd (answers c.args.base.now c.args.reference.now c.requires.1 c.resolve.ensures (simp (length-take, length-drop) (omega (arith, c.requires.0.room))) c.in-NoArea.is)
+pub returns-in-Err-NoArea : goal.returns-in-Err-NoArea
+returns-in-Err-NoArea c = absurd (answers c.args.base.now c.args.reference.now c.requires.1 c.resolve.ensures (simp (length-take, length-drop) (omega (arith, c.requires.0.room))) (rw c.in-Err-NoArea.field-0-is at c.in-Err-NoArea.is))

@@ -16,4 +16,4 @@ pub returns-in-Long : goal.returns-in-Long
 returns-in-Long c = about-long _ _ _ c.in-Long.is
 
 pub returns-else-first : goal.returns-else-first
-returns-else-first c = about-other c.args.f _ _ c.in-Made.is (ne_eqb _ _ c.if-first.false) c.wide-from.ensures.0 c.wide.ensures.0 c.minus-size.ensures c.piece.ensures c.piece-in-Made.ensures c.equal.ensures
+returns-else-first c = about-other c.args.f _ _ c.in-Made.is (ne_eqb _ _ c.if-first.false) c.wide-from.ensures.0 c.wide.ensures.0 c.saturating_sub-size.ensures c.piece.ensures c.piece-in-Made.ensures c.equal.ensures

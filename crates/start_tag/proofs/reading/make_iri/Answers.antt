@@ -14,4 +14,4 @@ shape_of-area c = c.area-1.given
 
 pub returns : goal.returns
 unfolding xml_name ascii
-returns c = made-joined c.args.scratch.now c.args.work.now (back_of c.args.c c.args.name.now) _ (sym c.is_unknown.ensures ∙ c.if-is_unknown.false) c.class.ensures c.space_of.ensures c.back_of.ensures c.join.ensures
+returns c = made-joined c.args.scratch.now c.args.work.now (back_of c.args.c c.args.name.now) _ (sym c.is_unknown.ensures ∙ c.if-is_unknown.false) c.from.ensures c.space_of.ensures c.back_of.ensures c.join.ensures

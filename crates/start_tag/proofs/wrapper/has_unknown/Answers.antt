@@ -10,11 +10,11 @@ use Rattle.start_tag.proofs.wrapper.has_unknown.Goals as goal
 pub loop-j-init : goal.loop-j-init
 loop-j-init c = passed-begins
 
-pub returns-then-kind-eq1 : goal.returns-then-kind-eq1
-returns-then-kind-eq1 c = ap not (place_stops c.loop-j.invariant (omega arith) (unknown_here _ _ c.load-class.ensures c.kind.ensures c.if-kind-eq1.true))
+pub returns-in-Unknown : goal.returns-in-Unknown
+returns-in-Unknown c = ap not (place_stops c.loop-j.invariant (omega arith) (unknown_here _ _ c.load.ensures c.in-Unknown.is))
 
 pub loop-j-preserved : goal.loop-j-preserved
-loop-j-preserved c = place_passes c.loop-j.invariant (omega arith) (known_here _ _ c.load-class.ensures c.kind.ensures c.if-kind-eq1.false)
+loop-j-preserved c = place_passes c.loop-j.invariant (omega arith) (known_here _ _ c.load.ensures c.in_default.not-Unknown)
 
 pub returns : goal.returns
 returns c = ap not (places_pass c.loop-j.invariant (omega arith))

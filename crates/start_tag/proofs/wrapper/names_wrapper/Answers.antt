@@ -7,4 +7,4 @@ use Rattle.start_tag.proofs.wrapper.names_wrapper.Goals as goal
 
 pub returns : goal.returns
 unfolding xml_name wrapper_name ascii
-returns c = joined_so _ _ c.args.found _ _ c.class.ensures c.space_of.ensures c.back_of.ensures c.same_joined.ensures
+returns c = joined_so _ _ c.args.found _ _ c.from.ensures c.space_of.ensures c.back_of.ensures c.same_joined.ensures

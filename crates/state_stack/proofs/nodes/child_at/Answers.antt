@@ -10,4 +10,4 @@ pub returns-then-work-e : goal.returns-then-work-e
 returns-then-work-e c = no_child-above _ _ (omega arith) (omega arith)
 
 pub returns : goal.returns
-returns c = a_child _ _ (omega arith) (omega arith) (rw (c.byte.ensures.0, c.byte-2.ensures.0)) c.minus.ensures
+returns c = a_child _ _ (omega arith) (omega arith) (rw (c.byte.ensures.0, c.byte-2.ensures.0)) c.saturating_sub.ensures

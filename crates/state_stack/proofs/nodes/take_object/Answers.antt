@@ -1,13 +1,13 @@
 -- `state_stack::nodes::take_object` meets its contract. A law of specs/ for each return, with the tests that led there.
 use Rattle.spec.specs.Limits.{work_store_bytes}
-use Rattle.state_stack.specs.Take.{movable, object_none, object-made}
+use Rattle.state_stack.specs.Take.{movable, moved_down, object_none, object-made}
 use mathlib.Core.Path.{◌∙◌}
 use native.Mathlib.Omega.{arith}
 use Rattle.std.proofs.Common.{sym}
 use Rattle.state_stack.proofs.nodes.take_object.Goals as goal
 
 pub returns-then-not-may_take : goal.returns-then-not-may_take
-returns-then-not-may_take c = object_none c.wide-from.ensures.0 (c.minus-len.ensures ∙ rw (c.wide-from.ensures.0, c.wide.ensures.0)) c.wide-to.ensures.0 (sym c.may_take.ensures ∙ c.if-not-may_take.true)
+returns-then-not-may_take c = object_none c.wide-from.ensures.0 (c.saturating_sub-len.ensures ∙ rw (c.wide-from.ensures.0, c.wide.ensures.0)) c.wide-to.ensures.0 (sym c.may_take.ensures ∙ c.if-not-may_take.true)
 
 pub overflow_cast-at : goal.overflow_cast-at
 overflow_cast-at c = let m = movable _ _ _ _ _ _ (sym c.may_take.ensures ∙ c.if-not-may_take.false) in omega arith
@@ -15,10 +15,14 @@ overflow_cast-at c = let m = movable _ _ _ _ _ _ (sym c.may_take.ensures ∙ c.i
 pub overflow_sub-r : goal.overflow_sub-r
 overflow_sub-r c = let m = movable _ _ _ _ _ _ (sym c.may_take.ensures ∙ c.if-not-may_take.false) in omega arith
 
-pub shift-requires : goal.shift-requires
+pub copy_within-requires-clause-in_bounds : goal.copy_within-requires-clause-in_bounds
 unfolding work_store_bytes
-shift-requires c = let m = movable _ _ _ _ _ _ (sym c.may_take.ensures ∙ c.if-not-may_take.false) in omega arith
+copy_within-requires-clause-in_bounds c = let m = movable _ _ _ _ _ _ (sym c.may_take.ensures ∙ c.if-not-may_take.false) in omega arith
+
+pub copy_within-requires-clause-dest_in_bounds : goal.copy_within-requires-clause-dest_in_bounds
+unfolding work_store_bytes
+copy_within-requires-clause-dest_in_bounds c = let m = movable _ _ _ _ _ _ (sym c.may_take.ensures ∙ c.if-not-may_take.false) in omega arith
 
 pub returns : goal.returns
 unfolding work_store_bytes
-returns c = object-made c.wide-from.ensures.0 (c.minus-len.ensures ∙ rw (c.wide-from.ensures.0, c.wide.ensures.0)) c.wide-to.ensures.0 c.object_word.ensures c.requires (sym c.may_take.ensures ∙ c.if-not-may_take.false) c.store.ensures c.shift.ensures c.with_top.ensures
+returns c = object-made c.wide-from.ensures.0 (c.saturating_sub-len.ensures ∙ rw (c.wide-from.ensures.0, c.wide.ensures.0)) c.wide-to.ensures.0 c.object_word.ensures c.requires (sym c.may_take.ensures ∙ c.if-not-may_take.false) c.store.ensures (c.copy_within.ensures.after ∙ moved_down _ _ _ _ (let m = movable _ _ _ _ _ _ (sym c.may_take.ensures ∙ c.if-not-may_take.false) in omega arith)) c.with_top.ensures

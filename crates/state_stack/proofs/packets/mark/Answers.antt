@@ -5,8 +5,5 @@ use Rattle.state_stack.proofs.packets.mark.Goals as goal
 pub returns-then-r-eq0 : goal.returns-then-r-eq0
 returns-then-r-eq0 c = mark-empty c.if-r-eq0.true
 
-pub shape_of-frames : goal.shape_of-frames
-shape_of-frames c = c.frames-1.given
-
 pub returns : goal.returns
 returns c = mark_done c.if-r-eq0.false c.store.ensures

@@ -8,4 +8,4 @@ pub returns-then-frames-i : goal.returns-then-frames-i
 returns-then-frames-i c = c.none.ensures ∙ frame_none _ _ (omega arith)
 
 pub returns : goal.returns
-returns c = rw c.of-kind.ensures (frame_loaded _ _ _ _ (omega arith) c.put.ensures c.put-2.ensures)
+returns c = rw c.from-kind.ensures (frame_loaded _ _ _ _ (omega arith) c.put.ensures c.put-2.ensures)

@@ -13,4 +13,4 @@ pub shape_of-frames : goal.shape_of-frames
 shape_of-frames c = c.put-2.ensures.same ∙ (c.put.ensures.same ∙ simp length-set)
 
 pub returns : goal.returns
-returns c = frame_stored (omega arith) (search rules) (search rules) (rw c.word.ensures at c.put.ensures) c.put-2.ensures
+returns c = frame_stored (omega arith) (search rules) (search rules) (rw c.from.ensures at c.put.ensures) c.put-2.ensures

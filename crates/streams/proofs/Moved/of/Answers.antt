@@ -6,7 +6,7 @@ pub overflow_cast-got : goal.overflow_cast-got
 overflow_cast-got c = some_cast c.ranges.got c.if-got-ge0.true
 
 pub returns-then-got-ge0 : goal.returns-then-got-ge0
-returns-then-got-ge0 c = some_moved c.ranges.got _ _ c.if-got-ge0.true c.least.ensures
+returns-then-got-ge0 c = some_moved c.ranges.got _ _ c.if-got-ge0.true c.min.ensures
 
 pub returns-then-error-eq-EINTR : goal.returns-then-error-eq-EINTR
 returns-then-error-eq-EINTR c = none_moved c.ranges.got _ _ c.if-got-ge0.false (interrupted c.ranges.error c.if-error-eq-EINTR.true)

@@ -1,11 +1,9 @@
--- `events::events` meets its contract. The invariant: `at` is within the stream, and the arrays keep their lengths.
-use mathlib.Core.Path.{◌≡◌}
-use Prim.Native.Nat.{◌-◌, ◌≤◌}
-use lib.ListN.{length}
+-- `events::events` is safe and ends: each event is some bytes of the rest. The arrays keep their lengths.
+use Rattle.std.proofs.Common.{◌≡◌, length}
 use Rattle.test_lines.proofs.events.events.Given as goal
 
-abbrev pub invariant-loop-at : goal.invariant-loop-at
-invariant-loop-at l = (l.at ≤ length l.s) × (length l.scratch ≡ 32_768) × (length l.spans ≡ 8)
+abbrev pub invariant-loop-n : goal.invariant-loop-n
+invariant-loop-n l = (length l.scratch ≡ 32_768) × (length l.spans ≡ 8)
 
-abbrev pub decreases-loop-at : goal.decreases-loop-at
-decreases-loop-at l = length l.s - l.at
+abbrev pub decreases-loop-n : goal.decreases-loop-n
+decreases-loop-n l = length l.rest

@@ -1,10 +1,6 @@
--- `replay::line_after` meets its contract. The invariant: the place looked at is not before the first one; the measure is what is left.
-use Prim.Native.Nat.{◌-◌, ◌≤◌}
-use lib.ListN.{length}
+-- `replay::line_after` meets its contract. The invariant: the place looked at is not before the first one.
+use Prim.Native.Nat.{◌≤◌}
 use Rattle.test_reader.proofs.replay.line_after.Given as goal
 
 abbrev pub invariant-loop-i : goal.invariant-loop-i
 invariant-loop-i l = l.from ≤ l.i
-
-abbrev pub decreases-loop-i : goal.decreases-loop-i
-decreases-loop-i l = length l.s - l.i

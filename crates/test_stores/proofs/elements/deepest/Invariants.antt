@@ -1,9 +1,6 @@
 -- `elements::deepest` meets its contract. The loop's invariant: the table keeps its length.
-use Rattle.std.proofs.Common.{◌≡◌, ◌-◌, ◌≤◌, length}
+use Rattle.std.proofs.Common.{◌≡◌, length}
 use Rattle.test_stores.proofs.elements.deepest.Given as goal
 
 abbrev pub invariant-loop-n : goal.invariant-loop-n
-invariant-loop-n l = (l.n ≤ 70) × (length l.frames ≡ 1152)
-
-abbrev pub decreases-loop-n : goal.decreases-loop-n
-decreases-loop-n l = 70 - l.n
+invariant-loop-n l = length l.frames ≡ 1152

@@ -1,9 +1,6 @@
 -- `identifiers::fill` is safe and ends. The loop's invariant: the store is as long as it was.
-use Rattle.std.proofs.Common.{◌≡◌, ◌-◌, length}
+use Rattle.std.proofs.Common.{◌≡◌, length}
 use Rattle.test_stores.proofs.identifiers.fill.Given as goal
 
 abbrev pub invariant-loop-k : goal.invariant-loop-k
 invariant-loop-k l = length l.store ≡ length l.initial.store
-
-abbrev pub decreases-loop-k : goal.decreases-loop-k
-decreases-loop-k l = l.times - l.k

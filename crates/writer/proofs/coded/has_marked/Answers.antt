@@ -4,10 +4,10 @@ use native.Mathlib.Omega.{arith}
 use Rattle.writer.proofs.coded.has_marked.Goals as goal
 
 pub loop-i-init : goal.loop-i-init
-loop-i-init c = clean_none
+loop-i-init g c = clean_none
 
 pub loop-i-preserved : goal.loop-i-preserved
-loop-i-preserved c = clean_more c.loop-i.invariant c.is_marked-marked.ensures
+loop-i-preserved g c = clean_more c.loop-i.invariant c.is_marked-marked.ensures
 
 pub returns : goal.returns
-returns c = clean_less c.loop-i.invariant (omega arith)
+returns g c = clean_less c.loop-i.invariant (omega arith)

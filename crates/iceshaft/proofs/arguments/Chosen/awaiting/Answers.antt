@@ -1,9 +1,10 @@
 -- `Chosen::awaiting` meets its contract.
+use Rattle.std.proofs.Common.{sym, ◌∙◌}
 use Rattle.iceshaft.specs.Arguments.{base_twice, base_once}
 use Rattle.iceshaft.proofs.arguments.Chosen.awaiting.Goals as goal
 
-pub returns-then-self-gt0 : goal.returns-then-self-gt0
-returns-then-self-gt0 c = base_twice c.args.self c.if-self-gt0.true
+pub returns-then-is_some : goal.returns-then-is_some
+returns-then-is_some c = base_twice c.args.self (sym c.is_some.ensures ∙ c.if-is_some.true)
 
 pub returns : goal.returns
-returns c = base_once c.args.self c.if-self-gt0.false
+returns c = base_once c.args.self (sym c.is_some.ensures ∙ c.if-is_some.false)

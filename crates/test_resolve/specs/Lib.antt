@@ -1,2 +1,0 @@
--- What the contracts of `test_resolve` cite.
-pub mod Line
