@@ -1,16 +1,13 @@
 -- How the program reads: the rest to the front, and a block behind it.
-use Rattle.std.specs.Prelude.{ℕ, ◌+◌, ◌-◌, ◌≤◌, ◌<◌, ◌≡◌, length, take, drop, set, Result, Ok, Err}
+use Rattle.std.specs.Prelude.{ℕ, ◌+◌, ◌-◌, ◌≤◌, ◌≡◌, length, take, drop}
 use Rattle.std.proofs.Math.Path.{refl, ap}
-use Rattle.std.proofs.Common.{sym, ◌∙◌, drop-set-lt, take-suc-set}
+use Rattle.std.proofs.Common.{sym, ◌∙◌}
 use mathlib.Core.List.{List}
-use Rattle.std.proofs.Math.Numerals.{add-one}
-use Rattle.std.proofs.Math.Nat.{add-zero}
 use native.Mathlib.Omega.{arith}
-use Rattle.std.proofs.Math.ListN.{get_or, length-drop, length-set}
-use Rattle.std.proofs.Math.Seq.{take-suc, drop-drop, get_or-drop}
+use Rattle.std.proofs.Math.ListN.{length-drop}
 use Rattle.std.specs.List.{copy_within}
 use Rattle.std.proofs.lemmas.List.Edits.{take-paste}
-use Rattle.copy.specs.Copy.{part, rest_of, length_part}
+use Rattle.copy.specs.Copy.{part, rest_of}
 use Rattle.streams.specs.declared.Got.{Got}
 use Rattle.streams.specs.declared.Got.TheVariants as got
 use Rattle.streams.specs.Answers.{Fills}

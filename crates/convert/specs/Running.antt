@@ -1,11 +1,11 @@
 -- The loop over the turns: the program is on its way from the start.
-use Rattle.std.specs.Prelude.{ℕ, ◌+◌, ◌*◌, ◌-◌, ◌≤◌, ◌<◌, ◌≡◌, refl, Bool, true, List, ℤ, length, replicate}
+use Rattle.std.specs.Prelude.{ℕ, ◌+◌, ◌*◌, ◌≤◌, ◌<◌, ◌≡◌, refl, Bool, true, List, length, replicate}
 use Rattle.std.proofs.Common.{◌∙◌, arith}
 use Rattle.std.proofs.Math.Option.{Option, none}
 use Rattle.std.proofs.lemmas.List.{length-replicate}
 use Rattle.spec.specs.Limits.{work_store_bytes, id_store_bytes, most_ids}
 use Rattle.spec.specs.Bytes.{Bytes, require◌or◌}
-use Rattle.spec.specs.Numbers.{number, refuse}
+use Rattle.spec.specs.Numbers.{refuse}
 use Rattle.spec.specs.declared.Refusal.{Refusal}
 use Rattle.spec.specs.declared.Mode.{Mode}
 use Rattle.spec.specs.Document.{Doc}

@@ -2,11 +2,11 @@
 // read that fails. How it ended is handed back, and each program tells it in its own way.
 #![tactic(auto)]
 
-ghost use Rattle.std.specs.Prelude.{◌+◌, ◌≤◌, ◌<◌, ◌≡◌, Some, length};
+ghost use Rattle.std.specs.Prelude.{◌+◌, ◌≤◌, ◌<◌, ◌≡◌, Some, is_some, length};
 ghost use Rattle.spec.specs.declared.Refusal.TheVariants.{Incomplete};
 ghost use Rattle.event.specs.Progress.{lent, doc_in};
 ghost use Rattle.reader.specs.Asked.{Roomy, Areas};
-ghost use Rattle.reader_contract.specs.Meaning.{base_of};
+ghost use Rattle.reader_contract.specs.Meaning.{base_of, text_of};
 ghost use Rattle.convert.specs.Way.{beginning};
 ghost use Rattle.convert.specs.Places.{first_place, Sums, behind_of, over_at, with_more, amount, resumed_with, finishing, Moves, Readable, Reads, Paused, Follows};
 ghost use Rattle.convert.specs.Places.{Counted, GoesOn, Ready, Stands, Turns, Comes, Few, Converts};
@@ -144,10 +144,9 @@ pub fn document<R: Read, W: Write>(
     source: &mut Stream<R>,
     target: &mut Stream<W>,
     mode: Mode,
-    based: bool,
-    base: &[u8],
+    base: Option<&[u8]>,
 ) -> Outcome
-    ensures { Converts mode (base_of based base.now) result × Few result }
+    ensures { Converts mode (base_of (is_some base.entry) (text_of base.entry)) result × Few result }
 {
     let mut frames = [0u32; Frame::TABLE];
     let mut bindings = [0u32; Row::BINDINGS];
@@ -161,7 +160,7 @@ pub fn document<R: Read, W: Write>(
     let mut scratch = [0u8; Taken::SCRATCH];
     let mut spans = [0u32; Taken::SPANS];
     let mut area = [0u8; Taken::AREA];
-    let begun = reader::begin(mode, based, base, &mut work, &ids);
+    let begun = reader::begin(mode, base, &mut work, &ids);
     match begun {
         Err(why) => Outcome {
             how: How::Unstarted(why),

@@ -1,7 +1,7 @@
 // Bytes stored, compared and looked for in lent slices. Every call answers on every input; the laws of what it did are in specs/.
 #![tactic(auto)]
 
-ghost use Rattle.std.specs.Prelude.{◌≡◌, ◌||◌, false, length, eqb, fold};
+ghost use Rattle.std.specs.Prelude.{◌≡◌, length, eqb};
 ghost use Rattle.spec.specs.Bytes.{same, begins, up_to, among};
 ghost use Rattle.copy.specs.Copy.{part, Put};
 ghost use Rattle.copy.specs.Scan.{Sought};
@@ -90,7 +90,7 @@ fn skip_blocks(s: &[u8], b: u8) -> usize
 
 // Is `b` among the bytes of a block? No branch from byte to byte, so that they are compared at once.
 fn block_has(block: &[u8], b: u8) -> bool
-    ensures { result ≡ fold (λ found c. found || eqb c b) false block.now }
+    ensures { result ≡ among block.now b }
 {
     block.iter().fold(false, |found, c| found | (*c == b))
 }

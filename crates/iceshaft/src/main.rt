@@ -102,23 +102,10 @@ fn convert_all<R: Env + Files>(
     chosen: Chosen,
     count: usize,
 ) {
-    let mut base = [0u8; Chosen::MOST];
-    let based = chosen.base.is_some();
-    let n = match chosen.base {
-        Some(i) => argument(rt, i, &mut base),
-        None => 0,
-    };
+    let mut text = [0u8; Chosen::MOST];
+    let base = chosen_base(rt, chosen, &mut text);
     if let Some(first) = chosen.file {
-        convert_files(
-            rt,
-            target,
-            stderr,
-            first,
-            count,
-            chosen.mode(),
-            based,
-            &base[..n],
-        );
+        convert_files(rt, target, stderr, first, count, chosen.mode(), base);
         return;
     }
     let mut source = Stream::over(stdin);
@@ -128,9 +115,15 @@ fn convert_all<R: Env + Files>(
         stderr,
         b"standard input",
         chosen.mode(),
-        based,
-        &base[..n],
+        base,
     );
+}
+
+// The base that was chosen, by way of `text`.
+fn chosen_base<'a, E: Env>(env: &E, chosen: Chosen, text: &'a mut [u8]) -> Option<&'a [u8]> {
+    let i = chosen.base?;
+    let n = argument(env, i, text);
+    Some(&text[..n])
 }
 
 // The files from argument `first` on, up to the first write that fails.
@@ -141,12 +134,11 @@ fn convert_files<R: Env + Files>(
     first: usize,
     count: usize,
     mode: Mode,
-    based: bool,
-    base: &[u8],
+    base: Option<&[u8]>,
 ) {
     let mut name = [0u8; Chosen::MOST];
     for i in first..count {
-        if !convert_file(rt, target, stderr, i, &mut name, mode, based, base) {
+        if !convert_file(rt, target, stderr, i, &mut name, mode, base) {
             return;
         }
     }
@@ -160,8 +152,7 @@ fn convert_file<R: Env + Files>(
     i: usize,
     name: &mut [u8],
     mode: Mode,
-    based: bool,
-    base: &[u8],
+    base: Option<&[u8]>,
 ) -> bool
     requires { length name.old ≤ 4_096 }
 {
@@ -171,7 +162,7 @@ fn convert_file<R: Env + Files>(
     match opened {
         Ok(file) => {
             let mut source = Stream::over(file);
-            convert_one(&mut source, target, stderr, &name[..n], mode, based, base)
+            convert_one(&mut source, target, stderr, &name[..n], mode, base)
         }
         Err(error) => {
             telling::tell_unopened(stderr, streams::errno_of(&error), &name[..n]);
@@ -195,12 +186,11 @@ fn convert_one<R: Read>(
     stderr: Stderr,
     name: &[u8],
     mode: Mode,
-    based: bool,
-    base: &[u8],
+    base: Option<&[u8]>,
 ) -> bool
     requires { length name.now ≤ 4_096 }
 {
-    let outcome = convert::document(source, target, mode, based, base);
+    let outcome = convert::document(source, target, mode, base);
     let how = outcome.how;
     let errno = match how {
         How::Unwritten => target.errno(),

@@ -2,7 +2,7 @@
 // it, so a text is cut there and each piece is checked by itself.
 #![tactic(auto)]
 
-ghost use Rattle.std.specs.Prelude.{◌≡◌, true, false, ◌&&◌, [], ◌∷◌, length, ◌<◌, eqb, MatchOption};
+ghost use Rattle.std.specs.Prelude.{◌≡◌, true, false, ◌&&◌, [], ◌∷◌, ◌<◌, eqb, MatchOption};
 ghost use Rattle.spec.specs.Bytes.{among, between, from};
 ghost use Rattle.spec.specs.Abnf.{lower, some};
 ghost use Rattle.spec.specs.Rfc3987.{is_iri, is_iri_reference, scheme, iauthority, IPv6address, IPvFuture, IPv4address, h16, dec_octet};

@@ -30,7 +30,7 @@ fn main(rt: HostRuntime) {
     }
     let mut source = Stream::over(rt.stdin());
     let mut target = Stream::over(rt.stdout());
-    let outcome = convert::document(&mut source, &mut target, Mode::base(), false, b"");
+    let outcome = convert::document(&mut source, &mut target, Mode::base(), None);
     end(&source, &mut target, stderr, outcome);
 }
 

@@ -1,24 +1,22 @@
 -- From what an event was decoded as to what is done.
-use Rattle.std.specs.Prelude.{ℕ, ◌<◌, ◌≤◌, ◌≡◌, refl, Bool, true, false, List, length, take}
-use Rattle.std.proofs.Common.{sym, ap, ◌∙◌, arith}
+use Rattle.std.specs.Prelude.{ℕ, ◌≡◌, refl, false, List, take}
+use Rattle.std.proofs.Common.{sym, ◌∙◌}
 use Rattle.std.proofs.lemmas.Bool.{false≢true}
 use Rattle.spec.specs.Limits.{most_ids, most_id_bytes}
 use Rattle.spec.specs.Bytes.{Bytes, ◌>>=◌}
-use Rattle.spec.specs.Numbers.{Answer, refuse, good}
+use Rattle.spec.specs.Numbers.{refuse, good}
 use Rattle.spec.specs.declared.Refusal.{Refusal}
 use Rattle.spec.specs.declared.Refusal.TheVariants.{NotPyx}
 use Rattle.spec.specs.Pyx as P
 use Rattle.spec.specs.Document.{Doc}
-use Rattle.spec.specs.Opening.{Step}
-use Rattle.pyx.specs.declared.Event.{Event}
-use Rattle.pyx.specs.declared.Event.TheVariants.{Malformed, NoScratch, Instruction, Text, Closing, Opening, Crowded}
-use Rattle.pyx.specs.Decode.{unread, no_scratch, Decodes, Says, Opened, Over}
+use Rattle.pyx.specs.declared.Event.TheVariants.{Malformed, NoScratch, Instruction, Text, Closing, Opening}
+use Rattle.pyx.specs.Decode.{unread, Decodes}
 use Rattle.start_names.specs.Tag.{attributes_of}
 use Rattle.state_ids.specs.Ids.{ids_of, ValidIds, length_ids, total_ids}
 use Rattle.state.specs.declared.Registers.{Registers}
 use Rattle.event.specs.declared.Done.{Done}
 use Rattle.event.specs.Result.{handled, parsed, IdsFit, Handles}
-use Rattle.event.specs.Progress.{Lent, lent, doc_in, Progresses, HandlesAll, stopped, without_stop, without_did}
+use Rattle.event.specs.Progress.{lent, HandlesAll, without_stop, without_did}
 use Rattle.start_form.specs.Tie.{attributes-same}
 use Rattle.std.specs.Prelude.{Result, Ok, Err}
 use Rattle.event.specs.declared.Advance.{Advance}

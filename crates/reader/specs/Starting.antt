@@ -1,10 +1,11 @@
 -- How start and finish come to their answers.
-use Rattle.std.specs.Prelude.{ℕ, ◌≤◌, ◌<◌, Bool, List, eqb, leb, length, take}
+use Rattle.std.specs.Prelude.{ℕ, ◌≤◌, ◌<◌, Bool, List, eqb, leb, length}
+use Rattle.std.specs.Prelude.{Option as Maybe, None, Some, is_some}
+use denote.Bor.{Bor}
 use Rattle.std.proofs.Math.Path.{◌≡◌, refl, ap}
 use Rattle.std.proofs.Common.{sym, ◌∙◌, arith}
 use Rattle.std.proofs.Math.Bool.{true, false}
 use Rattle.std.proofs.Math.Option.{some}
-use Rattle.std.proofs.Math.Seq.{take-length}
 use borrow.Author.Tests.{eqb-true, leb-true, le-leb, lt-leb}
 use Rattle.spec.specs.Limits.{work_store_bytes, id_store_bytes, most_name_bytes}
 use Rattle.spec.specs.Bytes.{Bytes, ◌>>◌, require◌or◌}
@@ -29,7 +30,7 @@ use Rattle.state.specs.Live.{started as valid-fresh}
 use Rattle.event.specs.Progress.{Lent, doc_in}
 use Rattle.reader_contract.specs.declared.State.{State}
 use Rattle.reader_contract.specs.declared.Report.{Report}
-use Rattle.reader_contract.specs.Meaning.{base_of, lawful_state, meaning_of, closed_state, marked, meaning-closed, means_unlawful, means_closed, means_open, over_in, over_read, Fresh, fresh_means}
+use Rattle.reader_contract.specs.Meaning.{base_of, text_of, lawful_state, meaning_of, closed_state, marked, meaning-closed, means_unlawful, means_closed, means_open, over_in, over_read, Fresh, fresh_means}
 use Rattle.reader_contract.specs.Meets.{Starts, Finishes, lengths_right, refusing, doing, meets_refused, meets_marked}
 use Rattle.std.specs.Prelude.{Result, Ok, Err}
 
@@ -96,21 +97,22 @@ allowed true true base h = go (is_iri base) (leb (length base) 1_024) refl h
     go false b e h = let z : ◌≡◌ {A = ℕ} 0 1 = cc in absurd (omega arith)
 
 -- the base stands at the front of the work store
-base_stored : (based : Bool) (base w w' : List ℕ) {r : Bool} → size_of_base based base ≤ length w → Put w 0 (take (size_of_base based base) base) w' r
+base_stored : (based : Bool) (base w w' : List ℕ) {r : Bool} → length base ≤ length w → Put w 0 base w' r
     → base_of based (part w' 0 (size_of_base based base)) ≡ base_of based base
 unfolding size_of_base
 base_stored false base w w' h p = refl
-base_stored true base w w' h p = ap some (wrote_part (put-fits (rw (take-length base) at p) (omega arith)))
+base_stored true base w w' h p = ap some (wrote_part (put-fits p (omega arith)))
 
 size-empty : (based : Bool) (base : Bytes) → pick based true (eqb (size_of_base based base) 0) ≡ true
 unfolding size_of_base
 size-empty true base = refl
 size-empty false base = refl
 
-pub size-within : (based : Bool) (base : Bytes) → size_of_base based base ≤ length base
+-- the base that is lent is one whole text
+pub text_size : (base : Maybe (Bor Bytes)) → size_of_base (is_some base) (text_of base) ≡ length (text_of base)
 unfolding size_of_base
-size-within true base = omega arith
-size-within false base = omega arith
+text_size None = refl
+text_size (Some b) = refl
 
 -- accepted: the registers are those of a fresh document, and the base stands at the front of the work store
 pub record Opened (mode : Mode) (based : Bool) (base : Bytes) (w i : List ℕ) (r : Registers)
@@ -148,14 +150,19 @@ module _ (mode : Mode) (based : Bool) (base w i : List ℕ) {a : Result Unit Ref
   pub begin_refused : {n : Refusal} → a ≡ Err n → Begins mode based base w i (Err n) w
   begin_refused q = record { store = refl; cases = (sym h.means ∙ ap told q, refl) }
 
-  pub begin_done : {w' : List ℕ} {n : ℕ} {z : Bool} {r : Registers} → a ≡ Ok tt → n ≡ size_of_base based base → Put w 0 (take n base) w' z → r ≡ started_with mode based n
+  pub begin_done : {w' t : List ℕ} {there z : Bool} {r : Registers} → a ≡ Ok tt → size_of_base based base ≡ length base
+      → t ≡ base → there ≡ based → Put w 0 t w' z → r ≡ started_with mode there (length t)
       → Begins mode based base w i (Ok r) w'
-  begin_done {w'} q k p e =
+  begin_done {w'} q k f g p e =
       let m : may_start (lengths_right w i) (base_of based base) ≡ good tt = sym h.means ∙ ap told q in
       let b = (may based base w i m).short in
       record {
         store = p.same;
-        cases = record { may = m; registers = rw (← k) e; stored = base_stored based base w w' (omega (arith, store_whole based base w i m)) (rw k at p) };
+        cases = record {
+          may = m;
+          registers = rw (k, ← f, ← g) e;
+          stored = base_stored based base w w' (omega (arith, k, store_whole based base w i m)) (rw f at p);
+        };
       }
 
 -- a program goes on from there over tables of its own, with no rdf:ID
@@ -182,14 +189,16 @@ module _ (mode : Mode) (based : Bool) (base : Bytes) (s : State) (w i : List ℕ
       let m : BeginsBy mode based base w i (Err n) w' = rw q at h.cases in
       rw (e, m.1) (record { meets = meets_refused {left = λ n. s} n (rw m.0) refl })
 
-  pub start_done : {g : Registers} {n : ℕ} {s' : State} {r : Report} → b ≡ Ok g → n ≡ size_of_base based base → Fresh mode based n s' → r ≡ doing s' → Starts mode based base s w i r w'
+  pub start_done : {g : Registers} {t : Bytes} {there : Bool} {s' : State} {r : Report} → b ≡ Ok g → size_of_base based base ≡ length base
+      → t ≡ base → there ≡ based → Fresh mode there (length t) s' → r ≡ doing s' → Starts mode based base s w i r w'
   unfolding call_start started
-  start_done {g} {n} {s'} q k f e =
+  start_done {g} {s' = s'} q k x y z e =
+      let f : Fresh mode based (length base) s' = rw (x, y) at z in
       let o : Opened mode based base w i g w' = rw q at h.cases in
       let m = o.may in
       let short = (may based base w i m).short in
       let begun : meaning_of s' w' i ≡ is_open (fresh mode (base_of based base)) =
-      fresh_means w' i f (h.store ∙ store_whole based base w i m) (ids_whole based base w i m) (omega (arith, k)) (rw k (size-empty based base)) ∙ ap (λ o. is_open (fresh mode o)) (rw k o.stored) in
+      fresh_means w' i f (h.store ∙ store_whole based base w i m) (ids_whole based base w i m) (omega (arith, k)) (rw (← k) (size-empty based base)) ∙ ap (λ o. is_open (fresh mode o)) (rw (← k) o.stored) in
       rw e
       (record {
         meets = record {

@@ -7,7 +7,6 @@ use Rattle.spec.specs.Numbers.{refuse}
 use Rattle.spec.specs.declared.Refusal.{Refusal}
 use Rattle.spec.specs.declared.Refusal.TheVariants.{BadState, Closed}
 use Rattle.spec.specs.Calls.{is_open, stepped, call_step}
-use Rattle.event.specs.declared.Advance.{Advance}
 use Rattle.event.specs.Progress.{Lent, lent, doc_in}
 use Rattle.reader_contract.specs.declared.State.{State}
 use Rattle.reader_contract.specs.declared.Report.{Report}

@@ -1,10 +1,10 @@
 // The three calls. What is kept of a document between them goes in and comes back by value; the stores are lent.
 #![tactic(auto)]
 
-ghost use Rattle.std.specs.Prelude.{◌≡◌, length};
-ghost use Rattle.reader_contract.specs.Meaning.{lawful_parts};
+ghost use Rattle.std.specs.Prelude.{◌≡◌, is_some, length};
+ghost use Rattle.reader_contract.specs.Meaning.{text_of, lawful_parts};
 ghost use Rattle.reader_contract.specs.Meets.{Starts, Steps, Finishes};
-ghost use Rattle.reader.specs.Starting.{Judges, size_of_base, Begins};
+ghost use Rattle.reader.specs.Starting.{Judges, Begins};
 
 pub mod feeding;
 pub mod parser;
@@ -19,20 +19,13 @@ use state::Registers;
 use state_ids::IdTable;
 
 // A document begins in this mode, with a start base or without. The ID store is emptied by a fresh table.
-pub fn start(
-    state: State,
-    mode: Mode,
-    based: bool,
-    base: &[u8],
-    work: &mut [u8],
-    ids: &[u8],
-) -> Report
-    ensures { Starts mode based base.now state work.old ids.now result work.new }
+pub fn start(state: State, mode: Mode, base: Option<&[u8]>, work: &mut [u8], ids: &[u8]) -> Report
+    ensures { Starts mode (is_some base.entry) (text_of base.entry) state work.old ids.now result work.new }
 {
-    let begun = begin(mode, based, base, work, ids);
+    let begun = begin(mode, base, work, ids);
     match begun {
         Err(why) => Report::refused(state, why),
-        Ok(_) => Report::done(State::fresh(mode, based, base_size(based, base))),
+        Ok(_) => Report::done(State::fresh(mode, base.is_some(), text_of(base).len())),
     }
 }
 
@@ -40,18 +33,17 @@ pub fn start(
 // of the document that begins.
 pub fn begin(
     mode: Mode,
-    based: bool,
-    base: &[u8],
+    base: Option<&[u8]>,
     work: &mut [u8],
     ids: &[u8],
 ) -> Result<Registers, Refusal>
-    ensures { Begins mode based base.now work.old ids.now result work.new }
+    ensures { Begins mode (is_some base.entry) (text_of base.entry) work.old ids.now result work.new }
 {
     let lengths = (work.len() == Registers::STORE) & (ids.len() == IdTable::BYTES);
-    may_start(lengths, based, base)?;
-    let n = base_size(based, base);
-    copy::put(work, 0, &base[..n]);
-    Ok(Registers::started(mode, based, n))
+    may_start(lengths, base)?;
+    let text = text_of(base);
+    copy::put(work, 0, text);
+    Ok(Registers::started(mode, base.is_some(), text.len()))
 }
 
 // The first event of the input, which is what is left of it; `last` where no more follows. Its lines go to the front of `out`.
@@ -174,27 +166,29 @@ fn is_lawful(
 }
 
 // 3, 11 and 7, in this order.
-fn may_start(lengths: bool, based: bool, base: &[u8]) -> Result<(), Refusal>
-    ensures { Judges result lengths based base.now }
+fn may_start(lengths: bool, base: Option<&[u8]>) -> Result<(), Refusal>
+    ensures { Judges result lengths (is_some base.entry) (text_of base.entry) }
 {
     if !lengths {
         return Err(Refusal::BadState);
     }
-    if !based {
-        return Ok(());
+    match base {
+        None => Ok(()),
+        Some(base) => {
+            if !iri::is_iri(base) {
+                return Err(Refusal::BadIri);
+            }
+            if base.len() > Resolved::MOST_BYTES {
+                return Err(Refusal::OverLimit);
+            }
+            Ok(())
+        }
     }
-    if !iri::is_iri(base) {
-        return Err(Refusal::BadIri);
-    }
-    if base.len() > Resolved::MOST_BYTES {
-        return Err(Refusal::OverLimit);
-    }
-    Ok(())
 }
 
-// How many bytes of `base` are a start base.
-fn base_size(based: bool, base: &[u8]) -> usize
-    ensures { result ≡ size_of_base based base.now }
+// The bytes of a start base, none where there is none.
+fn text_of(base: Option<&[u8]>) -> &[u8]
+    ensures { result.now ≡ text_of base.entry }
 {
-    if based { base.len() } else { 0 }
+    base.unwrap_or(b"")
 }

@@ -1,5 +1,7 @@
 -- What a state means beside its stores, for the calls of `spec`.
 use Rattle.std.specs.Prelude.{ℕ, zero, suc, ◌≤◌, ◌≡◌, refl, Bool, true, false, ◌&&◌, List, [], ◌++◌, eqb, length}
+use Rattle.std.specs.Prelude.{Option as Maybe, None, Some}
+use denote.Bor.{Bor}
 use Rattle.std.proofs.Math.Path.{sym}
 use Rattle.std.proofs.Common.{ap, ◌∙◌, arith, ne_eqb}
 use Rattle.std.proofs.Math.Option.{Option, none, some}
@@ -30,6 +32,11 @@ use Rattle.reader_contract.specs.declared.State.{State}
 -- the start base, if there is one
 abbrev pub base_of : Bool → Bytes → Option Bytes
 base_of based b = pick based (some b) none
+
+-- the bytes of a base that is lent, and none without one
+abbrev pub text_of : Maybe (Bor Bytes) → Bytes
+text_of None = []
+text_of (Some b) = b.now
 
 -- all that is lent for a state, the output too
 abbrev pub lent_by : State → List ℕ → List ℕ → List ℕ → Lent

@@ -42,7 +42,8 @@ impl State {
         fresh.closed()
     }
 
-    // Of a document that begins, with a start base of `base` bytes, if there is one: they stand at the front of the work store.
+    // Of a document that begins, with a start base of `base` bytes, if there is one: they stand at the front of the work store. A flag
+    // and a number, as both are stored so (docs/STATE.md).
     pub fn fresh(mode: Mode, based: bool, base: usize) -> Self
         ensures { Fresh mode based base result }
     {

@@ -1,5 +1,8 @@
 -- How the calls come to their answers.
-use Rattle.std.specs.Prelude.{ℕ, ◌≤◌, ◌<◌, ◌≡◌, refl, Bool, length}
+use Rattle.std.specs.Prelude.{ℕ, ◌≤◌, ◌<◌, ◌≡◌, refl, Bool, true, false, [], length}
+use Rattle.std.specs.Prelude.{Option as Maybe, is_some}
+use Rattle.std.specs.Bool.{then_some}
+use denote.Bor.{Bor}
 use Rattle.std.proofs.Common.{sym, ap, ◌∙◌, arith}
 use Rattle.std.proofs.Math.Option.{Option, none, some}
 use Rattle.spec.specs.Bytes.{Bytes}
@@ -7,12 +10,18 @@ use Rattle.spec.specs.declared.Mode.{Mode}
 use Rattle.theorems.specs.Calls.{number_positive}
 use Rattle.reader_contract.specs.declared.State.{State}
 use Rattle.reader_contract.specs.declared.Report.{Report}
-use Rattle.reader_contract.specs.Meaning.{Nothing}
+use Rattle.reader_contract.specs.Meaning.{Nothing, text_of}
 use Rattle.reader_contract.specs.Meets.{number_of, Starts, Steps, Finishes}
 use Rattle.reader_host.specs.Image.{state_bytes, mode_of, decode}
 use Rattle.reader_host.specs.Meets.{Stands, StartsIn, StepsIn, FinishesIn}
 
 -- ---- start
+
+-- a base that is lent where the flag says so
+pub lent_start : (flag : Bool) (base : Bor Bytes) {lent : Maybe (Bor Bytes)} {m : Mode} {s : State} {w i : Bytes} {r : Report} {w' : Bytes}
+    → lent ≡ then_some flag base → Starts m (is_some lent) (text_of lent) s w i r w' → Starts m flag base.now s w i r w'
+lent_start true base e x = rw e at x
+lent_start false base {m = m} {s} {w} {i} {r} {w'} e x = let y : Starts m false [] s w i r w' = rw e at x in record { meets = y.meets }
 
 module _ {mode : ℕ} {based : Bool} {base b w i : Bytes} where
   pub start_bad : (length b ≡ state_bytes → ⊥) → StartsIn mode based base b w i 3 b w

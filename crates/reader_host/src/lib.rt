@@ -38,7 +38,8 @@ pub fn iceshaft_start(
         return u8::from(Refusal::BadState);
     };
     let before = State::none();
-    let report = reader::start(before, chosen, based != 0, base, work, ids);
+    let lent = (based != 0).then_some(base);
+    let report = reader::start(before, chosen, lent, work, ids);
     let number = report.number();
     let refused = number != 0;
     if refused {

@@ -67,8 +67,8 @@ impl From<Pending> for u32 {
     fn from(pending: Pending) -> Self {
         match pending {
             Pending::Absent => Frame::ORDINARY,
-            Pending::Named => 1,
-            Pending::Blank => 2,
+            Pending::Named => Frame::NAMED_NODE,
+            Pending::Blank => Frame::BLANK_NODE,
             Pending::Awaited => Frame::AWAITED,
         }
     }

@@ -110,7 +110,7 @@ impl Registers {
         }
     }
 
-    // Of a fresh document, with a start base of `base` bytes, if there is one.
+    // Of a fresh document, with a start base of `base` bytes, if there is one: a flag and a number, as both are stored.
     pub fn started(mode: Mode, based: bool, base: usize) -> Self
         ensures { result ≡ started_with mode based base }
     {

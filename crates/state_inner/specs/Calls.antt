@@ -18,7 +18,6 @@ use Rattle.state_words.specs.declared.Row.{Row}
 use Rattle.state_words.specs.Words.{pick, load_frame, load_row, StoredRow}
 use Rattle.state.specs.declared.Registers.{Registers}
 use Rattle.state.specs.Meaning.{at, has}
-use Rattle.state.specs.Tests.{positive}
 use Rattle.state.specs.declared.Span.{Span}
 use Rattle.state_stack.specs.Change.{inside_to}
 
@@ -130,15 +129,6 @@ module _ {r : Registers} {is : List ℕ} {a n b : ℕ} where
               let x : leb (r.counts.inner * 3 + 3) (length is) ≡ true = sym s.answer ∙ h in
               let y : may_open r is a n ≡ true = rw (lt-ltb (r.counts.depth + r.counts.inner) 64 d, le-leb a 65_536 l, le-leb n 65_536 m, le-leb r.counts.bindings 128 k, x) in
               record { answer = sym y; stored = λ _. s.wrote (leb-true (r.counts.inner * 3 + 3) (length is) x); moved = λ _. e; kept = λ f. differ y f; same = s.same }
-
-module _ {r : Registers} {is : List ℕ} where
-  pub close_none : r.counts.inner ≡ 0 → Closes r is None
-  close_none h = record { answer = sym (le-ltb 0 r.counts.inner (omega arith)); moved = λ l. absurd (omega arith); kept = λ _. refl }
-
-  pub close_done : {r' : Registers} {low more : ℕ} {q : Row} → (r.counts.inner ≡ 0 → ⊥) → q ≡ load_row is (r.counts.inner - 1) → low ≡ ceiling_in is (r.counts.inner - 1) → more ≡ q.more
-      → r' ≡ inside_to r (r.counts.inner - 1) low more → Closes r is (Some r')
-  close_done h e l m k =
-      record { answer = sym (lt-ltb 0 r.counts.inner (positive r.counts.inner h)); moved = λ _. k ∙ rw (l, m, e); kept = λ z. absurd (h z) }
 
 pub ceiling_none : (is : List ℕ) (i : ℕ) → i ≡ 0 → 65_536 ≡ ceiling_in is i
 unfolding L.all ceiling_in

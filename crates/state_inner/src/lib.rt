@@ -1,7 +1,7 @@
 // Elements inside Literal content, which stand at the far end of the work store; and what is read of all open elements.
 #![tactic(auto)]
 
-ghost use Rattle.std.specs.Prelude.{◌≡◌, ◌+◌, ◌-◌, ◌*◌, ◌≤◌, ◌<◌, true, leb};
+ghost use Rattle.std.specs.Prelude.{◌≡◌, ◌+◌, ◌-◌, ◌*◌, ◌≤◌, ◌<◌, leb};
 ghost use Rattle.spec.specs.Limits.{most_held_bytes};
 ghost use Rattle.state_stack.specs.Change.{inside_to};
 ghost use Rattle.state_inner.specs.Calls.{Opens, Closes, ceiling_in, name_in, innermost_in, stretch, base_in, language_in, held_in};
@@ -50,10 +50,7 @@ pub fn open_inside(
 pub fn close_inside(r: Registers, inners: &[u32]) -> Option<Registers>
     ensures { Closes r inners.now result }
 {
-    if r.counts.inner == 0 {
-        return None;
-    }
-    let n = r.counts.inner - 1;
+    let n = r.counts.inner.checked_sub(1)?;
     let row = Row::load(inners, n);
     Some(inside(r, n, ceiling(inners, n), wide(row.more)))
 }

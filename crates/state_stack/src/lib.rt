@@ -1,5 +1,5 @@
-// The open elements of a document as a stack: what an event may do at its top. Every call answers on every input: the registers behind
-// the change, or none where it cannot be made, and then nothing changed. What it did to a valid state is said by the laws of specs/.
+// The open elements of a document as a stack: what an event may do at its top. Every call answers on every input. A change answers the
+// registers behind it, or none where it cannot be made: then nothing changed. What it did to a valid state is said by the laws of specs/.
 #![tactic(auto)]
 
 ghost use Rattle.std.specs.Prelude.{◌≡◌, ◌+◌, ◌-◌, ◌*◌, ◌≤◌, ◌<◌, length};
@@ -37,15 +37,12 @@ pub fn pop(r: Registers, frames: &[u32]) -> Option<Registers>
     if r.counts.inner != 0 {
         return None;
     }
-    if r.counts.depth == 0 {
-        return None;
-    }
-    let f = Frame::load(frames, r.counts.depth - 1);
+    let depth = r.counts.depth.checked_sub(1)?;
+    let f = Frame::load(frames, depth);
     let at = f.at;
     let has = f.has;
     let first = wide(has[Frame::FIRST]);
     let top = wide(at[Frame::NAME]);
-    let depth = r.counts.depth - 1;
     let store = Store {
         base: r.store.base,
         top,
@@ -204,7 +201,8 @@ fn push_frame(r: Registers, frames: &mut [u32], f: Frame, bound: usize) -> Optio
     Some(Registers::of(r.mode, flags, store, counts))
 }
 
-// `s` into the work store from `from` on, as the tail of frame `f`, which is the one on top.
+// `s` into the work store from `from` on, as the tail of frame `f`, which is the one on top. `what` is its mark as a word, no enum: that
+// of a Literal stays as it was, and that of an rdf:RDF says that it is noted.
 fn write_tail(
     r: Registers,
     frames: &mut [u32],

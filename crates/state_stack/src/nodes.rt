@@ -90,8 +90,8 @@ fn take_object(
     let kind = f.kind;
     let main = n.at;
     let marks = n.has;
-    let from = wide(main[4]);
-    let len = wide(main[5]).saturating_sub(from);
+    let from = wide(main[Frame::MAIN]);
+    let len = wide(main[Frame::ID]).saturating_sub(from);
     let to = wide(at[Frame::TAIL]);
     if !may_take(r, frames.len(), from, to, len, to + len) {
         return None;
@@ -119,8 +119,8 @@ fn take_child(
     let kind = f.kind;
     let main = n.at;
     let marks = n.has;
-    let from = wide(main[4]);
-    let len = wide(main[5]).saturating_sub(from);
+    let from = wide(main[Frame::MAIN]);
+    let len = wide(main[Frame::ID]).saturating_sub(from);
     let to = wide(at[Frame::END]);
     let count = has[Frame::COUNT];
     if !may_take(r, frames.len(), from, to, len, to + len + 4) {

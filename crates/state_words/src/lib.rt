@@ -4,8 +4,6 @@
 ghost use Rattle.std.specs.Prelude.{◌≡◌};
 ghost use Rattle.state_words.specs.Words.{kind_of, kind_number, load_frame, StoredFrame, no_frame, load_row, StoredRow};
 
-use copy::words;
-
 // What an open element outside Literal content is: the states of the Rust's parser, and the wrapper of document 02.
 #[derive(Clone, Copy, PartialEq, Eq, Debug)]
 pub enum Kind {

@@ -139,7 +139,7 @@ fn stores(stdout: Stdout) {
 // Start with the stores, and step and finish of no document.
 fn begins(stdout: Stdout, what: &[u8], work: &mut [u8], ids: &mut [u8]) {
     let before = State::none();
-    let started = reader::start(before, Mode::base(), false, b"", work, ids);
+    let started = reader::start(before, Mode::base(), None, work, ids);
     print(stdout, b"start, ");
     report(stdout, what, started);
     behind(stdout, what, before, work, ids);
@@ -244,7 +244,7 @@ fn first_step(stdout: Stdout, what: &[u8], input: &[u8], last: bool) {
 
 // A document that begins without a base.
 fn begun(work: &mut [u8], ids: &[u8]) -> State {
-    let started = reader::start(State::none(), Mode::base(), false, b"", work, ids);
+    let started = reader::start(State::none(), Mode::base(), None, work, ids);
     started.state
 }
 

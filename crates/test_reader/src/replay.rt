@@ -1,6 +1,6 @@
 // Documents run through the calls `start`, `step` and `finish`, and compared with what they must give.
-ghost use Rattle.std.specs.Prelude.{◌+◌, ◌≤◌, min, ◌≡◌, length};
-ghost use Rattle.reader_contract.specs.Meaning.{base_of, meaning_of};
+ghost use Rattle.std.specs.Prelude.{◌+◌, ◌≤◌, min, ◌≡◌, is_some, length};
+ghost use Rattle.reader_contract.specs.Meaning.{base_of, text_of, meaning_of};
 ghost use Rattle.reader_contract.specs.Meets.{lengths_right};
 ghost use Rattle.test_reader.specs.Lines.{part_of, Within, Behind};
 ghost use Rattle.test_reader.specs.Ways.{Ends, Runs, Turns, Finished, way_of, advanced, stopped, ended_of};
@@ -95,18 +95,17 @@ pub fn replay_file<R: Files + Eprint>(rt: &R, stdout: Stdout, path: &str, mode: 
 // A document from start to finish, or to its refusal.
 pub fn run(
     mode: Mode,
-    based: bool,
-    base: &[u8],
+    base: Option<&[u8]>,
     input: &[u8],
     expected: &[u8],
     work: &mut [u8],
     ids: &mut [u8],
     out: &mut [u8],
 ) -> Ended
-    ensures { Runs mode (length out.old) (lengths_right work.old ids.old) (base_of based base.now) input.now expected.now result }
+    ensures { Runs mode (length out.old) (lengths_right work.old ids.old) (base_of (is_some base.entry) (text_of base.entry)) input.now expected.now result }
 {
     let before = State::none();
-    let report = reader::start(before, mode, based, base, work, ids);
+    let report = reader::start(before, mode, base, work, ids);
     let state = report.state;
     let number = report.number();
     if number > 0 {
@@ -239,8 +238,7 @@ fn replay_document(
     let base = ahead(name, 1, body);
     let ended = run(
         mode,
-        base < body,
-        part(doc, base, word_end(doc, base)),
+        (base < body).then_some(part(doc, base, word_end(doc, base))),
         part(doc, body, wanted),
         part(doc, lines, doc.len()),
         work,

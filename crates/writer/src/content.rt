@@ -11,6 +11,8 @@ pub fn write(out: &mut [u8], at: usize, on: bool, s: &[u8]) -> usize
     coded::write::<Content>(out, at, on, s)
 }
 
+// In XML text.
+#[derive(Clone, Copy, Debug, PartialEq, Eq)]
 pub struct Content;
 
 impl Coding for Content {

@@ -17,6 +17,8 @@ pub fn write(out: &mut [u8], at: usize, on: bool, s: &[u8]) -> usize
     coded::write::<Iri>(out, at, on, s)
 }
 
+// In an IRI.
+#[derive(Clone, Copy, Debug, PartialEq, Eq)]
 pub struct Iri;
 
 impl Coding for Iri {

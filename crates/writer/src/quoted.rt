@@ -16,6 +16,8 @@ pub fn write(out: &mut [u8], at: usize, on: bool, s: &[u8]) -> usize
     coded::write::<Quoted>(out, at, on, s)
 }
 
+// In a literal.
+#[derive(Clone, Copy, Debug, PartialEq, Eq)]
 pub struct Quoted;
 
 impl Coding for Quoted {

@@ -11,6 +11,8 @@ pub fn write(out: &mut [u8], at: usize, on: bool, s: &[u8]) -> usize
     coded::write::<Value>(out, at, on, s)
 }
 
+// In the value of an XML attribute.
+#[derive(Clone, Copy, Debug, PartialEq, Eq)]
 pub struct Value;
 
 impl Coding for Value {

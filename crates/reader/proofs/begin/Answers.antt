@@ -1,13 +1,8 @@
 -- `reader::begin` meets its contract: refused, nothing is changed; accepted, the base stands at the front of the work store.
-use mathlib.Core.Path.{sym}
-use lib.Seq.{length-take-le}
 use Rattle.spec.specs.Limits.{work_store_bytes, id_store_bytes}
-use Rattle.reader.specs.Starting.{begin_refused, begin_done, size-within}
+use Rattle.reader.specs.Starting.{text_size, begin_refused, begin_done}
 use Rattle.std.proofs.Common.{Err, arith, ◌≡◌}
 use Rattle.reader.proofs.begin.Goals as goal
-
-pub slice_bounds-put-end : goal.slice_bounds-put-end
-slice_bounds-put-end c = let h = size-within c.args.based c.args.base.now in sym (length-take-le _ _ (omega (arith, c.base_size-n.ensures)))
 
 pub returns-in_err-may_start : goal.returns-in_err-may_start
 unfolding work_store_bytes id_store_bytes
@@ -20,4 +15,6 @@ shape_of-work c = c.work-1.given
 
 pub returns : goal.returns
 unfolding work_store_bytes id_store_bytes
-returns c = begin_done _ _ _ _ _ c.may_start.ensures c.in_ok-may_start.was c.base_size-n.ensures c.put.ensures c.started.ensures
+returns c =
+    begin_done _ _ _ _ _ c.may_start.ensures c.in_ok-may_start.was (text_size c.args.base)
+    c.text_of-text.ensures c.is_some.ensures c.put.ensures c.started.ensures
