@@ -212,11 +212,9 @@ fn statement(
     let node = Node::of(marks[Frame::BLANK] != 0);
     let s = part_of(work, n, Frame::MAIN);
     let iri = part_of(work, f, Frame::MAIN);
-    let id = part_of(work, f, Frame::ID);
-    let reified = has[Frame::IDENTIFIED] != 0;
-    ntriples::statement(
-        out, at, on, reified, id, node, s, iri, b"", term, front, b"", extra,
-    )
+    let own = part_of(work, f, Frame::ID);
+    let id = (has[Frame::IDENTIFIED] != 0).then_some(own);
+    ntriples::statement(out, at, on, id, node, s, iri, b"", term, front, b"", extra)
 }
 
 // Is there surely room for it, where its object takes at most `object` bytes beside its marks? An rdf:ID adds four lines.

@@ -1,5 +1,8 @@
 -- Subjects, objects and statements, from a kind and the bytes beside it.
 use Rattle.std.specs.Prelude.{◌≡◌, refl, Bool, true, false, List, [], ◌∷◌, ◌++◌}
+use Rattle.std.specs.Prelude.{Option as Maybe, None, Some, is_some}
+use Rattle.std.specs.Bool.{then_some}
+use denote.Bor.{Bor}
 use Rattle.std.proofs.Math.Option.{Option, none, some}
 use Prim.Native.String.{String}
 use Rattle.spec.specs.Bytes.{Bytes, ascii}
@@ -56,6 +59,22 @@ id_of false i = none
 -- the property of a statement
 unfoldable pub property_of : Bool → Bytes → Subject → Bytes → Property
 property_of has i s p = record { subject = s; iri = p; id = id_of has i }
+
+-- the text that is lent, and no bytes where there is none
+abbrev pub text_of : Maybe (Bor Bytes) → Bytes
+text_of None = []
+text_of (Some i) = i.now
+
+-- one that is lent where the flag says so
+pub lent_id : (has : Bool) (i : Bor Bytes) {lent : Maybe (Bor Bytes)} → lent ≡ then_some has i → id_of (is_some lent) (text_of lent) ≡ id_of has i.now
+unfolding id_of
+lent_id true i e = rw e refl
+lent_id false i e = rw e refl
+
+pub lent_property : (has : Bool) (i : Bor Bytes) {lent : Maybe (Bor Bytes)} (s : Subject) (p : Bytes) → lent ≡ then_some has i
+    → property_of (is_some lent) (text_of lent) s p ≡ property_of has i.now s p
+unfolding property_of
+lent_property has i s p e = rw (lent_id has i e)
 
 -- the two lines of a list's cell: its member, and the list of the others
 unfoldable pub cell_of : Bytes → Subject → Subject → List Triple

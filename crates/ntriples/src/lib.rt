@@ -2,12 +2,12 @@
 // A term is a kind and its bytes; an IRI or a text comes in two parts, since a namespace and a local name need not lie together.
 #![tactic(auto)]
 
-ghost use Rattle.std.specs.Prelude.{◌≡◌, ◌++◌};
+ghost use Rattle.std.specs.Prelude.{◌≡◌, ◌++◌, is_some};
 ghost use Rattle.std.proofs.Math.Option.{some};
 ghost use Rattle.spec.specs.NTriples.{blank, tagged, typed, triple, write_iri, write_subject, quoted, write_term, line, write};
 ghost use Rattle.spec.specs.Productions.{reification, statement};
 ghost use Rattle.writer.specs.Put.{Put};
-ghost use Rattle.ntriples.specs.Terms.{node_for, subject_of, term_of, as_term, in_rdf, property_of, cell_of};
+ghost use Rattle.ntriples.specs.Terms.{node_for, subject_of, term_of, as_term, in_rdf, text_of, property_of, cell_of};
 
 // What a subject is: its IRI or its label stands beside it.
 #[derive(Clone, Copy, PartialEq, Eq, Debug)]
@@ -33,12 +33,15 @@ impl Node {
     {
         if blank { Node::Blank } else { Node::Named }
     }
+}
 
-    // As an object.
-    pub fn as_term(self) -> Term
-        ensures { result ≡ as_term self }
-    {
-        match self {
+// A node as an object.
+impl From<Node> for Term {
+    ghost from_gives = { λ node term. term ≡ as_term node };
+
+    #[tactic(auto, unfolding(crate::specs::Terms::as_term))]
+    fn from(node: Node) -> Self {
+        match node {
             Node::Named => Term::Named,
             Node::Blank => Term::Blank,
         }
@@ -202,7 +205,18 @@ fn reification(
         b"Statement",
         b"",
     );
-    let to = rdf_line(out, to, on, n, id, b"subject", node.as_term(), s, b"", b"");
+    let to = rdf_line(
+        out,
+        to,
+        on,
+        n,
+        id,
+        b"subject",
+        Term::from(node),
+        s,
+        b"",
+        b"",
+    );
     let to = rdf_line(
         out,
         to,
@@ -223,8 +237,7 @@ pub fn statement(
     out: &mut [u8],
     at: usize,
     on: bool,
-    has: bool,
-    id: &[u8],
+    id: Option<&[u8]>,
     node: Node,
     s: &[u8],
     space: &[u8],
@@ -234,15 +247,17 @@ pub fn statement(
     back: &[u8],
     extra: &[u8],
 ) -> usize
-    ensures { Put on out.old out.new at result (write (statement (property_of has id.now (subject_of node s.now) (space.now ++ name.now)) (term_of term (front.now ++ back.now) extra.now))) }
+    ensures { Put on out.old out.new at result (write (statement (property_of (is_some id.entry) (text_of id.entry) (subject_of node s.now) (space.now ++ name.now)) (term_of term (front.now ++ back.now) extra.now))) }
 {
-    if !has {
-        return line(out, at, on, node, s, space, name, term, front, back, extra);
+    match id {
+        None => line(out, at, on, node, s, space, name, term, front, back, extra),
+        Some(own) => {
+            let to = reification(
+                out, at, on, own, node, s, space, name, term, front, back, extra,
+            );
+            line_behind(out, to, on, node, s, space, name, term, front, back, extra)
+        }
     }
-    let to = reification(
-        out, at, on, id, node, s, space, name, term, front, back, extra,
-    );
-    line_behind(out, to, on, node, s, space, name, term, front, back, extra)
 }
 
 // The two lines of a list's cell: its member, and the list of the others.
@@ -266,7 +281,7 @@ pub fn cell(
         n,
         label,
         b"first",
-        first.as_term(),
+        Term::from(first),
         member,
         b"",
         b"",
@@ -278,7 +293,7 @@ pub fn cell(
         n,
         label,
         b"rest",
-        rest.as_term(),
+        Term::from(rest),
         others,
         b"",
         b"",

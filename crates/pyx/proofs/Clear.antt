@@ -7,6 +7,7 @@ use lib.Dec.{eqb}
 use lib.ListN.{length, take}
 use lib.Seq.{length-take-le}
 use borrow.Author.Tests.{le-ltb, ne_eqb}
+use Rattle.std.specs.Prelude.{Ok}
 use Rattle.spec.specs.Bytes.{Bytes, ascii, byte, begins}
 use Rattle.spec.specs.Limits.{most_event_bytes}
 use Rattle.spec.specs.PyxCut.{goes_on, in_front, reach, whole, cut}
@@ -14,7 +15,6 @@ use Rattle.theorems.specs.PyxCut.{cut-reach}
 use Rattle.pyx.specs.First.{Cuts}
 use Rattle.pyx.specs.Lines.{spaced}
 use Rattle.pyx.specs.Decode.{unread}
-use Rattle.pyx.specs.declared.First.TheVariants.{Whole}
 use Rattle.pyx.proofs.Reach.{goes_on_end}
 
 -- no line behind the first begins with a space, nor does the first where one begins
@@ -51,7 +51,7 @@ cut_clear : (last : Bool) (s e : Bytes) → cut last s ≡ whole e → spaced e 
 cut_clear last s e h = let r = cut-reach last s e h in rw (← r.1) (reach_clear r.0 false s)
 
 -- what `first_event` gives is read
-pub first_read : {last : Bool} {s : Bytes} {n : ℕ} (d : Bytes) → Cuts (Whole n) last s → n ≤ length d → unread (take n s) d ≡ false
+pub first_read : {last : Bool} {s : Bytes} {n : ℕ} (d : Bytes) → Cuts (Ok n) last s → n ≤ length d → unread (take n s) d ≡ false
 unfolding unread
 first_read {last} {s} {n} d r h =
     let k : length (take n s) ≡ n = length-take-le n s r.sizes.within in

@@ -8,11 +8,12 @@ use lib.Dec.{eqb, ltb}
 use lib.ListN.{length, take, drop, get_or, length-append, length-drop, drop_of_length-le}
 use lib.Seq.{drop-cons, drop-drop, take-add, length-take-le}
 use borrow.Author.Tests.{ltb-true, ltb-false, lt-ltb, le-ltb, ne_eqb}
+use Rattle.std.specs.Prelude.{Ok, Err}
 use Rattle.spec.specs.Bytes.{Bytes, byte, when◌then◌else◌, up_to}
 use Rattle.spec.specs.Limits.{most_event_bytes}
 use Rattle.spec.specs.PyxCut.{goes_on, may_go_on, Ending, sure, line_end, mid_line, in_front, reach, too_long, ended, in_length, cut}
 use Rattle.pyx.specs.First.{Sized, Cuts, in_line, at_line_end}
-use Rattle.pyx.specs.declared.First.TheVariants.{Wait, Unended, TooLong, Whole}
+use Rattle.pyx.specs.declared.FirstError.TheVariants.{Wait, Unended, TooLong}
 
 -- a line's end
 abbrev pub is_end : ℕ → Bool
@@ -162,7 +163,7 @@ module _ {c : ℕ} {s : Bytes} {seen at : ℕ} (r : Reaching c s seen at) {line 
   unfolding in_line most_event_bytes when◌then◌else◌ reach ended
   reaching_in_line last h = go (ltb 32_768 seen) last refl
     where
-      go : (t l : Bool) → ltb 32_768 seen ≡ t → Cuts (when t then TooLong else when l then Unended else Wait) l s
+      go : (t l : Bool) → ltb 32_768 seen ≡ t → Cuts (when t then Err TooLong else when l then Err Unended else Err Wait) l s
       go true l q = record { means = passed false (in_line_lem h) l (ltb-true 32_768 seen q); sizes = tt }
       go false true q = record { means = stopped false (in_line_lem h) true mid_line refl (ltb-false 32_768 seen q); sizes = tt }
       go false false q = record { means = stopped false (in_line_lem h) false mid_line refl (ltb-false 32_768 seen q); sizes = tt }
@@ -174,7 +175,7 @@ module _ {c : ℕ} {s : Bytes} {seen at : ℕ} (r : Reaching c s seen at) {line 
       all : reach c false s ≡ fronts (take seen s) (reach c true (drop seen s))
       all = rw q at (line-ends h).1
 
-      go : (t l m : Bool) → ltb 32_768 seen ≡ t → may_go_on c ≡ m → Cuts (when t then TooLong else when l then Whole seen else when m then Wait else Whole seen) l s
+      go : (t l m : Bool) → ltb 32_768 seen ≡ t → may_go_on c ≡ m → Cuts (when t then Err TooLong else when l then Ok seen else when m then Err Wait else Ok seen) l s
       go true l m e g = record { means = passed true all l (ltb-true 32_768 seen e); sizes = tt }
       go false true true e g = record { means = stopped true all true line_end (rw g) (ltb-false 32_768 seen e); sizes = sized (ltb-false 32_768 seen e) }
       go false true false e g = record { means = stopped true all true sure (rw g) (ltb-false 32_768 seen e); sizes = sized (ltb-false 32_768 seen e) }
@@ -188,7 +189,7 @@ module _ {c : ℕ} {s : Bytes} {seen at : ℕ} (r : Reaching c s seen at) {line 
     ahead : drop (at + line + 1) s ≡ get_or s (at + line + 1) 0 ∷ drop (suc (at + line + 1)) s
     ahead = drop-cons s (at + line + 1) 0 (omega (arith, more, r.within))
 
-    pub reaching_stops : (last : Bool) → goes_on c (get_or s (at + line + 1) 0) ≡ false → Cuts (Whole (at + line + 1)) last s
+    pub reaching_stops : (last : Bool) → goes_on c (get_or s (at + line + 1) 0) ≡ false → Cuts (Ok (at + line + 1)) last s
     unfolding most_event_bytes ended
     reaching_stops last g =
         let k : length (take (at + line + 1) s) ≡ at + line + 1 = length-take-le (at + line + 1) s (omega (arith, more, r.within)) in
@@ -213,7 +214,7 @@ module _ {c : ℕ} {s : Bytes} {seen at : ℕ} (r : Reaching c s seen at) {line 
         }
 
 -- an empty rest
-pub cuts_nothing : (last : Bool) (s : Bytes) → length s ≡ 0 → Cuts Wait last s
+pub cuts_nothing : (last : Bool) (s : Bytes) → length s ≡ 0 → Cuts (Err Wait) last s
 unfolding cut
 cuts_nothing last [] h = record { means = refl; sizes = tt }
 cuts_nothing last (a ∷ s) h = absurd (omega arith)

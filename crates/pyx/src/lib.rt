@@ -14,13 +14,15 @@ ghost use Rattle.pyx.specs.Escapes.{Nexts, Unescapes, data_of};
 ghost use Rattle.pyx.specs.Attributes.{Reads, Behind, Lays, Small, row};
 ghost use Rattle.pyx.specs.Decode.{Says, Decodes, Fits};
 
-// What the rest of the input begins with: no complete event yet, a last line that is unended, an event that is too long, or an event of so many bytes.
+// Why the rest of the input does not begin with an event.
 #[derive(Clone, Copy, Debug, PartialEq, Eq)]
-pub enum First {
+pub enum FirstError {
+    // No complete event yet.
     Wait,
+    // The last line has no end.
     Unended,
+    // The event has more than `MOST_BYTES`.
     TooLong,
-    Whole(usize),
 }
 
 // An event, its texts in the scratch: how many bytes its text or name has; of a start tag also where the local part of
@@ -59,12 +61,12 @@ impl Event {
     pub const MOST_BYTES: usize = 32_768;
 }
 
-// The first event of the input. No more than the longest event and one byte are looked at.
-pub fn first_event(input: &[u8], last: bool) -> First
+// How many bytes the first event of the input has. No more than the longest event and one byte are looked at.
+pub fn first_event(input: &[u8], last: bool) -> Result<usize, FirstError>
     ensures { Cuts result last input.now }
 {
     if input.len() == 0 {
-        return First::Wait;
+        return Err(FirstError::Wait);
     }
     let c = input[0];
     // With `is_empty` and `min` in place of these tests test_lines ran up to 3.8 % more instructions (92.8 to 96.3 million).
@@ -84,7 +86,7 @@ pub fn first_event(input: &[u8], last: bool) -> First
             return at_line_end(seen, last, c);
         }
         if !goes_on(c, input[at]) {
-            return First::Whole(at);
+            return Ok(at);
         }
     }
 }
@@ -122,32 +124,32 @@ fn goes_on(c: u8, b: u8) -> bool
 }
 
 // All that is seen belongs to one event, and its last line has no end.
-fn within_line(seen: usize, last: bool) -> First
+fn within_line(seen: usize, last: bool) -> Result<usize, FirstError>
     ensures { result ≡ in_line seen last }
 {
     if seen > Event::MOST_BYTES {
-        return First::TooLong;
+        return Err(FirstError::TooLong);
     }
     if last {
-        return First::Unended;
+        return Err(FirstError::Unended);
     }
-    First::Wait
+    Err(FirstError::Wait)
 }
 
 // All that is seen belongs to one event that begins with `c`, and its last line has an end.
-fn at_line_end(seen: usize, last: bool, c: u8) -> First
+fn at_line_end(seen: usize, last: bool, c: u8) -> Result<usize, FirstError>
     ensures { result ≡ at_line_end seen last (may_go_on c) }
 {
     if seen > Event::MOST_BYTES {
-        return First::TooLong;
+        return Err(FirstError::TooLong);
     }
     if last {
-        return First::Whole(seen);
+        return Ok(seen);
     }
     if (c == b'(') | (c == b'-') {
-        return First::Wait;
+        return Err(FirstError::Wait);
     }
-    First::Whole(seen)
+    Ok(seen)
 }
 
 // The first line of an event. Most are one line in ASCII, which one look at their bytes shows.

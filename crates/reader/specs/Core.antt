@@ -12,8 +12,8 @@ use Rattle.spec.specs.Document.{Doc}
 use Rattle.spec.specs.Opening.{Step}
 use Rattle.spec.specs.Calls.{first_event, Accepted, accept}
 use Rattle.copy.specs.Copy.{Wrote}
-use Rattle.pyx.specs.declared.First.{First}
-use Rattle.pyx.specs.declared.First.TheVariants.{Wait, Unended, TooLong, Whole}
+use Rattle.pyx.specs.declared.FirstError.{FirstError}
+use Rattle.pyx.specs.declared.FirstError.TheVariants.{Wait, Unended, TooLong}
 use Rattle.pyx.specs.First.{Cuts}
 use Rattle.pyx.specs.Decode.{unread}
 use Rattle.pyx.proofs.Clear.{first_read}
@@ -86,23 +86,23 @@ module _ {last : Bool} {s : Bytes} {r : Registers} {count : ℕ} {l : Lent} wher
         cases = (e, refl);
       }
 
-  module _ {f : First} (c : Cuts f last s) where
-    pub take_wait : f ≡ Wait → Takes last s r count (Err Incomplete) l l
+  module _ {f : Result ℕ FirstError} (c : Cuts f last s) where
+    pub take_wait : f ≡ Err Wait → Takes last s r count (Err Incomplete) l l
     unfolding first_accepted first_event ◌>>=◌
     take_wait q = stays (rw (← c.means, q))
 
-    pub take_unended : f ≡ Unended → Takes last s r count (Err NotPyx) l l
+    pub take_unended : f ≡ Err Unended → Takes last s r count (Err NotPyx) l l
     unfolding first_accepted first_event ◌>>=◌
     take_unended q = stays (rw (← c.means, q))
 
-    pub take_long : f ≡ TooLong → Takes last s r count (Err OverLimit) l l
+    pub take_long : f ≡ Err TooLong → Takes last s r count (Err OverLimit) l l
     unfolding first_accepted first_event ◌>>=◌
     take_long q = stays (rw (← c.means, q))
 
 -- ---- an event
 
-module _ {last : Bool} {s : Bytes} {f : First} {n : ℕ} (c : Cuts f last s) (q : f ≡ Whole n) where
-  whole_cuts : Cuts (Whole n) last s
+module _ {last : Bool} {s : Bytes} {f : Result ℕ FirstError} {n : ℕ} (c : Cuts f last s) (q : f ≡ Ok n) where
+  whole_cuts : Cuts (Ok n) last s
   whole_cuts = rw q at c
 
   pub take-size : length (take n s) ≡ n

@@ -5,7 +5,7 @@ ghost use Rattle.reader.specs.Asked.{Asks, Roomy, Areas};
 ghost use Rattle.reader.specs.Core.{Takes, taken_as};
 
 use event::Advance;
-use pyx::{Event, First};
+use pyx::{Event, FirstError};
 use spec::Refusal;
 use start_names::Class;
 use start_references::reference::Area;
@@ -55,10 +55,10 @@ pub fn core(
         × Areas scratch.old spans.old area.old scratch.new spans.new area.new }
 {
     match pyx::first_event(input, last) {
-        First::Wait => Err(Refusal::Incomplete),
-        First::Unended => Err(Refusal::NotPyx),
-        First::TooLong => Err(Refusal::OverLimit),
-        First::Whole(n) => {
+        Err(FirstError::Wait) => Err(Refusal::Incomplete),
+        Err(FirstError::Unended) => Err(Refusal::NotPyx),
+        Err(FirstError::TooLong) => Err(Refusal::OverLimit),
+        Ok(n) => {
             let progress = crate::parser::parse_event(
                 registers,
                 count,

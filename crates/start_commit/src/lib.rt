@@ -21,7 +21,7 @@ ghost use Rattle.state_words.specs.Parts.{MAIN, ID};
 
 use copy::words::wide;
 use event::Advance;
-use ntriples::Node;
+use ntriples::{Node, Term};
 use spec::Refusal;
 use start_element::Source;
 use start_plan::{Lines, Start};
@@ -181,11 +181,13 @@ fn tell_node<'a>(
     let subject = start_element::text(main, scratch, area);
     let spoken = tag_in_force(tag, language, work, area);
     let typed = start_plan::is_there(kind);
-    let type_of = start_element::text(kind, scratch, area);
-    let element = start_element::text(iri, scratch, area);
+    let own = start_element::text(kind, scratch, area);
+    let type_of = typed.then_some(own);
+    let name = start_element::text(iri, scratch, area);
+    let element = x.named.then_some(name);
     start_lines::node_lines(
-        out, 0, on, node, subject, spoken, scratch, spans, k, work, classes, roles, typed, type_of,
-        x.named, element,
+        out, 0, on, node, subject, spoken, scratch, spans, k, work, classes, roles, type_of,
+        element,
     )
 }
 
@@ -214,9 +216,10 @@ fn tell_object<'a>(
     let subject = start_element::text(object, scratch, area);
     let spoken = tag_in_force(tag, language, work, area);
     let typed = start_plan::is_there(kind);
-    let type_of = start_element::text(kind, scratch, area);
+    let own = start_element::text(kind, scratch, area);
+    let type_of = typed.then_some(own);
     start_lines::tag_lines(
-        out, 0, on, node, subject, spoken, scratch, spans, k, work, classes, roles, typed, type_of,
+        out, 0, on, node, subject, spoken, scratch, spans, k, work, classes, roles, type_of,
     )
 }
 
@@ -241,12 +244,13 @@ fn tell_resource<'a>(
     let node = Node::of(marks[Frame::BLANK] != 0);
     let subject = main_of(around, work);
     let has = start_plan::is_there(id);
-    let stated = start_element::text(id, scratch, area);
+    let own = start_element::text(id, scratch, area);
+    let stated = has.then_some(own);
     let name = start_element::text(property, scratch, area);
-    let term = Node::of(parts.blank).as_term();
+    let term = Term::from(Node::of(parts.blank));
     let object = start_element::text(main, scratch, area);
     ntriples::statement(
-        out, 0, on, has, stated, node, subject, b"", name, term, b"", object, b"",
+        out, 0, on, stated, node, subject, b"", name, term, b"", object, b"",
     )
 }
 

@@ -2,13 +2,13 @@
 // Attributes are read where the decoded tag has them; `classes` and `roles` say what each is (crates start_names and start_attributes).
 #![tactic(auto)]
 
-ghost use Rattle.std.specs.Prelude.{◌≡◌, ◌++◌, eqb, get_or};
+ghost use Rattle.std.specs.Prelude.{◌≡◌, ◌++◌, eqb, get_or, is_some};
 ghost use Rattle.std.proofs.Math.Option.{none};
 ghost use Rattle.spec.specs.NTriples.{triple, line, write};
 ghost use Rattle.spec.specs.StartTag.{property, role_number};
 ghost use Rattle.spec.specs.Productions.{literal_of, attribute_lines, type_line};
 ghost use Rattle.writer.specs.Put.{Put};
-ghost use Rattle.ntriples.specs.Terms.{subject_of, id_of as given};
+ghost use Rattle.ntriples.specs.Terms.{subject_of, text_of, id_of as given};
 ghost use Rattle.state.specs.Language.{language_of};
 ghost use Rattle.start_names.specs.Tag.{value_at};
 ghost use Rattle.start_attributes.specs.Properties.{local_at, properties_from};
@@ -44,7 +44,7 @@ pub fn emit_property_attrs<'a>(
     to
 }
 
-// The lines of a start tag about a subject: its property attributes, then its rdf:type, where `typed` says that there is one.
+// The lines of a start tag about a subject: its property attributes, then its rdf:type, where there is one.
 pub fn tag_lines<'a>(
     out: &mut [u8],
     at: usize,
@@ -58,18 +58,17 @@ pub fn tag_lines<'a>(
     work: &'a [u8],
     classes: &[usize],
     roles: &[u8],
-    typed: bool,
-    kind: &[u8],
+    kind: Option<&[u8]>,
 ) -> usize
-    ensures { Put on out.old out.new at result (write (attribute_lines (subject_of node subject.now) (language_of language.now) (properties_from scratch.now spans.now work.now classes.now roles.now 0 k) ++ type_line (subject_of node subject.now) (given typed kind.now))) }
+    ensures { Put on out.old out.new at result (write (attribute_lines (subject_of node subject.now) (language_of language.now) (properties_from scratch.now spans.now work.now classes.now roles.now 0 k) ++ type_line (subject_of node subject.now) (given (is_some kind.entry) (text_of kind.entry)))) }
 {
     let to = emit_property_attrs(
         out, at, on, node, subject, language, scratch, spans, k, work, classes, roles,
     );
-    type_line(out, to, on, node, subject, typed, kind)
+    type_line(out, to, on, node, subject, kind)
 }
 
-// The lines of a node element: those of its start tag, then the type that its name is, where `named` says so: rdf:Description is none.
+// The lines of a node element: those of its start tag, then the type that its name is, where it is one: rdf:Description is none.
 pub fn node_lines<'a>(
     out: &mut [u8],
     at: usize,
@@ -83,47 +82,43 @@ pub fn node_lines<'a>(
     work: &'a [u8],
     classes: &[usize],
     roles: &[u8],
-    typed: bool,
-    kind: &[u8],
-    named: bool,
-    element: &[u8],
+    kind: Option<&[u8]>,
+    element: Option<&[u8]>,
 ) -> usize
-    ensures { Put on out.old out.new at result (write ((attribute_lines (subject_of node subject.now) (language_of language.now) (properties_from scratch.now spans.now work.now classes.now roles.now 0 k) ++ type_line (subject_of node subject.now) (given typed kind.now)) ++ type_line (subject_of node subject.now) (given named element.now))) }
+    ensures { Put on out.old out.new at result (write ((attribute_lines (subject_of node subject.now) (language_of language.now) (properties_from scratch.now spans.now work.now classes.now roles.now 0 k) ++ type_line (subject_of node subject.now) (given (is_some kind.entry) (text_of kind.entry))) ++ type_line (subject_of node subject.now) (given (is_some element.entry) (text_of element.entry)))) }
 {
     let to = tag_lines(
-        out, at, on, node, subject, language, scratch, spans, k, work, classes, roles, typed, kind,
+        out, at, on, node, subject, language, scratch, spans, k, work, classes, roles, kind,
     );
-    type_line(out, to, on, node, subject, named, element)
+    type_line(out, to, on, node, subject, element)
 }
 
-// An rdf:type line, where `typed` says that there is a type: flag and IRI beside each other, as `given` of the definitions and the callers
-// (tag_lines, node_lines) have them.
+// An rdf:type line, where there is a type.
 fn type_line(
     out: &mut [u8],
     at: usize,
     on: bool,
     node: Node,
     subject: &[u8],
-    typed: bool,
-    iri: &[u8],
+    kind: Option<&[u8]>,
 ) -> usize
-    ensures { Put on out.old out.new at result (write (type_line (subject_of node subject.now) (given typed iri.now))) }
+    ensures { Put on out.old out.new at result (write (type_line (subject_of node subject.now) (given (is_some kind.entry) (text_of kind.entry)))) }
 {
-    if !typed {
-        return at;
+    match kind {
+        None => at,
+        Some(iri) => ntriples::rdf_line(
+            out,
+            at,
+            on,
+            node,
+            subject,
+            b"type",
+            Term::Named,
+            iri,
+            b"",
+            b"",
+        ),
     }
-    ntriples::rdf_line(
-        out,
-        at,
-        on,
-        node,
-        subject,
-        b"type",
-        Term::Named,
-        iri,
-        b"",
-        b"",
-    )
 }
 
 // The line of attribute j, where it is a property.

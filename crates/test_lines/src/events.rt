@@ -1,6 +1,6 @@
 // Streams of events, parted by the byte FF in the input. Of each are printed where the first event of every beginning ends,
 // as long as more may follow and where no more does, and what each event of the whole is.
-use pyx::{Event, First};
+use pyx::{Event, FirstError};
 use std::io::{Stdin, Stdout};
 
 pub fn try_all(mut from: Stdin, out: Stdout) {
@@ -41,12 +41,11 @@ fn cuts(out: Stdout, s: &[u8], last: bool) {
 
 // How many bytes the first event has, or why there is none.
 fn cut(s: &[u8], last: bool) -> Result<usize, &'static str> {
-    match pyx::first_event(s, last) {
-        First::Wait => Err("wait"),
-        First::Unended => Err("unended"),
-        First::TooLong => Err("too long"),
-        First::Whole(n) => Ok(n),
-    }
+    pyx::first_event(s, last).map_err(|e| match e {
+        FirstError::Wait => "wait",
+        FirstError::Unended => "unended",
+        FirstError::TooLong => "too long",
+    })
 }
 
 fn print_change(
@@ -73,7 +72,7 @@ fn events(out: Stdout, s: &[u8]) {
     let mut scratch = [0u8; Event::MOST_BYTES];
     let mut spans = [0u32; 8];
     let mut rest = s;
-    while let First::Whole(n) = pyx::first_event(rest, true) {
+    while let Ok(n) = pyx::first_event(rest, true) {
         event(out, &rest[..n], &mut scratch, &mut spans);
         rest = &rest[n..];
     }

@@ -51,15 +51,15 @@ fn line(
     show(stdout, &out, n, m);
 }
 
-fn statement(stdout: Stdout, has: bool, id: &[u8], term: Term, front: &[u8], extra: &[u8]) {
+fn statement(stdout: Stdout, id: Option<&[u8]>, term: Term, front: &[u8], extra: &[u8]) {
     let mut out = [0u8; 2048];
     let b = Node::Blank;
     let r = ntriples::RDF;
     let n = ntriples::statement(
-        &mut out, 0, false, has, id, b, b"s", &r, b"value", term, front, b"", extra,
+        &mut out, 0, false, id, b, b"s", &r, b"value", term, front, b"", extra,
     );
     let m = ntriples::statement(
-        &mut out, 0, true, has, id, b, b"s", &r, b"value", term, front, b"", extra,
+        &mut out, 0, true, id, b, b"s", &r, b"value", term, front, b"", extra,
     );
     show(stdout, &out, n, m);
 }
@@ -156,11 +156,10 @@ fn marked_texts(stdout: Stdout) {
 }
 
 fn rows(stdout: Stdout) {
-    statement(stdout, false, b"http://e/#i", Term::Plain, b"v", b"");
+    statement(stdout, None, Term::Plain, b"v", b"");
     statement(
         stdout,
-        true,
-        b"http://e/#i",
+        Some(b"http://e/#i"),
         Term::Typed,
         b"<a></a>",
         &ntriples::RDF_XML_LITERAL,

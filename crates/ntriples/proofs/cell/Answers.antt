@@ -9,4 +9,4 @@ use Rattle.ntriples.proofs.cell.Goals as goal
 
 pub returns : goal.returns
 unfolding subject_of in_rdf rdf ascii
-returns c = put_as (puts (rw (c.as_term.ensures, as_term_lem, append-nil) at c.rdf_line-to.ensures) (rw (c.as_term-2.ensures, as_term_lem, append-nil) at c.rdf_line.ensures)) (cell-lines _ _ _)
+returns c = put_as (puts (rw (c.from.ensures, as_term_lem, append-nil) at c.rdf_line-to.ensures) (rw (c.from-2.ensures, as_term_lem, append-nil) at c.rdf_line.ensures)) (cell-lines _ _ _)

@@ -9,4 +9,4 @@ use Rattle.ntriples.proofs.reification.Goals as goal
 
 pub returns : goal.returns
 unfolding subject_of term_of in_rdf rdf ascii
-returns c = put_as (puts c.rdf_line-to.ensures (puts (rw (c.as_term.ensures, as_term_lem, append-nil) at c.rdf_line-to-2.ensures) (puts c.rdf_line-to-3.ensures c.rdf_line.ensures))) (reified _ _ _ _)
+returns c = put_as (puts c.rdf_line-to.ensures (puts (rw (c.from.ensures, as_term_lem, append-nil) at c.rdf_line-to-2.ensures) (puts c.rdf_line-to-3.ensures c.rdf_line.ensures))) (reified _ _ _ _)

@@ -1,5 +1,4 @@
 -- `start_commit::act` meets its contract. 2, or all that was judged is done.
-use mathlib.Core.Path.{refl}
 use Rattle.start_commit.specs.Acts.{act_full, act_done}
 use Rattle.std.proofs.Common.{Err, arith, ◌≡◌}
 use Rattle.start_commit.proofs.act.Goals as goal

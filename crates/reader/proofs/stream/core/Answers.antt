@@ -4,19 +4,19 @@ use Rattle.reader.specs.Core.{take_wait, take_unended, take_long, take-size, tak
 use Rattle.reader.proofs.stream.core.Goals as goal
 
 pub slice_bounds-parse_event-end : goal.slice_bounds-parse_event-end
-slice_bounds-parse_event-end c = sym (take-size c.first_event.ensures c.in-Whole.is)
+slice_bounds-parse_event-end c = sym (take-size c.first_event.ensures c.in-Ok.is)
 
 pub parse_event-progress-requires : goal.parse_event-progress-requires
-parse_event-progress-requires c = (c.requires.0, c.requires.1, take_read c.first_event.ensures c.in-Whole.is _ c.requires.1.scratch)
+parse_event-progress-requires c = (c.requires.0, c.requires.1, take_read c.first_event.ensures c.in-Ok.is _ c.requires.1.scratch)
 
-pub returns-in-Wait : goal.returns-in-Wait
-returns-in-Wait c = (take_wait c.first_event.ensures c.in-Wait.is, record { scratch = refl; spans = refl; area = refl })
+pub returns-in-Err-Wait : goal.returns-in-Err-Wait
+returns-in-Err-Wait c = (take_wait c.first_event.ensures (rw c.in-Err-Wait.field-0-is at c.in-Err-Wait.is), record { scratch = refl; spans = refl; area = refl })
 
-pub returns-in-Unended : goal.returns-in-Unended
-returns-in-Unended c = (take_unended c.first_event.ensures c.in-Unended.is, record { scratch = refl; spans = refl; area = refl })
+pub returns-in-Err-Unended : goal.returns-in-Err-Unended
+returns-in-Err-Unended c = (take_unended c.first_event.ensures (rw c.in-Err-Unended.field-0-is at c.in-Err-Unended.is), record { scratch = refl; spans = refl; area = refl })
 
-pub returns-in-TooLong : goal.returns-in-TooLong
-returns-in-TooLong c = (take_long c.first_event.ensures c.in-TooLong.is, record { scratch = refl; spans = refl; area = refl })
+pub returns-in-Err-TooLong : goal.returns-in-Err-TooLong
+returns-in-Err-TooLong c = (take_long c.first_event.ensures (rw c.in-Err-TooLong.field-0-is at c.in-Err-TooLong.is), record { scratch = refl; spans = refl; area = refl })
 
 pub shape_of-frames : goal.shape_of-frames
 shape_of-frames c = c.frames-1.given
@@ -45,5 +45,5 @@ shape_of-spans c = c.spans-1.given
 pub shape_of-area : goal.shape_of-area
 shape_of-area c = c.area-1.given
 
-pub returns-in-Whole : goal.returns-in-Whole
-returns-in-Whole c = (take-parsed c.first_event.ensures c.in-Whole.is c.parse_event-progress.ensures.0 c.took.ensures, c.parse_event-progress.ensures.1)
+pub returns-in-Ok : goal.returns-in-Ok
+returns-in-Ok c = (take-parsed c.first_event.ensures c.in-Ok.is c.parse_event-progress.ensures.0 c.took.ensures, c.parse_event-progress.ensures.1)
