@@ -514,13 +514,13 @@ fn is_hex(c: u32) -> bool
 fn is_ucschar(c: u32) -> bool
     ensures { result ≡ is_ucschar c }
 {
-    c >= 0xA0 && utils::in_ranges(&UCSCHAR, c)
+    c >= 0xA0 && utils::in_pairs(&UCSCHAR, c)
 }
 
 fn is_iprivate(c: u32) -> bool
     ensures { result ≡ is_iprivate c }
 {
-    c >= 0xE000 && utils::in_ranges(&IPRIVATE, c)
+    c >= 0xE000 && utils::in_pairs(&IPRIVATE, c)
 }
 
 // A character of a set.

@@ -8,5 +8,6 @@ pub mod Decoding
 pub mod Walking
 -- ---- characters and names
 pub mod Ranges
+pub mod Bounds
 pub mod Names
 pub mod Plain

@@ -21,7 +21,7 @@ before_all a c (r ∷ rs) h s =
     let l : a ≤ r.0 = leb-true a r.0 (and_left (leb a r.0) (ascending_from r.0 rs) s) in
     rw (lt-leb r.0 c (omega arith)) (before_all r.0 c rs (omega arith) (and_right (leb a r.0) (ascending_from r.0 rs) s))
 
-from_zero : (a : ℕ) (rs : List (ℕ × ℕ)) → ascending_from a rs ≡ true → ascending_from 0 rs ≡ true
+pub from_zero : (a : ℕ) (rs : List (ℕ × ℕ)) → ascending_from a rs ≡ true → ascending_from 0 rs ≡ true
 unfolding ascending_from
 from_zero a [] s = refl
 from_zero a (r ∷ rs) s = rw (le-leb 0 r.0 (omega arith)) (and_right (leb a r.0) (ascending_from r.0 rs) s)

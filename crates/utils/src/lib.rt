@@ -7,7 +7,7 @@ ghost use Rattle.spec.specs.Utf8.{leading_ones, goes_on, is_scalar, as_character
 ghost use Rattle.spec.specs.XmlNames.{is_char, is_name_start, is_name_char, is_nc_name};
 ghost use Rattle.spec.specs.RdfXml.{is_blank};
 ghost use Rattle.utils.specs.Decoding.{Decodes, Begins, joins};
-ghost use Rattle.utils.specs.Ranges.{ascending_from};
+ghost use Rattle.utils.specs.Ranges.{ranges, ascending_from};
 ghost use Rattle.utils.specs.Names.{name_of, is_nc_rest, starts_nc, goes_on_nc};
 ghost use Rattle.utils.specs.Plain.{plain, plain_text, printable};
 ghost use Rattle.utils.specs.Walking.{Walked, Steps};
@@ -105,7 +105,7 @@ pub fn is_char(c: u32) -> bool
 pub fn is_name_start_char(c: u32) -> bool
     ensures { result ≡ is_name_start c }
 {
-    in_ranges(&START_RANGES, c)
+    in_pairs(&START_RANGES, c)
 }
 
 pub fn is_name_char(c: u32) -> bool
@@ -114,11 +114,11 @@ pub fn is_name_char(c: u32) -> bool
     if is_name_start_char(c) {
         return true;
     }
-    in_ranges(&FURTHER_RANGES, c)
+    in_pairs(&FURTHER_RANGES, c)
 }
 
 // Is a character in one of some ranges, first and last of each? They ascend, so the first that begins above it ends the search.
-pub fn in_ranges(ranges: &[(u32, u32)], c: u32) -> bool
+pub fn in_pairs(ranges: &[(u32, u32)], c: u32) -> bool
     requires { ascending_from 0 ranges.now ≡ true }
     ensures { result ≡ in_ranges ranges.now c }
 {
@@ -129,6 +129,24 @@ pub fn in_ranges(ranges: &[(u32, u32)], c: u32) -> bool
         if c <= *last {
             return true;
         }
+    }
+    false
+}
+
+// The same of a table that is laid flat: first and last of each range, one behind the other. An odd last bound says nothing.
+pub fn in_ranges(bounds: &[u32], c: u32) -> bool
+    requires { ascending_from 0 (ranges bounds.now) ≡ true }
+    ensures { result ≡ in_ranges (ranges bounds.now) c }
+{
+    let mut i = 0;
+    while i + 1 < bounds.len() {
+        if c < bounds[i] {
+            return false;
+        }
+        if c <= bounds[i + 1] {
+            return true;
+        }
+        i += 2;
     }
     false
 }

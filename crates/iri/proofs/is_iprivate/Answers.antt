@@ -10,10 +10,10 @@ pub returns-else-c-ge57344 : goal.returns-else-c-ge57344
 unfolding P.all ascending_from
 returns-else-c-ge57344 c = lt-leb 57344 c.args.c c.if-c-ge57344.false ∙ sym (before_all 57344 _ P.iprivates c.if-c-ge57344.false refl)
 
-pub in_ranges-requires : goal.in_ranges-requires
+pub in_pairs-requires : goal.in_pairs-requires
 unfolding ascending_from
-in_ranges-requires c = refl
+in_pairs-requires c = refl
 
 pub returns-then-c-ge57344 : goal.returns-then-c-ge57344
 unfolding P.all
-returns-then-c-ge57344 c = c.in_ranges.ensures
+returns-then-c-ge57344 c = c.in_pairs.ensures

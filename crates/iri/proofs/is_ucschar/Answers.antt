@@ -10,10 +10,10 @@ pub returns-else-c-ge160 : goal.returns-else-c-ge160
 unfolding P.all ascending_from
 returns-else-c-ge160 c = lt-leb 160 c.args.c c.if-c-ge160.false ∙ sym (before_all 160 _ P.ucschars c.if-c-ge160.false refl)
 
-pub in_ranges-requires : goal.in_ranges-requires
+pub in_pairs-requires : goal.in_pairs-requires
 unfolding ascending_from
-in_ranges-requires c = refl
+in_pairs-requires c = refl
 
 pub returns-then-c-ge160 : goal.returns-then-c-ge160
 unfolding P.all
-returns-then-c-ge160 c = c.in_ranges.ensures
+returns-then-c-ge160 c = c.in_pairs.ensures

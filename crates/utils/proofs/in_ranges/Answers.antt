@@ -1,19 +1,19 @@
--- `in_ranges`. The invariant: the ranges from the ith on decide, and they ascend.
-use Rattle.utils.proofs.Ranges.{search_begins, search_before, search_hit, search_more, search_done}
+-- `in_ranges`. The invariant: the ranges from the ith number on decide, and they ascend.
+use Rattle.utils.proofs.Bounds.{search_begins, search_before, search_hit, search_more, search_done}
 use native.Mathlib.Omega.{arith}
 use Rattle.utils.proofs.in_ranges.Goals as goal
 
-pub loop-first-init : goal.loop-first-init
-loop-first-init c = search_begins _ _ c.requires
+pub loop-i-init : goal.loop-i-init
+loop-i-init c = search_begins _ _ c.requires
 
-pub returns-then-c-first : goal.returns-then-c-first
-returns-then-c-first c = search_before c.loop-first.invariant (omega arith) c.if-c-first.true
+pub returns-then-c-bounds : goal.returns-then-c-bounds
+returns-then-c-bounds c = search_before c.loop-i.invariant (omega arith) c.if-c-bounds.true
 
-pub returns-then-c-last : goal.returns-then-c-last
-returns-then-c-last c = search_hit c.loop-first.invariant (omega arith) c.if-c-first.false c.if-c-last.true
+pub returns-then-c-bounds-2 : goal.returns-then-c-bounds-2
+returns-then-c-bounds-2 c = search_hit c.loop-i.invariant (omega arith) c.if-c-bounds.false c.if-c-bounds-2.true
 
-pub loop-first-preserved : goal.loop-first-preserved
-loop-first-preserved c = search_more c.loop-first.invariant (omega arith) c.if-c-first.false c.if-c-last.false
+pub loop-i-preserved : goal.loop-i-preserved
+loop-i-preserved c = search_more c.loop-i.invariant (omega arith) c.if-c-bounds.false c.if-c-bounds-2.false
 
 pub returns : goal.returns
-returns c = search_done c.loop-first.invariant (omega arith)
+returns c = search_done c.loop-i.invariant (omega arith)

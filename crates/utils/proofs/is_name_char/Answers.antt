@@ -9,10 +9,10 @@ pub returns-then-is_name_start_char : goal.returns-then-is_name_start_char
 unfolding is_name_char
 returns-then-is_name_start_char c = rw (sym c.is_name_start_char.ensures ∙ c.if-is_name_start_char.true)
 
-pub in_ranges-requires : goal.in_ranges-requires
+pub in_pairs-requires : goal.in_pairs-requires
 unfolding ascending_from
-in_ranges-requires c = refl
+in_pairs-requires c = refl
 
 pub returns : goal.returns
 unfolding is_name_char further_ranges byte
-returns c = rw (sym c.is_name_start_char.ensures ∙ c.if-is_name_start_char.false) c.in_ranges.ensures
+returns c = rw (sym c.is_name_start_char.ensures ∙ c.if-is_name_start_char.false) c.in_pairs.ensures

@@ -5,10 +5,10 @@ use Rattle.spec.specs.XmlNames.{start_ranges, is_name_start}
 use Rattle.utils.specs.Ranges.{ascending_from}
 use Rattle.utils.proofs.is_name_start_char.Goals as goal
 
-pub in_ranges-requires : goal.in_ranges-requires
+pub in_pairs-requires : goal.in_pairs-requires
 unfolding ascending_from
-in_ranges-requires c = refl
+in_pairs-requires c = refl
 
 pub returns : goal.returns
 unfolding is_name_start start_ranges byte
-returns c = c.in_ranges.ensures
+returns c = c.in_pairs.ensures
