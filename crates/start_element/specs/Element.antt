@@ -17,7 +17,7 @@ use Rattle.start_element.specs.declared.Source.{Source}
 use Rattle.start_element.specs.declared.Source.TheVariants.{Missing, Own, Made}
 use Rattle.start_element.specs.declared.Parts.{Parts}
 use Rattle.start_element.specs.declared.Pending.{Pending}
-use Rattle.start_element.specs.declared.Pending.TheVariants.{Absent, Named, Blank, Awaited}
+use Rattle.start_element.specs.declared.Pending.TheVariants.{Absent, Named, Blank, Awaited, Word}
 
 -- the word of a frame for an object, or for what a packet remembers
 abbrev pub word_of : Pending → ℕ
@@ -25,18 +25,13 @@ word_of Absent = 0
 word_of Named = 1
 word_of Blank = 2
 word_of Awaited = 1
+word_of (Word n) = n
 
 abbrev pub is_absent : Pending → Bool
-is_absent Absent = true
-is_absent Named = false
-is_absent Blank = false
-is_absent Awaited = false
+is_absent p = eqb (word_of p) 0
 
 abbrev pub is_blank : Pending → Bool
-is_blank Absent = false
-is_blank Named = false
-is_blank Blank = true
-is_blank Awaited = false
+is_blank p = eqb (word_of p) 2
 
 -- the bytes of a part, of a decoded event e and an area a; what is missing is empty
 unfoldable pub text_of : Source → List ℕ → List ℕ → Bytes

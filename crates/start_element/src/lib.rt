@@ -29,13 +29,14 @@ pub enum Source {
 }
 
 // What the frame of a new element says of its object: there is none, a named node, a blank one. Or of what a packet remembers: nothing, or
-// that the first child is awaited.
+// that the first child is awaited. Or the word itself, as a frame has one for what else may stand there, text among it.
 #[derive(Clone, Copy, PartialEq, Eq, Debug)]
 pub enum Pending {
     Absent,
     Named,
     Blank,
     Awaited,
+    Word(u32),
 }
 
 // The parts of a new element. `base` is its own xml:base, and `tag` what it says of its language; `main` is a node's subject, `blank` says
@@ -70,6 +71,7 @@ impl From<Pending> for u32 {
             Pending::Named => Frame::NAMED_NODE,
             Pending::Blank => Frame::BLANK_NODE,
             Pending::Awaited => Frame::AWAITED,
+            Pending::Word(word) => word,
         }
     }
 }
@@ -78,13 +80,13 @@ impl Pending {
     pub fn is_absent(self) -> bool
         ensures { result ≡ is_absent self }
     {
-        self == Pending::Absent
+        u32::from(self) == Frame::ORDINARY
     }
 
     pub fn is_blank(self) -> bool
         ensures { result ≡ is_blank self }
     {
-        self == Pending::Blank
+        u32::from(self) == Frame::BLANK_NODE
     }
 }
 
