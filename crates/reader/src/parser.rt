@@ -88,7 +88,9 @@ pub fn parse_event(
     }
 }
 
-// A start tag as decoded, by whether it stands in Literal content.
+// A start tag as decoded, by whether it stands in Literal content. Never inlined: with it the other events would be too much for the loop
+// over events to take in, and the program would pay a third more for each of them.
+#[inline(never)]
 fn parse_start_event(
     r: Registers,
     count: usize,
