@@ -108,6 +108,11 @@ unfolding size_of_base
 size-empty true base = refl
 size-empty false base = refl
 
+pub size-within : (based : Bool) (base : Bytes) → size_of_base based base ≤ length base
+unfolding size_of_base
+size-within true base = omega arith
+size-within false base = omega arith
+
 -- the base that is lent is one whole text
 pub text_size : (base : Maybe (Bor Bytes)) → size_of_base (is_some base) (text_of base) ≡ length (text_of base)
 unfolding size_of_base

@@ -117,7 +117,7 @@ writing_more {A} {k} {b} {at} value xs {d} {e} {i} {x} h l is w f =
       small = rw t (below_push (take i (map value xs)) h.small f);
     }
 
-writing_done : {k : ℕ} {b : Bytes} {at : ℕ} {ns : List ℕ} {e : Bytes} {i : ℕ} → Writing k b at ns e i → length ns ≤ i → WroteRows k b at ns e
+pub writing_done : {k : ℕ} {b : Bytes} {at : ℕ} {ns : List ℕ} {e : Bytes} {i : ℕ} → Writing k b at ns e i → length ns ≤ i → WroteRows k b at ns e
 writing_done {k} {b} {at} {ns} {e} {i} h l =
     let q : i ≡ length ns = omega arith in
     record { same = h.same; wrote = rw (q, take-length ns) at h.wrote; fits = rw (q, take-length ns) at h.small }
@@ -132,7 +132,7 @@ pub reading_begins : {k : ℕ} {b : Bytes} {at : ℕ} {ns : List ℕ} → at + l
 unfolding rows_at unrow
 reading_begins {k} {b} {at} {ns} h = record { upto = omega arith; same = refl; fits = h; front = refl }
 
-reading_more : {k : ℕ} {b : Bytes} {at : ℕ} {ns₀ ns : List ℕ} {i v : ℕ} → Reading k b at ns₀ ns i → i < length ns → v ≡ value_of (part b (at + i * k) k) → Reading k b at ns₀ (set ns i v) (i + 1)
+pub reading_more : {k : ℕ} {b : Bytes} {at : ℕ} {ns₀ ns : List ℕ} {i v : ℕ} → Reading k b at ns₀ ns i → i < length ns → v ≡ value_of (part b (at + i * k) k) → Reading k b at ns₀ (set ns i v) (i + 1)
 unfolding rows_at part
 reading_more {k} {b} {at} {ns₀} {ns} {i} {v} h l e =
     record {
@@ -148,7 +148,7 @@ pub reading_one : {A : Type 0} {k : ℕ} {b : Bytes} {at : ℕ} (value : A → �
 reading_one {A} {k} {b} {at} value xs₀ xs {i} {x} h l e =
     rw (map-set value xs i x) (reading_more h (rw length-map l) e)
 
-reading_done : {k : ℕ} {b : Bytes} {at : ℕ} {ns₀ ns : List ℕ} {i : ℕ} → Reading k b at ns₀ ns i → length ns ≤ i → ns ≡ rows_at k b at (length ns₀)
+pub reading_done : {k : ℕ} {b : Bytes} {at : ℕ} {ns₀ ns : List ℕ} {i : ℕ} → Reading k b at ns₀ ns i → length ns ≤ i → ns ≡ rows_at k b at (length ns₀)
 reading_done {k} {b} {at} {ns₀} {ns} {i} h l =
     let q : i ≡ length ns = omega arith in
     sym (take-length ns) ∙ ap (λ (m : ℕ). take m ns) (sym q) ∙ (h.front ∙ rw (q, h.same))

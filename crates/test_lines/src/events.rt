@@ -74,7 +74,7 @@ fn events(out: Stdout, s: &[u8]) {
     let mut rest = s;
     while let Ok(n) = pyx::first_event(rest, true) {
         event(out, &rest[..n], &mut scratch, &mut spans);
-        rest = &rest[n..];
+        rest = pyx::rest(rest, n);
     }
 }
 
