@@ -1,15 +1,16 @@
 -- Texts of one length, compared in two parts.
-use Rattle.std.specs.Prelude.{◌≡◌, refl, Bool, true, false, ◌&&◌, ℕ, ◌-◌, ◌<◌, ◌≤◌, eqb, take, Option, None, Some, MatchOption}
+use Rattle.std.specs.Prelude.{◌≡◌, ◌≢◌, refl, Bool, true, false, ◌&&◌, ℕ, ◌+◌, ◌-◌, ◌≤◌, eqb, take, Option, None, Some, MatchOption}
 use Rattle.std.specs.Array.{IsWholeChunk}
 use Rattle.std.specs.Option.{option_eq}
-use Rattle.std.proofs.lemmas.Bool.{false≢true}
 use Rattle.std.specs.Cmp.Lexicographic.{pointwise}
 use Rattle.std.proofs.Common.{Bor, sym, ◌∙◌, arith, take-append-drop}
 use Rattle.std.proofs.Math.Path.{ap}
 use mathlib.Core.List.{[], ◌∷◌, ◌++◌}
 use Rattle.std.proofs.Math.ListN.{length, drop, length-take}
 use Rattle.spec.specs.Bytes.{Bytes, same}
-use Rattle.copy.specs.Texts.{same_is}
+use Rattle.std.proofs.Math.Seq.{take-add, take-length, take-take}
+use Rattle.copy.specs.Copy.{part}
+use Rattle.copy.specs.Texts.{same_is, same_true, same_refl}
 
 and_assoc : (a b c : Bool) → (a && (b && c)) ≡ ((a && b) && c)
 and_assoc true b c = refl
@@ -29,19 +30,58 @@ same_parts a b n h =
     ∙ ap (λ (t : Bytes). same (take n a ++ drop n a) t) (sym (take-append-drop n b))
     ∙ same-append (take n a) (take n b) _ _ l
 
--- texts whose last n bytes differ
-pub ends_differ : (n : ℕ) (a b : Bytes) (x y : Option (Bor Bytes)) → length a ≡ length b
-    → MatchOption x (length a < n) (λ c. (n ≤ length a) × IsWholeChunk (drop (length a - n) a) c.now n)
-    → MatchOption y (length b < n) (λ c. (n ≤ length b) × IsWholeChunk (drop (length b - n) b) c.now n)
-    → option_eq (λ u v. pointwise eqb u.now v.now) x y ≡ false → false ≡ same a b
-ends_differ n a b None None h p q e = absurd (false≢true (sym e))
-ends_differ n a b None (Some v) h p q e = absurd (omega (arith, p, q.0))
-ends_differ n a b (Some u) None h p q e = absurd (omega (arith, p.0, q))
-ends_differ n a b (Some u) (Some v) h p q e =
-    let k : ℕ = length a - n in
-    let f : pointwise eqb (drop k a) (drop k b) ≡ false = rw (p.1.same, q.1.same, ← h) at e in
-    sym (same_parts a b k h ∙ rw (← same_is (drop k a) (drop k b), f) (and-false (same (take k a) (take k b))))
-  where
-    and-false : (t : Bool) → (t && false) ≡ false
-    and-false true = refl
-    and-false false = refl
+-- the n bytes of two texts as the arrays that their parts are
+pub arrays_same : (n : ℕ) (u v : Bytes) (x y : Option (Bor Bytes)) → length u ≡ n → length v ≡ n
+    → MatchOption x (length u ≢ n) (λ c. IsWholeChunk u c.now n) → MatchOption y (length v ≢ n) (λ c. IsWholeChunk v c.now n)
+    → option_eq (λ u v. pointwise eqb u.now v.now) x y ≡ same u v
+arrays_same n u v None y h k p q = absurd (p h)
+arrays_same n u v (Some a) None h k p q = absurd (q k)
+arrays_same n u v (Some a) (Some b) h k p q = rw (p.same, q.same) (same_is u v)
+
+-- ---- from the end: the bytes from i on are the same
+
+pub record Tails (a b : Bytes) (i : ℕ) : Type 0 where
+  pub upto : i ≤ length a
+  pub equal : length a ≡ length b
+  pub rest : same a b ≡ same (take i a) (take i b)
+
+pub tails_begin : {a b : Bytes} → length a ≡ length b → Tails a b (length a)
+tails_begin {a} {b} h =
+    let t : take (length a) b ≡ b = rw h (take-length b) in
+    record { upto = omega arith; equal = h; rest = rw (take-length a, t) }
+
+-- the n bytes before them are compared
+module _ {a b : Bytes} {i : ℕ} (n : ℕ) (h : Tails a b i) (l : n ≤ i) where
+  tail_split : same (take i a) (take i b) ≡ (same (take (i - n) a) (take (i - n) b) && same (part a (i - n) n) (part b (i - n) n))
+  unfolding part
+  tail_split =
+      let e : i - n + n ≡ i = omega arith in
+      let p : length (take (i - n) a) ≡ length (take (i - n) b) = simp length-take (omega (arith, h.equal, h.upto)) in
+      ap (λ (m : ℕ). same (take m a) (take m b)) (sym e)
+      ∙ (rw (take-add (i - n) n a, take-add (i - n) n b) (same-append (take (i - n) a) (take (i - n) b) _ _ p))
+
+  pub tails_block : same (part a (i - n) n) (part b (i - n) n) ≡ true → Tails a b (i - n)
+  tails_block e = record { upto = omega (arith, h.upto); equal = h.equal; rest = h.rest ∙ (tail_split ∙ rw e (and-true (same (take (i - n) a) (take (i - n) b)))) }
+    where
+      and-true : (t : Bool) → (t && true) ≡ t
+      and-true true = refl
+      and-true false = refl
+
+  pub tails_stop : same (part a (i - n) n) (part b (i - n) n) ≡ false → false ≡ same a b
+  tails_stop e = sym (h.rest ∙ (tail_split ∙ rw e (and-false (same (take (i - n) a) (take (i - n) b)))))
+    where
+      and-false : (t : Bool) → (t && false) ≡ false
+      and-false true = refl
+      and-false false = refl
+
+-- the first n bytes, of which those before i are some
+pub heads_differ : (n : ℕ) (a b : Bytes) → length a ≡ length b → same (part a 0 n) (part b 0 n) ≡ false → false ≡ same a b
+unfolding part
+heads_differ n a b h e = sym (same_parts a b n h ∙ rw e)
+
+pub tails_all : {a b : Bytes} {i : ℕ} (n : ℕ) → Tails a b i → i ≤ n → same (part a 0 n) (part b 0 n) ≡ true → true ≡ same a b
+unfolding part
+tails_all {a} {b} {i} n h l e =
+    let heads : take n a ≡ take n b = same_true (take n a) (take n b) e in
+    let upto : take i a ≡ take i b = sym (take-take i n a l) ∙ (ap (take i) heads ∙ take-take i n b l) in
+    sym (h.rest ∙ (rw upto (same_refl (take i b))))

@@ -69,6 +69,37 @@ put_all {A} {d} {s} {y} {at} {k} h q l =
       same = ap length e ∙ length_stored d at s h;
     }
 
+-- `store_arrays` from the front on: the first `i` elements of `s` stand in what was `d`
+pub record Copied {A : Type 0} (d s e : List A) (i : ℕ) : Type 0 where
+  pub long : length d ≡ length s
+  pub upto : i ≤ length s
+  pub eq : e ≡ take i s ++ drop i d
+
+pub copied-begins : {A : Type 0} {d s : List A} → length d ≡ length s → Copied d s d 0
+copied-begins h = record { long = h; upto = omega arith; eq = refl }
+
+-- `n` elements more, in a part that was lent
+pub copied_more : {A : Type 0} {d s e y : List A} {i n k : ℕ} → Copied d s e i → i + n ≤ length s → k ≡ n → y ≡ take k (drop i s)
+    → Copied d s (take i e ++ (y ++ drop k (drop i e))) (i + n)
+copied_more {A} {d} {s} {e} {y} {i} {n} {k} h b q w =
+    let l : length (take i s) ≡ i = length-take-le i s h.upto in
+    let front : take i e ≡ take i s = rw h.eq (take_at (take i s) (drop i d) i l) in
+    let back : drop n (drop i e) ≡ drop (i + n) d =
+    drop-drop n i e ∙ (rw h.eq (ap (λ (m : ℕ). drop (m + n) (take i s ++ drop i d)) (sym l) ∙ drop-append-add (take i s) (drop i d) n) ∙ drop-drop n i d) in
+    record {
+      long = h.long;
+      upto = b;
+      eq = rw (front, w, q, back) (sym (append_assoc (take i s) (take n (drop i s)) (drop (i + n) d)) ∙ ap (λ (t : List A). t ++ drop (i + n) d) (sym (take-add i n s)));
+    }
+
+-- all the rest, from a place that is reached
+pub copied_done : {A : Type 0} {d s e y : List A} {i at : ℕ} → Copied d s e i → at ≤ i → y ≡ drop at s → take at e ++ y ≡ s
+copied_done {A} {d} {s} {e} {y} {i} {at} h b q =
+    let l : length (take i s) ≡ i = length-take-le i s h.upto in
+    let front : take at e ≡ take at s =
+    rw h.eq (sym (take-take at i (take i s ++ drop i d) b) ∙ (ap (take at) (take_at (take i s) (drop i d) i l) ∙ take-take at i s b)) in
+    rw (front, q) (take-append-drop at s)
+
 -- ---- what a caller learns from the answer
 
 pub put_true : {d s e : List ℕ} {at : ℕ} {r : Bool} → Put d at s e r → r ≡ true → Wrote d e at (at + length s) s

@@ -1,7 +1,7 @@
 // Bytes stored, compared and looked for in lent slices. Every call answers on every input; the laws of what it did are in specs/.
 #![tactic(auto)]
 
-ghost use Rattle.std.specs.Prelude.{◌≡◌, length, eqb};
+ghost use Rattle.std.specs.Prelude.{◌≡◌, ◌+◌, ◌<◌, ◌≤◌, length, eqb};
 ghost use Rattle.spec.specs.Bytes.{same, begins, up_to, among};
 ghost use Rattle.copy.specs.Copy.{part, Put};
 ghost use Rattle.copy.specs.Scan.{Sought};
@@ -18,8 +18,57 @@ pub fn put<T: Copy>(dst: &mut [T], at: usize, src: &[T]) -> bool
     if dst.len() - at < src.len() {
         return false;
     }
-    dst[at..at + src.len()].copy_from_slice(src);
+    store(&mut dst[at..at + src.len()], src);
     true
+}
+
+// All of `src` into a slice as long, by the longest arrays that fit. Where the length is no constant, `copy_from_slice` makes a library for C
+// ask for `memmove`, and a loop over elements asks at each run whether the two lie apart.
+fn store<T: Copy>(dst: &mut [T], src: &[T])
+    requires { length dst.old ≡ length src.now }
+    ensures { dst.new ≡ src.now }
+{
+    let n = src.len();
+    if 16 <= n {
+        store_arrays::<T, 16>(dst, src);
+    } else if 8 <= n {
+        store_arrays::<T, 8>(dst, src);
+    } else if 4 <= n {
+        store_arrays::<T, 4>(dst, src);
+    } else if 2 <= n {
+        store_arrays::<T, 2>(dst, src);
+    } else if 1 <= n {
+        store_arrays::<T, 1>(dst, src);
+    }
+}
+
+// Array after array; the last one ends where the two end, and may lie over the end of the one before it.
+fn store_arrays<T: Copy, const N: usize>(dst: &mut [T], src: &[T])
+    requires as_long { length dst.old ≡ length src.now }
+    requires some { 0 < N }
+    requires fits { N ≤ length src.now }
+    ensures { dst.new ≡ src.now }
+{
+    let last = src.len() - N;
+    let mut i = 0;
+    while i < last {
+        store_array::<T, N>(&mut dst[i..i + N], &src[i..i + N]);
+        i += N;
+    }
+    store_array::<T, N>(&mut dst[last..], &src[last..]);
+}
+
+// All of `src` where its length is a constant, as one array.
+fn store_array<T: Copy, const N: usize>(dst: &mut [T], src: &[T])
+    requires to { length dst.old ≡ N }
+    requires from { length src.now ≡ N }
+    ensures { dst.new ≡ src.now }
+{
+    if let Some(from) = src.as_array::<N>() {
+        if let Some(to) = dst.as_mut_array::<N>() {
+            *to = *from;
+        }
+    }
 }
 
 // The `n` bytes of `s` from `at` on; of a piece that runs past the end, what there is of it.
@@ -43,14 +92,40 @@ pub fn equal(a: &[u8], b: &[u8]) -> bool
     a == b
 }
 
-// The same, for texts that often begin alike: the last eight bytes, which tell most apart, come first.
+// The same, for texts that often begin alike: the last eight bytes, which tell most apart, come first, then the first eight, by which bases
+// differ, and then those before the last, eight at a time.
 pub fn equal_from_end(a: &[u8], b: &[u8]) -> bool
     ensures { result ≡ same a.now b.now }
 {
     if a.len() != b.len() {
         return false;
     }
-    a.last_chunk::<8>() == b.last_chunk::<8>() && a == b
+    if a.len() < 8 {
+        return a == b;
+    }
+    let mut n = a.len() - 8;
+    if !same_eight(a, b, n) {
+        return false;
+    }
+    if !same_eight(a, b, 0) {
+        return false;
+    }
+    while 8 < n {
+        n -= 8;
+        if !same_eight(a, b, n) {
+            return false;
+        }
+    }
+    true
+}
+
+// Are the eight bytes from `at` on the same? As arrays, which are compared at once.
+fn same_eight(a: &[u8], b: &[u8], at: usize) -> bool
+    requires of_a { at + 8 ≤ length a.now }
+    requires of_b { at + 8 ≤ length b.now }
+    ensures { result ≡ same (part a.now at 8) (part b.now at 8) }
+{
+    a[at..at + 8].as_array::<8>() == b[at..at + 8].as_array::<8>()
 }
 
 // Does `s` begin with `front`? As `starts_with`, which executes 15 instructions where this executes 7, at a short constant.

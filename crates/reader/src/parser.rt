@@ -88,8 +88,8 @@ pub fn parse_event(
     }
 }
 
-// A start tag as decoded, by whether it stands in Literal content. Never inlined: with it the other events would be too much for the loop
-// over events to take in, and the program would pay a third more for each of them.
+// A start tag as decoded, by whether it stands in Literal content. Never inlined, so that the loop over events takes in the other events:
+// where it did not, the program executed a third more.
 #[inline(never)]
 fn parse_start_event(
     r: Registers,

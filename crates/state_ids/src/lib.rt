@@ -80,7 +80,8 @@ pub fn valid(
     end == 0
 }
 
-// Was this ID used before? The newest is compared first.
+// Was this ID used before? The newest is compared first. Never inlined, so that its loop has the registers to itself, whoever calls it.
+#[inline(never)]
 pub fn find(
     count: usize,
     at: &[u32; IdTable::MOST],

@@ -8,9 +8,9 @@ use native.Mathlib.Numerals.{add-one, add-two}
 use lib.Dec.{leb}
 use lib.ListN.{length, drop, get_or, length-drop}
 use lib.Seq.{drop-cons}
-use borrow.Author.Tests.{le-leb, lt-leb, leb-true}
+use borrow.Author.Tests.{le-leb, lt-leb}
 use Rattle.spec.specs.Bytes.{between, in_ranges}
-use Rattle.spec.proofs.Booleans.{and_left, and_right}
+use Rattle.spec.proofs.Booleans.{and_right}
 use Rattle.utils.specs.Ranges.{ranges, ascending_from}
 use Rattle.utils.proofs.Ranges.{before_all, from_zero}
 

@@ -4,4 +4,4 @@ use native.Mathlib.Omega.{arith}
 use Rattle.copy.proofs.put.Goals as goal
 
 pub returns : goal.returns
-returns g c = put_all (omega arith) c.copy_from_slice.ensures.after (omega arith)
+returns g c = put_all (omega arith) c.store.ensures (omega arith)
