@@ -74,14 +74,23 @@ module _ {a b : Bytes} {i : ℕ} (n : ℕ) (h : Tails a b i) (l : n ≤ i) where
       and-false true = refl
       and-false false = refl
 
--- the first n bytes, of which those before i are some
+-- the first n bytes differ
 pub heads_differ : (n : ℕ) (a b : Bytes) → length a ≡ length b → same (part a 0 n) (part b 0 n) ≡ false → false ≡ same a b
 unfolding part
 heads_differ n a b h e = sym (same_parts a b n h ∙ rw e)
 
+-- the first n bytes, those before i among them, are the same, and then all are
 pub tails_all : {a b : Bytes} {i : ℕ} (n : ℕ) → Tails a b i → i ≤ n → same (part a 0 n) (part b 0 n) ≡ true → true ≡ same a b
 unfolding part
 tails_all {a} {b} {i} n h l e =
     let heads : take n a ≡ take n b = same_true (take n a) (take n b) e in
     let upto : take i a ≡ take i b = sym (take-take i n a l) ∙ (ap (take i) heads ∙ take-take i n b l) in
     sym (h.rest ∙ (rw upto (same_refl (take i b))))
+
+-- so they tell
+pub heads_tell : {a b : Bytes} {i : ℕ} (n : ℕ) → Tails a b i → i ≤ n → same (part a 0 n) (part b 0 n) ≡ same a b
+heads_tell {a} {b} {i} n h l = tell (same (part a 0 n) (part b 0 n)) refl
+  where
+    tell : (t : Bool) → same (part a 0 n) (part b 0 n) ≡ t → same (part a 0 n) (part b 0 n) ≡ same a b
+    tell true e = e ∙ tails_all n h l e
+    tell false e = e ∙ heads_differ n a b h.equal e

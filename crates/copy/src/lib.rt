@@ -93,7 +93,7 @@ pub fn equal(a: &[u8], b: &[u8]) -> bool
 }
 
 // The same, for texts that often begin alike: the last eight bytes, which tell most apart, come first, then the first eight, by which bases
-// differ, and then those before the last, eight at a time.
+// differ, and then those before the last, eight at a time. Of a shorter text the last four come first.
 pub fn equal_from_end(a: &[u8], b: &[u8]) -> bool
     ensures { result ≡ same a.now b.now }
 {
@@ -101,31 +101,46 @@ pub fn equal_from_end(a: &[u8], b: &[u8]) -> bool
         return false;
     }
     if a.len() < 8 {
-        return a == b;
+        return equal_short(a, b);
     }
     let mut n = a.len() - 8;
-    if !same_eight(a, b, n) {
+    if !same_array::<8>(a, b, n) {
         return false;
     }
-    if !same_eight(a, b, 0) {
+    if !same_array::<8>(a, b, 0) {
         return false;
     }
     while 8 < n {
         n -= 8;
-        if !same_eight(a, b, n) {
+        if !same_array::<8>(a, b, n) {
             return false;
         }
     }
     true
 }
 
-// Are the eight bytes from `at` on the same? As arrays, which are compared at once.
-fn same_eight(a: &[u8], b: &[u8], at: usize) -> bool
-    requires of_a { at + 8 ≤ length a.now }
-    requires of_b { at + 8 ≤ length b.now }
-    ensures { result ≡ same (part a.now at 8) (part b.now at 8) }
+// The same of fewer than eight bytes: the last four, and the first four, which lie over them.
+fn equal_short(a: &[u8], b: &[u8]) -> bool
+    requires as_long { length a.now ≡ length b.now }
+    requires short { length a.now < 8 }
+    ensures { result ≡ same a.now b.now }
 {
-    a[at..at + 8].as_array::<8>() == b[at..at + 8].as_array::<8>()
+    if a.len() < 4 {
+        return a == b;
+    }
+    if !same_array::<4>(a, b, a.len() - 4) {
+        return false;
+    }
+    same_array::<4>(a, b, 0)
+}
+
+// Are the `N` bytes from `at` on the same? As arrays, which are compared at once.
+fn same_array<const N: usize>(a: &[u8], b: &[u8], at: usize) -> bool
+    requires of_a { at + N ≤ length a.now }
+    requires of_b { at + N ≤ length b.now }
+    ensures { result ≡ same (part a.now at N) (part b.now at N) }
+{
+    a[at..at + N].as_array::<N>() == b[at..at + N].as_array::<N>()
 }
 
 // Does `s` begin with `front`? As `starts_with`, which executes 15 instructions where this executes 7, at a short constant.
